@@ -1,0 +1,8 @@
+pub mod Iso
+pub mod Order
+pub mod Lists
+pub mod Sorting
+pub mod Forms
+pub mod Packed
+pub mod Answer
+pub mod Comparing
