@@ -1,0 +1,4 @@
+pub mod Forest
+pub mod Op
+pub mod Numbers
+pub mod WellFormed
