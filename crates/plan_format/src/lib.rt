@@ -1,0 +1,53 @@
+// Which fields a record of each kind has.
+ghost use mathlib.Core.Path.{_≡_};
+ghost use Rattle.plan_format.specs.Fields.{fieldsOf};
+
+// The fields of a record of some kind, as document 01 lists them; a field that is not there is zero.
+pub struct Fields {
+    // one of the joins, which have two children
+    pub join: bool,
+    pub streams: bool,
+    // the marks
+    pub preserve: bool,
+    pub hash: bool,
+    pub unbounded: bool,
+    // a fetch; one that must be there; a skip
+    pub fetch: bool,
+    pub limit: bool,
+    pub skip: bool,
+    // keys that must be there; keys that may be; keys without options
+    pub keyed: bool,
+    pub noted: bool,
+    pub plain: bool,
+    pub width: bool,
+    // byte 14 of kind 13, and of a partial sort
+    pub distribution: bool,
+    pub prefix: bool,
+    // from byte 32 on
+    pub constants: bool,
+    pub columns: bool,
+}
+
+// The fields of a record whose kind has the number k.
+pub fn fields_of(k: u8) -> Fields
+    ensures { λ f. ⌜ f ≡ fieldsOf k ⌝ }
+{
+    Fields {
+        join: (k == 11) | (k == 12),
+        streams: (k == 1) | (k == 5),
+        preserve: (k == 7) | ((k == 5) | (k == 14)),
+        hash: k == 5,
+        unbounded: k == 1,
+        fetch: ((6 <= k) & (k <= 10)) | ((k == 13) | (k == 14)),
+        limit: k == 10,
+        skip: k == 9,
+        keyed: ((k == 7) | (k == 8)) | ((k == 14) | ((k == 11) | (k == 12))),
+        noted: (k == 1) | (((k == 9) | (k == 10)) | (k == 13)),
+        plain: k == 12,
+        width: (k == 1) | (k == 3),
+        distribution: k == 13,
+        prefix: k == 14,
+        constants: k == 1,
+        columns: k == 3,
+    }
+}

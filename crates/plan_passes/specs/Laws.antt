@@ -1,0 +1,120 @@
+-- What the passes use of the definitions.
+use mathlib.Core.Path.{_≡_, refl, sym, ap, ap₂, _∙_}
+use mathlib.Core.Bool.{Bool, true, false, cond, _&&_, not}
+use mathlib.Core.List.{List, [], _∷_}
+use Prim.Native.Nat.{ℕ, zero, suc, _+_, _*_, _-_, _/_, _%_, _≤_, _<_}
+use native.Mathlib.Omega.{arith}
+use lib.Dec.{leb, eqb}
+use lib.ListN.{getD, take, drop}
+use borrow.Author.Tests.{leb-true, eqb-true, le-leb, lt-leb, not-true, not-false}
+use Rattle.scan.specs.Below.{all-at, and-left, and-right, and-false}
+use Rattle.scan.specs.Bytes.{part, cut, le16}
+use Rattle.plan_format.specs.Blocks.{span, block, blockCount, recordCount, countOk, paddingOk, headerOk, lengthOk}
+use Rattle.plan_format.specs.Reading.{headersOk, finished, enough}
+use Rattle.plan_format.specs.Record.{either}
+
+-- a test of the part that `&s[a..a + n]` lends, as the flag b says it
+module _ (test : List ℕ → Bool) (s : List ℕ) (a n : ℕ) (b : Bool) (e : b ≡ test (take (a + n - a) (drop a s))) where
+  pub fails : not b ≡ true → test (part a n s) ≡ false
+  fails h = sym (e ∙ ap test (cut s a n)) ∙ not-true b h
+
+  pub holds : not b ≡ false → test (part a n s) ≡ true
+  holds h = sym (e ∙ ap test (cut s a n)) ∙ not-false b h
+
+small : (t : Bool) (c : ℕ) → countOk t c ≡ true → c ≤ 7
+small true c e = leb-true c 7 (and-right (leb 1 c) (leb c 7) (plain (leb 1 c && leb c 7) e))
+  where
+    plain : (b : Bool) → either true b (eqb c 7) ≡ true → b ≡ true
+    plain true e = refl
+    plain false e = e
+small false c e = omega (arith, eqb-true c 7 e)
+
+-- after the headers, there are at most seven records to a block
+pub count-le : (s : List ℕ) → 1 ≤ blockCount s → headersOk s ≡ true → recordCount s ≤ 7 * blockCount s
+unfolding headersOk
+count-le s p h =
+    let n : ℕ = blockCount s in
+    let k : ℕ = n - 1 in
+    let b : List ℕ = block s k in
+    let e : headerOk n k b ≡ true = all-at (λ k. headerOk n k (block s k)) n h k (omega arith) in
+    let l : getD b 4 0 ≤ 7 = small (eqb (k + 1) n) (getD b 4 0) (and-right (eqb (le16 b 0) k && eqb (le16 b 2) n) (countOk (eqb (k + 1) n) (getD b 4 0)) (and-left ((eqb (le16 b 0) k && eqb (le16 b 2) n) && countOk (eqb (k + 1) n) (getD b 4 0)) (paddingOk b) e)) in
+    omega arith
+
+-- ---- from the last record to the first
+
+module _ (f : ℕ → ℕ) (m : ℕ) where
+  -- what is left from i on
+  abbrev pub past : ℕ → List ℕ
+  past i = span f i (m - i)
+
+  pub past-end : (i : ℕ) → m ≤ i → past i ≡ []
+  unfolding span
+  past-end i h = let e : m - i ≡ 0 = omega arith in rw e
+
+  pub past-back : (j : ℕ) → j < m → past j ≡ f j ∷ past (j + 1)
+  unfolding span
+  past-back j h = let e : m - j ≡ suc (m - (j + 1)) = omega arith in let g : suc j ≡ j + 1 = omega arith in rw (e, ← g)
+
+  pub past-all : past 0 ≡ span f 0 m
+  past-all = let e : m - 0 ≡ m = omega arith in rw e
+
+  fail-down : (i : ℕ) → i ≤ m → enough (past i) ≡ false → enough (past 0) ≡ false
+  fail-down zero h e = e
+  fail-down (suc j) h e =
+      let g : suc j ≡ j + 1 = omega arith in
+      fail-down j (omega arith) (ap enough (past-back j (omega arith)) ∙ and-false (leb (f j) (finished (past (j + 1)))) (enough (past (j + 1))) (rw g at e))
+
+  -- the state of the pass before record i: h finished trees
+  pub record Pass (i h : ℕ) : Type 0 where
+    pub low : i ≤ m
+    pub have : h ≡ finished (past i)
+    pub found : enough (past i) ≡ true
+    pub few : h ≤ m - i
+
+  pub pass-start : Pass m 0
+  pass-start = record { low = omega arith; have = sym (ap finished (past-end m (omega arith))); found = ap enough (past-end m (omega arith)); few = omega arith }
+
+  pub pass-more : (i h k : ℕ) → 0 < i → Pass i h → k ≡ f (i - 1) → k ≤ h → Pass (i - 1) (h - k + 1)
+  pass-more i h k z p q l =
+      let lo : i ≤ m = p .low in
+      let b : i - 1 + 1 ≡ i = omega arith in
+      let e : past (i - 1) ≡ f (i - 1) ∷ past i = past-back (i - 1) (omega arith) ∙ ap (λ (n : ℕ). f (i - 1) ∷ past n) b in
+      let d : finished (past (i - 1)) ≡ finished (past i) - f (i - 1) + 1 = ap finished e in
+      let x = p .have in let y = p .few in
+      record {
+        low = omega arith;
+        have = omega arith;
+        found = ap enough e ∙ ap₂ _&&_ (le-leb (f (i - 1)) (finished (past i)) (omega arith)) (p .found);
+        few = omega arith;
+      }
+
+  pub pass-fail : (i h k : ℕ) → 0 < i → Pass i h → k ≡ f (i - 1) → h < k → false ≡ (enough (span f 0 m) && eqb (finished (span f 0 m)) 1)
+  pass-fail i h k z p q l =
+      let lo : i ≤ m = p .low in
+      let x = p .have in
+      let b : i - 1 + 1 ≡ i = omega arith in
+      let e : enough (past (i - 1)) ≡ false = ap enough (past-back (i - 1) (omega arith) ∙ ap (λ (n : ℕ). f (i - 1) ∷ past n) b) ∙ ap (λ (b : Bool). b && enough (past i)) (lt-leb (f (i - 1)) (finished (past i)) (omega arith)) in
+      sym (ap (λ (b : Bool). b && eqb (finished (span f 0 m)) 1) (ap enough (sym past-all) ∙ fail-down (i - 1) (omega arith) e))
+
+  pub pass-end : (i h : ℕ) → Pass i h → i ≤ 0 → eqb h 1 ≡ (enough (span f 0 m) && eqb (finished (span f 0 m)) 1)
+  pass-end i h p z =
+      let e : i ≡ 0 = omega arith in
+      let q : past i ≡ span f 0 m = ap past e ∙ past-all in
+      ap (λ (n : ℕ). eqb n 1) (p .have ∙ ap finished q) ∙ sym (ap (λ (b : Bool). b && eqb (finished (span f 0 m)) 1) (ap enough (sym q) ∙ p .found))
+
+-- ---- the order of the refusals: t is the flag in the code, a the test in the definition
+
+module _ {A : Type 0} where
+  pub refuse-stop : (t a : Bool) (x r : A) → t ≡ a → not t ≡ true → r ≡ cond a x r
+  refuse-stop t a x r e h = let z : a ≡ false = sym e ∙ not-true t h in rw z
+
+  pub refuse-on : (t a : Bool) (x r y : A) → t ≡ a → not t ≡ false → y ≡ x → y ≡ cond a x r
+  refuse-on t a x r y e h g = let z : a ≡ true = sym e ∙ not-false t h in rw z g
+
+pub length-facts : (t : Bool) (n : ℕ) → t ≡ lengthOk n → not t ≡ false → (1 ≤ n / 512) × (n / 512 ≤ 18)
+length-facts t n e h =
+    let z : lengthOk n ≡ true = sym e ∙ not-false t h in
+    let a = leb-true 1 n (and-left (leb 1 n) (leb n 9216) (and-left (leb 1 n && leb n 9216) (eqb (n % 512) 0) z)) in
+    let b = leb-true n 9216 (and-right (leb 1 n) (leb n 9216) (and-left (leb 1 n && leb n 9216) (eqb (n % 512) 0) z)) in
+    let d = eqb-true (n % 512) 0 (and-right (leb 1 n && leb n 9216) (eqb (n % 512) 0) z) in
+    (omega arith, omega arith)

@@ -1,0 +1,72 @@
+use native.Mathlib.Omega.{arith}
+use lib.ListN.{length-set}
+use Rattle.plan_format.specs.Writing.{header}
+use Rattle.scan.specs.Parts.{sets-all}
+use borrow.Author.Needs.{needs}
+use Rattle.plan_writer.proofs.put_header.Statement.{statement}
+use Rattle.plan_writer.proofs.put_header.Tie as tie
+
+cast-d : tie.Need-cast-d
+cast-d c = search needs
+
+slice-write-d : tie.Need-slice-write-d
+slice-write-d c = search needs
+
+cast-d-2 : tie.Need-cast-d-2
+cast-d-2 c = search needs
+
+slice-write-d-2 : tie.Need-slice-write-d-2
+slice-write-d-2 c = simp length-set (omega arith)
+
+cast-d-3 : tie.Need-cast-d-3
+cast-d-3 c = search needs
+
+slice-write-d-3 : tie.Need-slice-write-d-3
+slice-write-d-3 c = simp length-set (omega arith)
+
+cast-d-4 : tie.Need-cast-d-4
+cast-d-4 c = search needs
+
+slice-write-d-4 : tie.Need-slice-write-d-4
+slice-write-d-4 c = simp length-set (omega arith)
+
+cast-d-5 : tie.Need-cast-d-5
+cast-d-5 c = search needs
+
+slice-write-d-5 : tie.Need-slice-write-d-5
+slice-write-d-5 c = simp length-set (omega arith)
+
+slice-write-d-6 : tie.Need-slice-write-d-6
+slice-write-d-6 c = simp length-set (omega arith)
+
+slice-write-d-7 : tie.Need-slice-write-d-7
+slice-write-d-7 c = simp length-set (omega arith)
+
+slice-write-d-8 : tie.Need-slice-write-d-8
+slice-write-d-8 c = simp length-set (omega arith)
+
+same-length : tie.Need-same-length
+same-length c = search needs
+
+returns : tie.Need-returns
+returns c = sets-all (c .args .d .now) (header (c .args .k) (c .args .n) (c .args .c)) (c .pre .0)
+
+pub put-header-spec : {M : Type 1} → statement M
+put-header-spec =
+    tie.close
+    (tie.spec
+    cast-d
+    slice-write-d
+    cast-d-2
+    slice-write-d-2
+    cast-d-3
+    slice-write-d-3
+    cast-d-4
+    slice-write-d-4
+    cast-d-5
+    slice-write-d-5
+    slice-write-d-6
+    slice-write-d-7
+    slice-write-d-8
+    same-length
+    returns)
