@@ -1,0 +1,5 @@
+pub mod Back
+pub mod Same
+pub mod Tree
+pub mod Files
+pub mod Plans
