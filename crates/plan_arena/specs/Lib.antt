@@ -1,0 +1,5 @@
+pub mod Parts
+pub mod Fill
+pub mod Flat
+pub mod Answers
+pub mod Back

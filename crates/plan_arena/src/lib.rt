@@ -1,0 +1,118 @@
+// Plans between files and the arena.
+ghost use mathlib.Core.Path.{_≡_};
+ghost use Prim.Native.Nat.{_+_, _*_, _≤_, _<_};
+ghost use mathlib.Core.List.{_++_};
+ghost use lib.ListN.{length, drop, take};
+ghost use Rattle.plan.specs.Forest.{size, nodes};
+ghost use Rattle.plan_format.specs.Record.{children};
+ghost use Rattle.plan_format.specs.Blocks.{blockCount};
+ghost use Rattle.plan_format.specs.Writing.{joined, writeRefusal, written};
+ghost use Rattle.arena.specs.Arena.{slot, held, treeAt};
+ghost use Rattle.plan_arena.specs.Flat.{Flattens};
+ghost use Rattle.plan_arena.specs.Answers.{ReadAs};
+ghost use Rattle.plan_arena.specs.Fill.{Fillable, HoldsTree};
+use arena::At;
+use plan::Refusal;
+
+// The c records of the accepted file s into the arena, from the last to the first: children come before their parent.
+fn fill(s: &[u8], c: usize, m: &mut [u8]) -> At
+    requires { ⌜ Fillable (now s) c (length (now m)) ⌝ }
+    ensures { λ r. ⌜ HoldsTree (now (s .entry)) (now (m .exit)) (r .used) (r .root) ⌝ }
+{
+    let mut w = [0usize; 126];
+    let mut t = 126;
+    let mut u = 0;
+    let mut i = c;
+    while 0 < i {
+        let j = i - 1;
+        let at = 512 * (j / 7) + (8 + 64 * (j % 7));
+        let e = at + 64;
+        let f = t + s[at + 1] as usize;
+        arena::append(m, u, &s[at..e], &w[t..f]);
+        t = f - 1;
+        w[t] = u;
+        u += 1;
+        i = j;
+    }
+    let root = w[t];
+    At {
+        used: u,
+        root: root,
+    }
+}
+
+// What reading answers: the refusal, or where the file's tree is.
+pub struct Answer {
+    pub refusal: Refusal,
+    pub used: usize,
+    pub root: usize,
+}
+
+// The plan file s into the memory m, which has room for a node of each record that its blocks can hold.
+pub fn read(s: &[u8], m: &mut [u8]) -> Answer
+    requires { ⌜ 1344 * blockCount (now s) ≤ length (now m) ⌝ }
+    ensures { λ r. ⌜ ReadAs (now (s .entry)) (now (m .entry)) (now (m .exit)) r ⌝ }
+{
+    let x = plan_reader::refusal_of(s);
+    if plan::number(x) != 0 {
+        return Answer {
+            refusal: x,
+            used: 0,
+            root: 0,
+        };
+    }
+    let n = s.len() / 512;
+    let c = plan_passes::record_count(s, n);
+    let r = fill(s, c, m);
+    Answer {
+        refusal: x,
+        used: r.used,
+        root: r.root,
+    }
+}
+
+// The children of node k onto the stack that starts at t of w, the first on top: where it starts then.
+fn push_children(m: &[u8], k: usize, w: &mut [usize], t: usize) -> usize
+    requires { ⌜ ((k + 1) * 192 ≤ length (now m)) × (children (slot (now m) k .rec) ≤ 8) × (children (slot (now m) k .rec) ≤ t) × (t ≤ length (now w)) ⌝ }
+    ensures { λ r. ⌜ (r + length (slot (now (m .entry)) k .kids) ≡ t) × (drop r (now (w .exit)) ≡ slot (now (m .entry)) k .kids ++ drop t (now (w .entry))) ⌝ }
+{
+    let mut j = arena::child_count(m, k);
+    let mut top = t;
+    while 0 < j {
+        j -= 1;
+        top -= 1;
+        w[top] = arena::child(m, k, j);
+    }
+    top
+}
+
+// The records of tree i in node order, one after the other, over the start of rs: how many.
+fn flatten(m: &[u8], u: usize, i: usize, rs: &mut [u8]) -> usize
+    requires { ⌜ Flattens (now m) u i (length (now rs)) ⌝ }
+    ensures { λ n. ⌜ (n ≡ size (treeAt (held (now (m .entry)) u) i)) × (take (64 * n) (now (rs .exit)) ≡ joined (nodes (treeAt (held (now (m .entry)) u) i))) ⌝ }
+{
+    let mut w = [0usize; 126];
+    w[125] = i;
+    let mut t = 125;
+    let mut n = 0;
+    while t < 126 {
+        let k = w[t];
+        let at = 64 * n;
+        let e = at + 64;
+        scan::copy(&mut rs[at..e], arena::record_at(m, k));
+        t = push_children(m, k, &mut w, t + 1);
+        n += 1;
+    }
+    n
+}
+
+// The file of tree i over the start of out.
+pub fn write(m: &[u8], u: usize, i: usize, out: &mut [u8]) -> Refusal
+    requires { ⌜ Flattens (now m) u i 8064 ⌝ }
+    ensures { λ x. ⌜ (x ≡ writeRefusal (joined (nodes (treeAt (held (now (m .entry)) u) i))) (now (out .entry))) × (now (out .exit) ≡ written (joined (nodes (treeAt (held (now (m .entry)) u) i))) (now (out .entry))) ⌝ }
+{
+    let mut rs = [0u8; 8064];
+    let n = flatten(m, u, i, &mut rs);
+    let e = 64 * n;
+    plan_writer::write(&rs[..e], out)
+}
