@@ -1,0 +1,4 @@
+pub mod Tables
+pub mod Lowest
+pub mod Filling
+pub mod Linking

@@ -1,0 +1,4 @@
+pub mod Known
+pub mod Reading
+pub mod Saying
+pub mod Projecting

@@ -1,0 +1,70 @@
+-- The semantics' questions to facts, answered from the struct. Assumes nothing.
+use mathlib.Core.Path.{_≡_, refl, ap₂, sym, _∙_, fun-ext}
+use mathlib.Core.Bool.{Bool, true, false, not}
+use mathlib.Core.List.{List, [], _∷_, map}
+use Prim.Native.Nat.{ℕ, zero, suc, _<_}
+use native.Mathlib.Omega.{arith}
+use lib.Dec.{eqb, ltb}
+use lib.ListN.{length, take, getD, List·getD-eq-default}
+use lib.Seq.{getD-take, length-take-le}
+use borrow.Author.Tests.{ltb-true, ltb-false, ne-eqb}
+use Rattle.row_order.specs.Iso.{Key}
+use Rattle.row_order.specs.Packed.{bit, keyOf}
+use Rattle.row_order.specs.Lists.{tab, length-tab, getD-tab}
+use Rattle.semantics.specs.Facts.{cl, isC, nfBy, nf, isNil}
+use Rattle.class_tables.specs.Tables.{at, Small}
+use Rattle.class_tables.specs.Filling.{read}
+use Rattle.facts.specs.declared.Facts.{Facts as Coded}
+use Rattle.facts.specs.Known.{known, Fine, Agrees}
+
+-- inside a list it does not matter what stands past its end
+inside : (t : List ℕ) (c d e : ℕ) → c < length t → getD t c d ≡ getD t c e
+inside [] c d e h = absurd (omega arith)
+inside (x ∷ t) zero d e h = refl
+inside (x ∷ t) (suc c) d e h = inside t c d e (omega arith)
+
+module _ (f : Coded) (h : Fine f) where
+  pub classes : Agrees (known f) (f .low)
+  classes c = go (ltb c (f .width)) refl
+    where
+      go : (b : Bool) → ltb c (f .width) ≡ b → getD (take (f .width) (f .low)) c c ≡ at (f .low) c
+      go true e =
+          let l = ltb-true c (f .width) e in let w = h .wide in let n = h .long in
+          getD-take (f .width) (f .low) c c l ∙ inside (f .low) c c 0 (omega arith) ∙ read (f .low) c (omega arith)
+      go false e =
+          let l = ltb-false c (f .width) e in let w = h .wide in let n = h .long in
+          List·getD-eq-default (take (f .width) (f .low)) c (omega (arith, length-take-le (f .width) (f .low) (omega arith))) ∙ sym (h .alone c l)
+
+  pub constants : (c : ℕ) → isC (known f) c ≡ bit (f .consts) c
+  constants c = go (ltb c (f .width)) refl
+    where
+      go : (b : Bool) → ltb c (f .width) ≡ b → getD (tab (f .width) (bit (f .consts))) c false ≡ bit (f .consts) c
+      go true e = getD-tab (f .width) (bit (f .consts)) false c (ltb-true c (f .width) e)
+      go false e =
+          let l = ltb-false c (f .width) e in
+          List·getD-eq-default (tab (f .width) (bit (f .consts))) false (omega (arith, length-tab (f .width) (bit (f .consts)))) ∙ sym (h .none c l)
+
+  -- the same, as functions
+  pub cl-is : at (f .low) ≡ cl (known f)
+  cl-is = fun-ext (λ c. sym (classes c))
+
+  pub isC-is : bit (f .consts) ≡ isC (known f)
+  isC-is = fun-ext (λ c. sym (constants c))
+
+  pub nf-is : (ks : List Key) → nfBy (bit (f .consts)) (at (f .low)) [] ks ≡ nf (known f) [] ks
+  nf-is ks = ap₂ (λ cs low. nfBy cs low [] ks) isC-is cl-is
+
+  pub small : Small (f .low)
+  small c l = let d = h .down c in omega arith
+
+  pub long-keys : length (take (f .order .len) (f .order .items)) ≡ f .order .len
+  long-keys = let x = h .few in let y = h .items in length-take-le (f .order .len) (f .order .items) (omega arith)
+
+  pub no-order : isNil (known f .order) ≡ eqb (f .order .len) 0
+  no-order = go (take (f .order .len) (f .order .items)) (f .order .len) long-keys
+    where
+      go : (l : List ℕ) (n : ℕ) → length l ≡ n → isNil (map keyOf l) ≡ eqb n 0
+      go [] zero e = refl
+      go [] (suc n) e = absurd (omega arith)
+      go (x ∷ l) zero e = absurd (omega arith)
+      go (x ∷ l) (suc n) e = sym (ne-eqb (suc n) 0 (λ z. absurd (omega (arith, z))))

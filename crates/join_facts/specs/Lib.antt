@@ -1,0 +1,4 @@
+pub mod Joining
+pub mod Placing
+pub mod Linking
+pub mod Orders

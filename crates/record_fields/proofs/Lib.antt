@@ -1,0 +1,2 @@
+-- What the proofs of the tables share.
+mod Tables
