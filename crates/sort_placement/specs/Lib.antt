@@ -1,0 +1,3 @@
+pub mod Answers
+pub mod Checking
+pub mod Copying
