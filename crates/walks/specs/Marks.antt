@@ -1,0 +1,129 @@
+-- Marked trees, and the walk that goes children before parents. These are definitions.
+use mathlib.Core.Bool.{Bool, true, false, cond, not, _&&_, _||_}
+use mathlib.Core.List.{List, [], _∷_}
+use Prim.Native.Nat.{ℕ, zero, suc}
+use Rattle.row_order.specs.Iso.{Key}
+use Rattle.plan.specs.Forest.{Forest, none, tree, size, mapF}
+use Rattle.plan.specs.Op.{Op, source, filter, projection, union, repartition, coalesce, sortOp, mergeOp, globalLimit, localLimit, sortMergeJoin, hashJoin, outputRequirement, partialSort, Plan}
+use Rattle.plan.specs.declared.Fetch.{Fetch}
+use Rattle.semantics.specs.Facts.{Facts, factsOp, facts}
+use Rattle.semantics.specs.Properties.{rebuilt, fetchOp, fetches}
+
+-- ---- trees with a mark on each node: the Rust's PlanContext<bool>, whose marks are never in the plan
+
+pub record Marked : Type 0 where
+  pub op : Op
+  pub mark : Bool
+
+-- A tree: its top node, and the forest of its children
+pub record Tree : Type 0 where
+  pub top : Marked
+  pub kids : Forest Marked
+
+-- The plan, without the marks
+abbrev pub strip : Forest Marked → Plan
+strip c = mapF (λ m. m .op) c
+
+-- 01, 'The four walks': "marks first false"
+abbrev pub bare : Plan → Forest Marked
+bare f = mapF (λ o. record { op = o; mark = false }) f
+
+-- The facts of each root
+abbrev pub known : Forest Marked → List Facts
+known c = facts (strip c)
+
+abbrev pub at : Marked → Forest Marked → Tree
+at m c = record { top = m; kids = c }
+
+abbrev pub node : Op → Bool → Forest Marked → Tree
+node o b c = record { top = record { op = o; mark = b }; kids = c }
+
+-- A tree before its siblings
+abbrev pub plant : Tree → Forest Marked → Forest Marked
+plant t r = tree (t .top) (t .kids) r
+
+-- A node over one tree
+abbrev pub over : Op → Bool → Tree → Tree
+over o b t = node o b (plant t none)
+
+-- New nodes over a tree, the outermost first; a new node's mark is false
+abbrev pub cover : List Op → Tree → Tree
+cover [] t = t
+cover (o ∷ os) t = over o false (cover os t)
+
+abbrev pub opT : Tree → Op
+opT t = t .top .op
+
+abbrev pub fact : Tree → Facts
+fact t = factsOp (opT t) (known (t .kids))
+
+-- The plan's fetch: for a projection its input's (reading 3)
+abbrev pub fetchT : Tree → Fetch
+fetchT t = fetchOp (opT t) (fetches (strip (t .kids)))
+
+abbrev pub sizeT : Tree → ℕ
+sizeT t = suc (size (t .kids))
+
+abbrev pub setMark : Bool → Tree → Tree
+setMark b t = node (opT t) b (t .kids)
+
+-- The first tree (the Rust's children[0]); d if there is none
+abbrev pub kid0 : Tree → Forest Marked → Tree
+kid0 d none = d
+kid0 d (tree m c r) = at m c
+
+-- for child in children { child.data = false }
+abbrev pub unmark : Forest Marked → Forest Marked
+unmark none = none
+unmark (tree m c r) = tree (record { op = m .op; mark = false }) c (unmark r)
+
+-- children.iter().any(|child| child.data)
+abbrev pub anyMark : Forest Marked → Bool
+anyMark none = false
+anyMark (tree m c r) = m .mark || anyMark r
+
+-- children[0].data
+abbrev pub headMark : Forest Marked → Bool
+headMark none = false
+headMark (tree m c r) = m .mark
+
+-- Some number below n
+abbrev pub anyBelow : ℕ → (ℕ → Bool) → Bool
+anyBelow zero p = false
+anyBelow (suc n) p = p 0 || anyBelow n (λ i. p (suc i))
+
+-- ---- the kinds that the walks treat apart, with their fields
+
+pub data Shape : Type 0 where
+  aSort : Bool → List Key → Fetch → Shape
+  aMerge : List Key → Fetch → Shape
+  aRepartition : Bool → ℕ → Bool → List Key → Shape
+  aCoalesce : Fetch → Shape
+  another : Shape
+
+abbrev pub shape : Op → Shape
+shape (source w n s ks u) = another
+shape filter = another
+shape (projection cols) = another
+shape union = another
+shape (repartition p n h ks) = aRepartition p n h ks
+shape (coalesce f) = aCoalesce f
+shape (sortOp p ks f) = aSort p ks f
+shape (mergeOp ks f) = aMerge ks f
+shape (globalLimit s f note) = another
+shape (localLimit f note) = another
+shape (sortMergeJoin t on) = another
+shape (hashJoin t on) = another
+shape (outputRequirement ks d f) = another
+shape (partialSort p ks n f) = another
+
+-- ---- rebuilding (reading 1): update_plan_from_children, and a node put back over its walked children
+
+abbrev pub rebuild : Op → Bool → Forest Marked → Tree
+rebuild o b c = node (rebuilt o (known c)) b c
+
+-- ---- transform_up: "children before parents, each node once, marks first false"
+
+abbrev pub transformUp : (Tree → Tree) → Plan → Forest Marked
+transformUp step none = none
+transformUp step (tree o c r) = plant (step (rebuild o false (transformUp step c))) (transformUp step r)

@@ -1,0 +1,57 @@
+-- enforce_sorting/mod.rs, replace_with_partial_sort: it works on one node. These are definitions.
+use mathlib.Core.Bool.{Bool, true, false, cond}
+use mathlib.Core.List.{List, [], _∷_, _++_}
+use Prim.Native.Nat.{ℕ, zero, suc, _-_}
+use lib.Dec.{eqb, ltb}
+use lib.ListN.{length}
+use Rattle.row_order.specs.Iso.{Key}
+use Rattle.plan.specs.Forest.{Forest, none, tree, size}
+use Rattle.plan.specs.Op.{Op, sortOp, partialSort, Plan}
+use Rattle.plan.specs.declared.Fetch.{Fetch}
+use Rattle.semantics.specs.Facts.{Facts, met, facts, at0}
+use Rattle.semantics.specs.Properties.{anyOf, endless}
+use Rattle.walks.specs.Marks.{Shape, aSort, aMerge, aRepartition, aCoalesce, another, shape}
+
+-- common_prefix_length: how many of the keys ks the facts meet, one after the other behind those of done, up to the first they don't
+abbrev pub commonPrefixLength : Facts → List Key → List Key → ℕ
+commonPrefixLength F done [] = 0
+commonPrefixLength F done (k ∷ ks) = cond (met F (done ++ (k ∷ []))) (suc (commonPrefixLength F (done ++ (k ∷ [])) ks)) 0
+
+-- What a node becomes; or that its child meets all its keys: "The Rust indexes past the end there" (22)
+pub data Replaced : Type 0 where
+  pastTheEnd : Replaced
+  becomes : Op → Replaced
+
+-- n: the keys met. With none the sort stays (reading 11)
+abbrev pub ofPrefix : Bool → List Key → Fetch → ℕ → Op
+ofPrefix p ks f zero = sortOp p ks f
+ofPrefix p ks f (suc n) = partialSort p ks (suc n) f
+
+abbrev pub partialOf : Bool → List Key → Fetch → ℕ → Replaced
+partialOf p ks f n = cond (eqb n (length ks)) pastTheEnd (becomes (ofPrefix p ks f n))
+
+-- 01, 'The four walks': it "returns a non-sort or a bounded child unchanged"
+abbrev pub partialBy : Shape → Op → Plan → Replaced
+partialBy (aSort p ks f) o c = cond (anyOf (endless c)) (partialOf p ks f (commonPrefixLength (at0 (facts c)) [] ks)) (becomes o)
+partialBy (aMerge ks f) o c = becomes o
+partialBy (aRepartition p n h ks) o c = becomes o
+partialBy (aCoalesce f) o c = becomes o
+partialBy another o c = becomes o
+
+-- A node o over c
+abbrev pub replaceWithPartialSort : Op → Plan → Replaced
+replaceWithPartialSort o c = partialBy (shape o) o c
+
+-- ---- node number n, in node order
+
+-- The node with its children, and what stands to its right; none if there is no such node
+abbrev pub fromNode : ℕ → Plan → Plan
+fromNode n none = none
+fromNode zero (tree o c r) = tree o c r
+fromNode (suc n) (tree o c r) = cond (ltb n (size c)) (fromNode n c) (fromNode (n - size c) r)
+
+-- "Partial sorting changes its node's record alone; nothing above is rebuilt" (reading 11)
+abbrev pub setNode : ℕ → Op → Plan → Plan
+setNode n p none = none
+setNode zero p (tree o c r) = tree p c r
+setNode (suc n) p (tree o c r) = cond (ltb n (size c)) (tree o (setNode n p c) r) (tree o c (setNode (n - size c) p r))
