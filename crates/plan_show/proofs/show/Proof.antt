@@ -1,0 +1,73 @@
+use borrow.Author.Needs.{needs}
+use native.Mathlib.Omega.{arith}
+use mathlib.Core.Path.{sym, _∙_}
+use Rattle.plan_arena.specs.Answers.{is-accepted}
+use Rattle.order_check.specs.Reading.{sounds}
+use Rattle.plan_show.proofs.show.Statement.{statement}
+use Rattle.plan_show.proofs.show.Tie as tie
+use Rattle.plan_show.proofs.show.Reads as reads
+use Rattle.plan_show.proofs.show.Lts as lts
+use Rattle.order_check.proofs.cache.Reads as cache-reads
+use Rattle.plan.proofs.number.Reads as number-reads
+use Rattle.plan_arena.proofs.read.Reads as read-reads
+use Rattle.plan_show.proofs.list.Reads as list-reads
+use Rattle.plan_show.proofs.put.Reads as put-reads
+use Rattle.plan_show.proofs.put_number.Reads as put-number-reads
+
+read-requires : tie.Need-read-requires
+read-requires c κs = search needs
+
+number-requires : tie.Need-number-requires
+number-requires c κs = search needs
+
+cache-requires : tie.Need-cache-requires
+cache-requires c κs =
+    let t = c .before .before .before .before .before in let s = t .before .before .before .before in
+    let l = s .pre in let k = t .read .kept .1 .0 in let q = t .read .ensures in let r = t .read .result in
+    let e = is-accepted (s .args .plan .now) (r .refusal) (q .refusal) (sym (c .before .before .number .ensures) ∙ c .before .if1 .taken) in
+    let by = t .before .before .before .shared-slice-known .given in
+    sounds (s .args .plan .now) e (record { below = λ i g. omega (arith, by i) }) (t .read .last .1 .0) (r .used) (r .root) (omega arith) (q .holds e)
+
+list-requires : tie.Need-list-requires
+list-requires c κs = let h = cache-requires (c .before .before .before .before) κs .slots in let k = c .before .before .before .cache .kept .0 in omega arith
+
+cast-put-number : tie.Need-cast-put-number
+cast-put-number c = search needs
+
+put-number-requires : tie.Need-put-number-requires
+put-number-requires c κs = search needs
+
+slice-aggregate-put : tie.Need-slice-aggregate-put
+slice-aggregate-put c = search needs
+
+put-requires : tie.Need-put-requires
+put-requires c κs = search needs
+
+same-length : tie.Need-same-length
+same-length c = search needs
+
+returns : tie.Need-returns
+returns c = search needs
+
+same-length-2 : tie.Need-same-length-2
+same-length-2 c = search needs
+
+returns-2 : tie.Need-returns-2
+returns-2 c = search needs
+
+pub show-spec : {M : Type 1} → statement M
+show-spec =
+    tie.close
+    (tie.spec
+    read-requires
+    number-requires
+    cache-requires
+    list-requires
+    cast-put-number
+    put-number-requires
+    slice-aggregate-put
+    put-requires
+    same-length
+    returns
+    same-length-2
+    returns-2)

@@ -1,0 +1,76 @@
+// Runs worked examples of document 01 ('Worked on paper') on the plan files of data/, which tools/worked_examples.py makes,
+// and writes a line for each: a refusal's number or that the plan is accepted, and whether a wanted order is met.
+use libc::STDOUT_FILENO;
+
+// What the export answers, and what it leaves in the lent number.
+struct Answer {
+    number: u32,
+    passes: u32,
+}
+
+fn put(text: &[u8]) {
+    io::write_all(STDOUT_FILENO, text);
+}
+
+fn check(plan: &[u8]) -> Answer {
+    let mut passes = 0;
+    let number = sort_placement::check_order(plan, &mut passes);
+    Answer {
+        number: number,
+        passes: passes,
+    }
+}
+
+// The answer for the open file. There is room for more than a plan file may have: so one that is too long is read whole.
+fn check_file(fd: i32) -> Answer {
+    let mut file = [0u8; 10240];
+    let n = io::read_full(fd, &mut file);
+    check(&file[..n])
+}
+
+fn put_refusal(answer: Answer) {
+    if answer.number == 0 {
+        put(b"accepted");
+    } else {
+        io::print_decimal(STDOUT_FILENO, answer.number as u64);
+    }
+}
+
+fn put_met(answer: Answer) {
+    if answer.passes == 1 {
+        put(b", met");
+    } else {
+        put(b", not met");
+    }
+}
+
+// The line of one example; `order` where it asks whether a wanted order is met.
+fn example(text: &[u8], file: &[u8], order: bool) {
+    let fd = os::open_read(file);
+    if fd < 0 {
+        os::fail(file);
+        return;
+    }
+    let answer = check_file(fd);
+    libc::close(fd);
+    put(text);
+    put_refusal(answer);
+    if order {
+        put_met(answer);
+    }
+    put(b"\n");
+}
+
+fn main() {
+    example(b"0 bytes: ", b"bytes_0", false);
+    example(b"511 bytes: ", b"bytes_511", false);
+    example(b"126 nodes: ", b"nodes_126", false);
+    example(b"19 blocks: ", b"blocks_19", false);
+    example(b"known [2,0] ascending, wanted [2]: ", b"wants_2", true);
+    example(b"known [2,0] ascending, wanted [0]: ", b"wants_0", true);
+    example(
+        b"known [2,0] ascending, wanted [2 descending]: ",
+        b"wants_2_descending",
+        true,
+    );
+}

@@ -1,0 +1,69 @@
+#!/usr/bin/env python3
+"""Makes the plan files of document 01's worked examples, from its section 'A plan file comes in':
+
+    tools/worked_examples.py
+
+writes crates/worked_examples/data/* and crates/plan_show/stdin. Plans are lists of records, parent first.
+"""
+import os
+
+CRATES = os.path.join(os.path.dirname(os.path.abspath(__file__)), "..", "crates")
+
+SOURCE, FILTER, MERGE, OUTPUT_REQUIREMENT = 1, 2, 8, 13
+NO_FETCH = 4294967295
+DESCENDING = 1
+
+
+def record(kind, children=0, streams=0, fetch=0, keys=(), width=0):
+    """One record of 64 bytes. A key is a column, ascending with nulls last, or a pair of a column and its options."""
+    r = bytearray(64)
+    r[0], r[1], r[2] = kind, children, streams
+    r[4:8] = fetch.to_bytes(4, "little")
+    r[12], r[13] = len(keys), width
+    for i, key in enumerate(keys):
+        r[16 + 2 * i : 18 + 2 * i] = key if isinstance(key, tuple) else (key, 0)
+    return bytes(r)
+
+
+def source(streams, keys):
+    return record(SOURCE, streams=streams, keys=keys, width=3)
+
+
+def wants(*keys):
+    """An output requirement of the keys, over one stream known [2,0]."""
+    return [record(OUTPUT_REQUIREMENT, 1, fetch=NO_FETCH, keys=keys), source(1, [2, 0])]
+
+
+def chain(nodes):
+    """So many nodes: filters, one over the other, over a source."""
+    return [record(FILTER, 1)] * (nodes - 1) + [source(1, [2])]
+
+
+def plan_file(records):
+    """The blocks of 512 bytes, of seven records each."""
+    parts = [records[at : at + 7] for at in range(0, len(records), 7)]
+    blocks = []
+    for number, part in enumerate(parts):
+        head = number.to_bytes(2, "little") + len(parts).to_bytes(2, "little") + bytes([len(part), 0, 0, 0])
+        block = (head + b"".join(part)).ljust(508, b"\0")
+        blocks.append(block + sum(block).to_bytes(4, "little"))
+    return b"".join(blocks)
+
+
+def write(path, data):
+    with open(os.path.join(CRATES, path), "wb") as f:
+        f.write(data)
+
+
+examples = {
+    "bytes_0": b"",
+    "bytes_511": plan_file(chain(1))[:511],
+    "blocks_19": plan_file(chain(127)),
+    "nodes_126": plan_file(chain(126)),
+    "wants_2": plan_file(wants(2)),
+    "wants_0": plan_file(wants(0)),
+    "wants_2_descending": plan_file(wants((2, DESCENDING))),
+}
+for name, data in examples.items():
+    write("worked_examples/data/" + name, data)
+write("plan_show/stdin", plan_file([record(MERGE, 1, fetch=NO_FETCH, keys=[2]), source(2, [2, 0])]))
