@@ -55,15 +55,20 @@ def write(path, data):
         f.write(data)
 
 
-examples = {
-    "bytes_0": b"",
-    "bytes_511": plan_file(chain(1))[:511],
-    "blocks_19": plan_file(chain(127)),
-    "nodes_126": plan_file(chain(126)),
-    "wants_2": plan_file(wants(2)),
-    "wants_0": plan_file(wants(0)),
-    "wants_2_descending": plan_file(wants((2, DESCENDING))),
-}
-for name, data in examples.items():
-    write("worked_examples/data/" + name, data)
-write("plan_show/stdin", plan_file([record(MERGE, 1, fetch=NO_FETCH, keys=[2]), source(2, [2, 0])]))
+def main():
+    examples = {
+        "bytes_0": b"",
+        "bytes_511": plan_file(chain(1))[:511],
+        "blocks_19": plan_file(chain(127)),
+        "nodes_126": plan_file(chain(126)),
+        "wants_2": plan_file(wants(2)),
+        "wants_0": plan_file(wants(0)),
+        "wants_2_descending": plan_file(wants((2, DESCENDING))),
+    }
+    for name, data in examples.items():
+        write("worked_examples/data/" + name, data)
+    write("plan_show/stdin", plan_file([record(MERGE, 1, fetch=NO_FETCH, keys=[2]), source(2, [2, 0])]))
+
+
+if __name__ == "__main__":
+    main()

@@ -1,4 +1,4 @@
-// Replays the cases of data/cases (made by tools/sample_vectors.py) and compares each answer with the one that the case gives.
+// Replays the cases of data/cases (made by tools/sample_vectors.py and tools/paired_refusals.py) and compares each answer with the one that the case gives.
 // A case is a header of 8 bytes, then the plan file. Each is put to the order check, which reads the file as every call does: what
 // another call answers after reading (20 and above) is read as accepted.
 use libc::STDOUT_FILENO;
