@@ -5,3 +5,4 @@ pub mod RowsKept
 pub mod EnsurePasses
 pub mod ChecksKept
 pub mod AcceptedRuns
+pub mod CheckedFiles

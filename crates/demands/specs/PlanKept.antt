@@ -3,24 +3,22 @@
 use mathlib.Core.Path.{_≡_, sym, _∙_, subst}
 use mathlib.Core.Bool.{Bool, true, false}
 use mathlib.Core.List.{map}
-use Rattle.row_order.specs.Lists.{All}
 use Rattle.plan.specs.Op.{Plan}
 use Rattle.plan.specs.WellFormed.{wellFormed}
-use Rattle.plan.specs.declared.Refusal.the-variants.{TooManyNodes}
+use Rattle.plan.specs.declared.Refusal.the-variants.{ConstantSort}
 use Rattle.semantics.specs.Facts.{facts}
 use Rattle.walks.specs.EnsureSorting.{ensureSorting}
 use Rattle.walks.specs.ParallelizeSorts.{parallelizeSorts}
 use Rattle.walks.specs.OrderPreserving.{replaceWithOrderPreservingVariants}
-use Rattle.walks.specs.PushdownSorts.{atRoot}
-use Rattle.walks.specs.Counted.{answered, ensured}
-use Rattle.walks.specs.Terms.{Added, blank, easing, Live, prune, reached, skel}
+use Rattle.walks.specs.Counted.{answered, ensured, pushed, refused}
+use Rattle.walks.specs.Terms.{Added, blank, easing, Live, prune, skel}
 use Rattle.walks.specs.Skeleton.{added-none, eased}
 use Rattle.walks.specs.KeptRows.{ensure-plan, SamePlan}
 use Rattle.walks.specs.OrderPreservingKept.{preserve-plan}
 use Rattle.walks.specs.ParallelizeKept.{parallelize-plan}
 use Rattle.walks.specs.PushOk.{push-plan}
 use Rattle.walks.specs.EnsureLive.{ensure-live as ensured-live}
-use Rattle.walks.specs.Answers.{down-answers, ensured-is, ensured-well, live-reached, parallelized-is, parallelized-well, preserved-is, preserved-well, pushed-is, pushed-well, up-answers, well-fit}
+use Rattle.walks.specs.Answers.{down-answers, ensured-is, ensured-well, live-pushed, parallelized-is, parallelized-well, preserved-is, preserved-well, pushed-is, pushed-well, up-answers, well-fit}
 use Rattle.demands.specs.Walks.{answer, ensuring, parallelizing, preserving, pushing, Walk}
 
 -- Ensuring alone may add limits
@@ -53,12 +51,16 @@ ensure-limits f g e h = answer-plan ensuring f g e h .bones
 pub root-kept : (w : Walk) (f g : Plan) → wellFormed f ≡ true → answer w f ≡ answered g → map blank (facts g) ≡ map blank (facts f)
 root-kept w f g e h = answer-plan w f g e h .bases
 
--- No sort has all-constant keys after ensuring; then pushing refuses nothing but 23
+-- No walk makes a sort of all-constant keys where there was none
+pub live-kept : (w : Walk) (f g : Plan) → wellFormed f ≡ true → answer w f ≡ answered g → Live f → Live g
+live-kept w f g e h = answer-plan w f g e h .live
+
+-- No sort has all-constant keys after ensuring; then pushing never answers 25
 pub ensure-live : (f g : Plan) → wellFormed f ≡ true → ensured f ≡ answered g → Live g
 ensure-live f g e h = subst Live (sym (up-answers ensureSorting f g (sym (ensured-is f) ∙ h) .1)) (ensured-live f (well-fit f e))
 
-pub push-after-ensure : (f g : Plan) → wellFormed f ≡ true → ensured f ≡ answered g → All (λ x. x ≡ TooManyNodes) (reached 0 (λ i. atRoot) g)
-push-after-ensure f g e h = live-reached 0 (λ i. atRoot) g (ensure-live f g e h)
+pub push-after-ensure : (f g : Plan) → wellFormed f ≡ true → ensured f ≡ answered g → ¬ (pushed g ≡ refused ConstantSort)
+push-after-ensure f g e h = live-pushed g (answer-plan ensuring f g e h .fit) (ensure-live f g e h)
 
 -- The answer of a walk is well formed again
 pub well-formed-again : (w : Walk) (f g : Plan) → wellFormed f ≡ true → answer w f ≡ answered g → wellFormed g ≡ true

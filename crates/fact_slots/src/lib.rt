@@ -2,30 +2,69 @@
 use facts::Facts;
 use key_lists::Keys;
 ghost use mathlib.Core.Path.{_≡_};
-ghost use Prim.Native.Nat.{_<_};
+ghost use Prim.Native.Nat.{_+_, _≤_, _<_};
 ghost use lib.ListN.{length, set};
 ghost use Rattle.plan_codec.specs.Encode.{num};
 ghost use Rattle.facts.specs.Known.{Fine};
-ghost use Rattle.fact_slots.specs.Slots.{loaded, head, Stored, passesIn};
+ghost use Rattle.fact_slots.specs.Slots.{le64, loaded, head, wordBytes, Stored, passesIn};
 
-// The facts that the bytes hold.
+// Where the facts stand in their row: one byte each for the width and the order's length, two for the streams, a set of four for the
+// constants, a word for the order, a byte for each column's class.
+pub const WIDTH: usize = 0;
+
+pub const ORDER_LEN: usize = 1;
+
+pub const STREAMS: usize = 2;
+
+pub const CONSTANTS: usize = 4;
+
+pub const ORDER: usize = 8;
+
+pub const CLASSES: usize = 16;
+
+pub const ROW: usize = 48;
+
+// A word of eight bytes.
+fn word_at(b: &[u8], at: usize) -> usize
+    requires { ⌜ at + 8 ≤ length (now b) ⌝ }
+    ensures { λ r. ⌜ r ≡ le64 (now (b .entry)) at ⌝ }
+{
+    scan::get32(b, at) as usize + (scan::get32(b, at + 4) as usize) * 4294967296
+}
+
+// The keys of the known order.
+pub fn order_keys(b: &[u8]) -> Keys
+    requires { ⌜ 48 ≤ length (now b) ⌝ }
+    ensures { λ r. ⌜ r ≡ loaded (now (b .entry)) .order ⌝ }
+{
+    Keys {
+        word: word_at(b, ORDER),
+        len: byte_rows::wide(b[ORDER_LEN]),
+    }
+}
+
+// The facts that the bytes hold, of which the first 48 count.
+pub fn load_row(b: &[u8]) -> Facts
+    requires { ⌜ 48 ≤ length (now b) ⌝ }
+    ensures { λ r. ⌜ r ≡ loaded (now (b .entry)) ⌝ }
+{
+    let low = byte_rows::read32(&b[CLASSES..ROW]);
+    let order = order_keys(b);
+    Facts {
+        width: byte_rows::wide(b[WIDTH]),
+        streams: scan::get16(b, STREAMS) as usize,
+        consts: scan::get32(b, CONSTANTS),
+        low: low,
+        order: order,
+    }
+}
+
+// The facts that a slot's bytes hold.
 pub fn load(b: &[u8]) -> Facts
     requires { ⌜ length (now b) ≡ 112 ⌝ }
     ensures { λ r. ⌜ r ≡ loaded (now (b .entry)) ⌝ }
 {
-    let items = byte_rows::read8(&b[8..16]);
-    let low = byte_rows::read32(&b[16..48]);
-    let order = Keys {
-        items: items,
-        len: byte_rows::wide(b[1]),
-    };
-    Facts {
-        width: byte_rows::wide(b[0]),
-        streams: scan::get16(b, 2) as usize,
-        consts: scan::get32(b, 4),
-        low: low,
-        order: order,
-    }
+    load_row(b)
 }
 
 // What stands in the first eight bytes, each to be cut to its low byte.
@@ -46,6 +85,22 @@ fn head_row(f: Facts) -> [usize; 8]
     ]
 }
 
+// The bytes of a word, each to be cut to its low byte.
+pub fn word_row(w: usize) -> [usize; 8]
+    ensures { λ r. ⌜ r ≡ wordBytes w ⌝ }
+{
+    [
+        w,
+        w >> 8,
+        w >> 16,
+        w >> 24,
+        w >> 32,
+        w >> 40,
+        w >> 48,
+        w >> 56,
+    ]
+}
+
 // The facts over the first 48 bytes; the others stay.
 pub fn store(b: &mut [u8], f: Facts)
     requires { ⌜ (length (now b) ≡ 112) × Fine f × (f .streams < 65536) ⌝ }
@@ -53,11 +108,11 @@ pub fn store(b: &mut [u8], f: Facts)
 {
     let head = head_row(f);
     let order = f.order;
-    let items = order.items;
+    let keys = word_row(order.word);
     let low = f.low;
-    byte_rows::write_row(&mut b[0..8], &head);
-    byte_rows::write_row(&mut b[8..16], &items);
-    byte_rows::write_row(&mut b[16..48], &low);
+    byte_rows::write_row(&mut b[WIDTH..ORDER], &head);
+    byte_rows::write_row(&mut b[ORDER..CLASSES], &keys);
+    byte_rows::write_row(&mut b[CLASSES..ROW], &low);
 }
 
 // Whether the order check passes in the node's subtree.

@@ -23,7 +23,6 @@ pub record Fine (f : Coded) : Type 0 where
   pub down : Down (f .low)
   pub none : (c : ℕ) → f .width ≤ c → bit (f .consts) c ≡ false
   pub few : f .order .len ≤ 8
-  pub items : length (f .order .items) ≡ 8
 
 -- The struct f says the facts F, and is fine
 pub record Says (F : Facts) (f : Coded) : Type 0 where

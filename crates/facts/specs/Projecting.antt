@@ -1,11 +1,11 @@
 -- A projection's order and facts. Assumes nothing.
 use mathlib.Core.Path.{_≡_, ap, sym, _∙_, subst, fun-ext}
 use mathlib.Core.Bool.{true, false, _&&_}
-use mathlib.Core.List.{List, [], _∷_, map}
-use Prim.Native.Nat.{ℕ, zero, suc, _+_, _≤_, _<_}
+use mathlib.Core.List.{List, [], _∷_}
+use Prim.Native.Nat.{ℕ, zero, suc, _-_, _/_, _≤_, _<_}
 use native.Mathlib.Omega.{arith}
 use lib.Dec.{eqb, ltb}
-use lib.ListN.{length, getD, set}
+use lib.ListN.{length, getD}
 use borrow.Author.Tests.{lt-ltb, le-ltb, ltb-true}
 use Rattle.row_order.specs.Iso.{Key}
 use Rattle.row_order.specs.Packed.{bit, keyOf}
@@ -16,8 +16,8 @@ use Rattle.semantics.specs.Lowest.{lowest-le}
 use Rattle.column_sets.specs.Sets.{Holding, below}
 use Rattle.class_tables.specs.Tables.{at, Filled, Columns, carries, projectionLow}
 use Rattle.key_lists.specs.declared.Keys.{Keys}
-use Rattle.key_lists.specs.Keys.{Keyed}
-use Rattle.key_lists.specs.Lists.{rest, next, end, Building, rebuilt, grown, built}
+use Rattle.key_lists.specs.Keys.{keysIn, Keyed, Longer}
+use Rattle.key_lists.specs.Lists.{next, end, Building, rebuilt, grown, built}
 use Rattle.facts.specs.declared.Facts.{Facts as Coded}
 use Rattle.facts.specs.Known.{known, Fine, Says, Agrees}
 use Rattle.facts.specs.Reading.{cl-is, constants}
@@ -35,34 +35,34 @@ carried-is F t cols h c =
     let e : at t ≡ cl F = fun-ext (λ d. sym (h d)) in
     ap (λ (low : ℕ → ℕ). lowest (λ i. eqb (low (getD cols i 0)) (low c)) (length cols)) e
 
--- the loop over the known order, at place i
-abbrev pub Projecting : List ℕ → List ℕ → List ℕ → List ℕ → ℕ → Type 0
-Projecting t cols ks items i = (F : Facts) → Agrees F t → Building (projOrder F cols (map keyOf ks)) items i (projOrder F cols (rest ks i))
+-- the loop over the known order ks, with n keys of the word w left
+abbrev pub Projecting : List ℕ → List ℕ → List Key → Keys → ℕ → ℕ → Type 0
+Projecting t cols ks out w n = (F : Facts) → Agrees F t → Building (projOrder F cols ks) out (projOrder F cols (keysIn n w))
 
-module _ (t cols ks items : List ℕ) (i : ℕ) (p : Projecting t cols ks items i) (j : ℕ) where
-  pub projected : i < length ks → i < 8 → j ≡ lowest (carries t cols (at t (keyOf (getD ks i 0) .col))) (length cols) → j < length cols → (x : ℕ) → keyOf x ≡ withColumn j (keyOf (getD ks i 0))
-      → Projecting t cols ks (set items i x) (i + 1)
-  projected h l e m x y F a =
-      let k : Key = keyOf (getD ks i 0) in
-      let z : j ≡ carried F cols (k .col) = e ∙ carried-is F t cols a (k .col) in
-      let n : ltb (carried F cols (k .col)) (length cols) ≡ true = rw (← z) (lt-ltb j (length cols) m) in
-      let d : projOrder F cols (rest ks i) ≡ withColumn (carried F cols (k .col)) k ∷ projOrder F cols (rest ks (i + 1)) = rw (next ks i h, n) in
-      grown _ items i x (withColumn (carried F cols (k .col)) k) (projOrder F cols (rest ks (i + 1))) (rebuilt _ items i d (p F a)) l (y ∙ ap (λ c. withColumn c k) z)
+module _ (t cols : List ℕ) (ks : List Key) (out : Keys) (w n : ℕ) (p : Projecting t cols ks out w n) (j : ℕ) (e : j ≡ lowest (carries t cols (at t (keyOf w .col))) (length cols)) (h : 0 < n) where
+  found : (F : Facts) → Agrees F t → j ≡ carried F cols (keyOf w .col)
+  found F a = e ∙ carried-is F t cols a (keyOf w .col)
+
+  pub projected : j < length cols → (x : ℕ) → keyOf x ≡ withColumn j (keyOf w) → (r : Keys) → Longer out x r → Projecting t cols ks r (w / 256) (n - 1)
+  projected m x y r l F a =
+      let k : Key = keyOf w in
+      let z = found F a in
+      let b : ltb (carried F cols (k .col)) (length cols) ≡ true = rw (← z) (lt-ltb j (length cols) m) in
+      let d : projOrder F cols (keysIn n w) ≡ withColumn (carried F cols (k .col)) k ∷ projOrder F cols (keysIn (n - 1) (w / 256)) = rw (next n w h, b) in
+      grown _ out x r (withColumn (carried F cols (k .col)) k) (projOrder F cols (keysIn (n - 1) (w / 256))) (rebuilt d (p F a)) l (y ∙ ap (λ c. withColumn c k) z)
 
   -- a key that no output carries ends the order
-  pub stopped : i < length ks → i ≤ 8 → j ≡ lowest (carries t cols (at t (keyOf (getD ks i 0) .col))) (length cols) → length cols ≤ j
-      → (F : Facts) → Agrees F t → Keyed (projOrder F cols (map keyOf ks)) (record { items = items; len = i })
-  stopped h l e m F a =
-      let k : Key = keyOf (getD ks i 0) in
-      let z : j ≡ carried F cols (k .col) = e ∙ carried-is F t cols a (k .col) in
-      let n : ltb (carried F cols (k .col)) (length cols) ≡ false = rw (← z) (le-ltb j (length cols) m) in
-      let d : projOrder F cols (rest ks i) ≡ [] = rw (next ks i h, n) in
-      built _ items i l (rebuilt _ items i d (p F a))
+  pub stopped : out .len ≤ 8 → length cols ≤ j → (F : Facts) → Agrees F t → Keyed (projOrder F cols ks) out
+  stopped l m F a =
+      let z = found F a in
+      let b : ltb (carried F cols (keyOf w .col)) (length cols) ≡ false = rw (← z) (le-ltb j (length cols) m) in
+      let d : projOrder F cols (keysIn n w) ≡ [] = rw (next n w h, b) in
+      built _ out l (rebuilt d (p F a))
 
-pub all-projected : (t cols ks items : List ℕ) (i : ℕ) → Projecting t cols ks items i → length ks ≤ i → i ≤ 8 → (F : Facts) → Agrees F t → Keyed (projOrder F cols (map keyOf ks)) (record { items = items; len = i })
-all-projected t cols ks items i p h l F a =
-    let d : projOrder F cols (rest ks i) ≡ [] = rw (end ks i h) in
-    built _ items i l (rebuilt _ items i d (p F a))
+pub all-projected : (t cols : List ℕ) (ks : List Key) (out : Keys) (w n : ℕ) → Projecting t cols ks out w n → n ≤ 0 → out .len ≤ 8 → (F : Facts) → Agrees F t → Keyed (projOrder F cols ks) out
+all-projected t cols ks out w n p h l F a =
+    let d : projOrder F cols (keysIn n w) ≡ [] = rw (end n w h) in
+    built _ out l (rebuilt d (p F a))
 
 pub says-projection : (f : Coded) (cols t : List ℕ) (s : ℕ) (o : Keys) → Fine f → length cols ≤ 32 → Filled (length cols) (projectionLow (f .low) cols) t
     → Holding (below (length cols) (λ j. bit (f .consts) (getD cols j 0))) s → Keyed (projOrder (known f) cols (known f .order)) o

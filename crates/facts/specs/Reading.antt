@@ -14,6 +14,8 @@ use Rattle.row_order.specs.Lists.{tab, length-tab, getD-tab}
 use Rattle.semantics.specs.Facts.{cl, isC, nfBy, nf, isNil}
 use Rattle.class_tables.specs.Tables.{at, Small}
 use Rattle.class_tables.specs.Filling.{read}
+use Rattle.key_lists.specs.Keys.{Keyed}
+use Rattle.key_lists.specs.Lists.{no-keys-is}
 use Rattle.facts.specs.declared.Facts.{Facts as Coded}
 use Rattle.facts.specs.Known.{known, Fine, Agrees}
 
@@ -57,14 +59,8 @@ module _ (f : Coded) (h : Fine f) where
   pub small : Small (f .low)
   small c l = let d = h .down c in omega arith
 
-  pub long-keys : length (take (f .order .len) (f .order .items)) ≡ f .order .len
-  long-keys = let x = h .few in let y = h .items in length-take-le (f .order .len) (f .order .items) (omega arith)
-
   pub no-order : isNil (known f .order) ≡ eqb (f .order .len) 0
-  no-order = go (take (f .order .len) (f .order .items)) (f .order .len) long-keys
-    where
-      go : (l : List ℕ) (n : ℕ) → length l ≡ n → isNil (map keyOf l) ≡ eqb n 0
-      go [] zero e = refl
-      go [] (suc n) e = absurd (omega arith)
-      go (x ∷ l) zero e = absurd (omega arith)
-      go (x ∷ l) (suc n) e = sym (ne-eqb (suc n) 0 (λ z. absurd (omega (arith, z))))
+  no-order = no-keys-is (f .order .len) (f .order .word)
+
+  pub own-order : Keyed (known f .order) (f .order)
+  own-order = record { is = refl; few = h .few }

@@ -8,7 +8,6 @@ use native.Mathlib.Nat.{div-eq-of-lt}
 use lib.Dec.{eqb, ltb}
 use lib.ListN.{take}
 use lib.Pow.{pow-pos, shr-shr}
-use lib.Seq.{take-take}
 use borrow.Author.Tests.{eqb-true, ltb-false, lt-ltb, le-ltb}
 use Rattle.row_order.specs.Iso.{Key}
 use Rattle.row_order.specs.Packed.{bit, keyOf}
@@ -21,10 +20,10 @@ use Rattle.column_sets.specs.Bits.{bit-none}
 use Rattle.class_tables.specs.Tables.{Filled, unionLow}
 use Rattle.class_tables.specs.Filling.{filled-alone, filled-down, filled-tab}
 use Rattle.key_lists.specs.declared.Keys.{Keys}
-use Rattle.key_lists.specs.Keys.{Keyed, Shared}
+use Rattle.key_lists.specs.Keys.{Keyed}
 use Rattle.facts.specs.declared.Facts.{Facts as Coded}
 use Rattle.facts.specs.Known.{known, Fine, Says}
-use Rattle.facts.specs.Reading.{cl-is, long-keys}
+use Rattle.facts.specs.Reading.{cl-is}
 
 tab-ext : {A : Type 0} (n : ℕ) (f g : ℕ → A) → ((c : ℕ) → c < n → f c ≡ g c) → tab n f ≡ tab n g
 tab-ext zero f g h = refl
@@ -47,7 +46,6 @@ says w n s t o g p ks l h d e k =
             down = filled-down w g t h d;
             none = λ c m. e c ∙ rw (le-ltb c w m);
             few = k .few;
-            items = k .long;
           };
     }
 
@@ -57,7 +55,7 @@ pub says-ordered : (f : Coded) (n : ℕ) (o : Keys) (ks : List Key) → Fine f �
 says-ordered f n o ks h k =
     record {
       is = λ i. record { width = f .width; streams = n; consts = known f .consts; cls = known f .cls; order = k .is i };
-      fine = record { wide = h .wide; long = h .long; alone = h .alone; down = h .down; none = h .none; few = k .few; items = k .long };
+      fine = record { wide = h .wide; long = h .long; alone = h .alone; down = h .down; none = h .none; few = k .few };
     }
 
 -- each column alone in its class, as a table of any width
@@ -94,13 +92,9 @@ says-source w n s t o l e h k = says w n s t o (λ c. c) (bit s) [] l (alone-any
     go c true x = refl
     go c false x = fits-none w s e c (ltb-false c w x)
 
-pub says-both : (a b : Coded) (t : List ℕ) (n : ℕ) → Fine a → Fine b → Filled (a .width) (unionLow (a .low) (b .low)) t
-    → Shared (take (a .order .len) (a .order .items)) (take (b .order .len) (b .order .items)) n
-    → Says (both (known a) (known b)) (record { width = a .width; streams = a .streams + b .streams; consts = 0; low = t; order = record { items = a .order .items; len = n } })
-says-both a b t n f g h c =
+pub says-both : (a b : Coded) (t : List ℕ) (o : Keys) → Fine a → Fine b → Filled (a .width) (unionLow (a .low) (b .low)) t → Keyed (common (known a .order) (known b .order)) o
+    → Says (both (known a) (known b)) (record { width = a .width; streams = a .streams + b .streams; consts = 0; low = t; order = o })
+says-both a b t o f g h k =
     let low : (ℕ → ℕ) → (ℕ → ℕ) → ℕ → ℕ = λ x y k. lowest (λ i. eqb (x i) (x k) && eqb (y i) (y k)) k in
     let e : unionLow (a .low) (b .low) ≡ low (cl (known a)) (cl (known b)) = ap₂ low (cl-is a f) (cl-is b g) in
-    let z = c .few in let y = f .few in let x = long-keys a f in let m : n ≤ a .order .len = omega arith in
-    let o : Keyed (common (known a .order) (known b .order)) (record { items = a .order .items; len = n }) =
-    record { is = ap (map keyOf) (sym (take-take n (a .order .len) (a .order .items) m)) ∙ c .is; few = omega arith; long = f .items } in
-    says (a .width) (a .streams + b .streams) 0 t _ _ (λ k. false) _ (f .wide) (subst (λ k. Filled (a .width) k t) e h) (λ k l. lowest-le _ k) (none-below (a .width)) o
+    says (a .width) (a .streams + b .streams) 0 t o _ (λ k. false) _ (f .wide) (subst (λ k. Filled (a .width) k t) e h) (λ k l. lowest-le _ k) (none-below (a .width)) k

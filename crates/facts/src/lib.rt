@@ -7,26 +7,21 @@ use class_tables::projection_set;
 use class_tables::projection_table;
 use class_tables::union_table;
 use key_lists::Keys;
-use key_lists::common_len;
-use key_lists::compatible;
-use key_lists::fresh_keys;
-use key_lists::met;
+use key_lists::appended;
+use key_lists::common_keys;
 use key_lists::no_keys;
 use key_lists::normal;
 use key_lists::with_column;
 use row_order::column;
 ghost use mathlib.Core.Path.{_≡_};
-ghost use mathlib.Core.Bool.{true, cond};
-ghost use mathlib.Core.List.{[], map};
+ghost use mathlib.Core.Bool.{true};
+ghost use mathlib.Core.List.{[]};
 ghost use Prim.Native.Nat.{_+_, _<_, _≤_, _^_};
-ghost use lib.Dec.{eqb};
 ghost use lib.ListN.{length};
-ghost use Rattle.row_order.specs.Packed.{keyOf};
 ghost use Rattle.plan.specs.WellFormed.{below, setFits};
 ghost use Rattle.semantics.specs.Facts as sem;
-ghost use Rattle.semantics.specs.Properties.{freshKeys};
 ghost use Rattle.class_tables.specs.Tables.{Columns};
-ghost use Rattle.key_lists.specs.Keys.{Keyed};
+ghost use Rattle.key_lists.specs.Keys.{keysOf, Keyed};
 ghost use Rattle.facts.specs.Known.{known, Fine, Says, Agrees};
 
 // specs/Known.antt says which facts these are. An empty order is no order.
@@ -38,51 +33,13 @@ pub struct Facts {
     pub order: Keys,
 }
 
-// The normal form of a key list.
-pub fn normal_keys(f: Facts, keys: &[usize]) -> Keys
-    requires { ⌜ Fine f × (length (now keys) ≤ 8) ⌝ }
-    ensures { λ r. ⌜ Keyed (sem.nf (known f) [] (map keyOf (now (keys .entry)))) r ⌝ }
+// Other streams, and the normal form of the keys for an order.
+pub fn sorted_facts(f: Facts, streams: usize, keys: Keys) -> Facts
+    requires { ⌜ Fine f × (keys .len ≤ 8) ⌝ }
+    ensures { λ r. ⌜ Says (sem.ordered (known f) streams (sem.nf (known f) [] (keysOf keys))) r ⌝ }
 {
     let table = f.low;
-    normal(&table, f.consts, keys)
-}
-
-// Whether the known order meets a wanted one.
-pub fn meets(f: Facts, wanted: &[usize]) -> bool
-    requires { ⌜ Fine f × (length (now wanted) ≤ 8) ⌝ }
-    ensures { λ r. ⌜ r ≡ sem.met (known f) (map keyOf (now (wanted .entry))) ⌝ }
-{
-    let table = f.low;
-    let order = f.order;
-    let items = order.items;
-    let n = order.len;
-    met(&table, f.consts, &items[..n], wanted)
-}
-
-// Whether the first list is compatible with the second.
-pub fn compatible_keys(f: Facts, first: &[usize], second: &[usize]) -> bool
-    requires { ⌜ Fine f × (length (now first) ≤ 8) × (length (now second) ≤ 8) ⌝ }
-    ensures { λ r. ⌜ r ≡ sem.compatible (known f) (map keyOf (now (first .entry))) (map keyOf (now (second .entry))) ⌝ }
-{
-    let table = f.low;
-    compatible(&table, f.consts, first, second)
-}
-
-// A new sort's keys: the list less the constants and a column's later repeats.
-pub fn fresh(f: Facts, keys: &[usize]) -> Keys
-    requires { ⌜ Fine f × (length (now keys) ≤ 8) ⌝ }
-    ensures { λ r. ⌜ Keyed (freshKeys (known f) [] (map keyOf (now (keys .entry)))) r ⌝ }
-{
-    fresh_keys(f.consts, keys)
-}
-
-// Sort, partial sort and merge: other streams, and the normal form of the keys for an order.
-pub fn sorted_facts(f: Facts, streams: usize, keys: &[usize]) -> Facts
-    requires { ⌜ Fine f × (length (now keys) ≤ 8) ⌝ }
-    ensures { λ r. ⌜ Says (sem.ordered (known f) streams (sem.nf (known f) [] (map keyOf (now (keys .entry))))) r ⌝ }
-{
-    let order = normal_keys(f, keys);
-    let table = f.low;
+    let order = normal(&table, f.consts, keys);
     Facts {
         width: f.width,
         streams: streams,
@@ -92,17 +49,10 @@ pub fn sorted_facts(f: Facts, streams: usize, keys: &[usize]) -> Facts
     }
 }
 
-// Whole sorts of both kinds give one stream.
-pub fn sort_streams(preserve: bool, f: Facts) -> usize
-    ensures { λ r. ⌜ r ≡ sem.sortStreams preserve (known f) ⌝ }
-{
-    if preserve { f.streams } else { 1 }
-}
-
 // To reorder: the list's normal form in the known order's place.
-pub fn reordered(f: Facts, keys: &[usize]) -> Facts
-    requires { ⌜ Fine f × (length (now keys) ≤ 8) ⌝ }
-    ensures { λ r. ⌜ Says (sem.reorder (known f) (map keyOf (now (keys .entry)))) r ⌝ }
+fn reordered(f: Facts, keys: Keys) -> Facts
+    requires { ⌜ Fine f × (keys .len ≤ 8) ⌝ }
+    ensures { λ r. ⌜ Says (sem.reorder (known f) (keysOf keys)) r ⌝ }
 {
     sorted_facts(f, f.streams, keys)
 }
@@ -124,9 +74,9 @@ pub fn unknown(w: usize) -> Facts
 }
 
 // A source: its declared constants and keys.
-pub fn source_facts(width: usize, streams: usize, consts: u32, keys: &[usize]) -> Facts
-    requires { ⌜ (width ≤ 32) × (setFits width consts ≡ true) × (length (now keys) ≤ 8) ⌝ }
-    ensures { λ r. ⌜ Says (sem.reorder (sem.sourceFacts width streams consts) (map keyOf (now (keys .entry)))) r ⌝ }
+pub fn source_facts(width: usize, streams: usize, consts: u32, keys: Keys) -> Facts
+    requires { ⌜ (width ≤ 32) × (setFits width consts ≡ true) × (keys .len ≤ 8) ⌝ }
+    ensures { λ r. ⌜ Says (sem.reorder (sem.sourceFacts width streams consts) (keysOf keys)) r ⌝ }
 {
     let table = alone();
     let order = no_keys();
@@ -140,84 +90,6 @@ pub fn source_facts(width: usize, streams: usize, consts: u32, keys: &[usize]) -
     reordered(declared, keys)
 }
 
-// The known order, or none.
-fn order_if(keep: bool, f: Facts) -> Keys
-    requires { ⌜ Fine f ⌝ }
-    ensures { λ r. ⌜ Keyed (cond keep (known f .order) []) r ⌝ }
-{
-    if keep {
-        let order = f.order;
-        order
-    } else {
-        no_keys()
-    }
-}
-
-// Other streams, with the known order or without.
-fn restreamed(f: Facts, streams: usize, keep: bool) -> Facts
-    requires { ⌜ Fine f ⌝ }
-    ensures { λ r. ⌜ Says (sem.ordered (known f) streams (cond keep (known f .order) [])) r ⌝ }
-{
-    let order = order_if(keep, f);
-    let table = f.low;
-    Facts {
-        width: f.width,
-        streams: streams,
-        consts: f.consts,
-        low: table,
-        order: order,
-    }
-}
-
-// Coalesce loses order and gives one stream.
-pub fn loosened(f: Facts) -> Facts
-    requires { ⌜ Fine f ⌝ }
-    ensures { λ r. ⌜ Says (sem.ordered (known f) 1 []) r ⌝ }
-{
-    restreamed(f, 1, false)
-}
-
-// A preserve mark counts only over an ordered child of several streams.
-pub fn counts(preserve: bool, f: Facts) -> bool
-    requires { ⌜ Fine f ⌝ }
-    ensures { λ r. ⌜ r ≡ sem.counts preserve (known f) ⌝ }
-{
-    let order = f.order;
-    if preserve {
-        if order.len == 0 { false } else { 1 < f.streams }
-    } else {
-        false
-    }
-}
-
-// Repartition maintains with one input stream or with preserve.
-pub fn keeps_order(preserve: bool, f: Facts) -> bool
-    requires { ⌜ Fine f ⌝ }
-    ensures { λ r. ⌜ r ≡ sem.keepsOrder preserve (known f) ⌝ }
-{
-    if f.streams == 1 {
-        true
-    } else {
-        counts(preserve, f)
-    }
-}
-
-// Repartition: the order where it maintains.
-pub fn repartition_facts(f: Facts, preserve: bool, streams: usize) -> Facts
-    requires { ⌜ Fine f ⌝ }
-    ensures { λ r. ⌜ Says (sem.ordered (known f) streams (cond (sem.keepsOrder preserve (known f)) (known f .order) [])) r ⌝ }
-{
-    restreamed(f, streams, keeps_order(preserve, f))
-}
-
-// A global limit: over several streams it knows no order.
-pub fn limit_facts(f: Facts) -> Facts
-    requires { ⌜ Fine f ⌝ }
-    ensures { λ r. ⌜ Says (sem.ordered (known f) 1 (cond (eqb (known f .streams) 1) (known f .order) [])) r ⌝ }
-{
-    restreamed(f, 1, f.streams == 1)
-}
-
 // Union: streams added, the common prefix, common classes, no constants.
 pub fn union_facts(a: Facts, b: Facts) -> Facts
     requires { ⌜ Fine a × Fine b × (a .streams + b .streams < 2 ^ 64) ⌝ }
@@ -228,12 +100,7 @@ pub fn union_facts(a: Facts, b: Facts) -> Facts
     let table = union_table(&x, &y, a.width);
     let p = a.order;
     let q = b.order;
-    let ps = p.items;
-    let qs = q.items;
-    let pn = p.len;
-    let qn = q.len;
-    let n = common_len(&ps[..pn], &qs[..qn]);
-    let order = Keys { items: ps, len: n };
+    let order = common_keys(p, q);
     let none: u32 = 0;
     let streams = a.streams + b.streams;
     Facts {
@@ -246,29 +113,24 @@ pub fn union_facts(a: Facts, b: Facts) -> Facts
 }
 
 // The order as far as a class member is projected, lowest output column first.
-fn projection_order(table: &[usize; 32], cols: &[usize], keys: &[usize]) -> Keys
+fn projection_order(table: &[usize; 32], cols: &[usize], keys: Keys) -> Keys
     requires { ⌜ Columns (now cols) ⌝ }
-    requires { ⌜ (length (now cols) ≤ 32) × (length (now keys) ≤ 8) ⌝ }
-    ensures { λ r. ⌜ ((F : sem.Facts) → Agrees F (now (table .entry)) → Keyed (sem.projOrder F (now (cols .entry)) (map keyOf (now (keys .entry)))) r) ⌝ }
+    requires { ⌜ (length (now cols) ≤ 32) × (keys .len ≤ 8) ⌝ }
+    ensures { λ r. ⌜ ((F : sem.Facts) → Agrees F (now (table .entry)) → Keyed (sem.projOrder F (now (cols .entry)) (keysOf keys)) r) ⌝ }
 {
-    let mut items = [0usize; 8];
-    let mut i = 0;
-    while i < keys.len() {
-        let key = keys[i];
-        let c = carried(table, cols, low(table, column(key)), cols.len());
+    let mut out = no_keys();
+    let mut rest = keys.word;
+    let mut left = keys.len;
+    while 0 < left {
+        let c = carried(table, cols, low(table, column(rest)), cols.len());
         if cols.len() <= c {
-            return Keys {
-                items: items,
-                len: i,
-            };
+            return out;
         }
-        items[i] = with_column(key, c);
-        i += 1;
+        out = appended(out, with_column(rest, c));
+        rest = rest >> 8;
+        left -= 1;
     }
-    Keys {
-        items: items,
-        len: i,
-    }
+    out
 }
 
 // Projection carries what its columns carry.
@@ -277,11 +139,9 @@ pub fn projection_facts(f: Facts, cols: &[usize]) -> Facts
     ensures { λ r. ⌜ Says (sem.projFacts (known f) (now (cols .entry))) r ⌝ }
 {
     let x = f.low;
-    let p = f.order;
-    let ps = p.items;
-    let pn = p.len;
+    let keys = f.order;
     let table = projection_table(&x, cols);
-    let order = projection_order(&x, cols, &ps[..pn]);
+    let order = projection_order(&x, cols, keys);
     let consts = projection_set(f.consts, cols);
     Facts {
         width: cols.len(),

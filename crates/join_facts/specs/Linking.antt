@@ -19,10 +19,9 @@ use Rattle.column_sets.specs.Sets.{Holding, below}
 use Rattle.class_tables.specs.Tables.{at, Filled, inClasses, linkedLow}
 use Rattle.facts.specs.declared.Facts.{Facts as Coded}
 use Rattle.facts.specs.Known.{known, Fine, Says}
-use Rattle.facts.specs.Reading.{classes, cl-is, isC-is}
+use Rattle.facts.specs.Reading.{classes, cl-is, isC-is, own-order}
 use Rattle.facts.specs.Saying.{says}
 use Rattle.join_facts.specs.Joining.{onOf, Linkable}
-use Rattle.join_facts.specs.Placing.{own-order}
 
 -- ---- one pair
 module _ (f : Coded) (h : Fine f) (a b : ℕ) where

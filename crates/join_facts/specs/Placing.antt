@@ -11,15 +11,10 @@ use Rattle.semantics.specs.Facts.{cl, isC, placed, shifted, beside}
 use Rattle.column_sets.specs.Sets.{Holding, below}
 use Rattle.class_tables.specs.Tables.{at, Filled, besideLow}
 use Rattle.class_tables.specs.Filling.{filled-self, filled-alone, refilled}
-use Rattle.key_lists.specs.Keys.{Keyed}
 use Rattle.facts.specs.declared.Facts.{Facts as Coded}
 use Rattle.facts.specs.Known.{known, Fine, Says}
-use Rattle.facts.specs.Reading.{classes, constants, cl-is}
+use Rattle.facts.specs.Reading.{classes, constants, cl-is, own-order}
 use Rattle.facts.specs.Saying.{says}
-
--- a struct's own order
-pub own-order : (f : Coded) → Fine f → Keyed (known f .order) (f .order)
-own-order f h = record { is = refl; few = h .few; long = h .items }
 
 and-none : (a : Bool) → a && false ≡ false
 and-none true = refl

@@ -18,16 +18,15 @@ use row_order::column;
 ghost use mathlib.Core.Path.{_≡_};
 ghost use mathlib.Core.Bool.{cond};
 ghost use mathlib.Core.List.{map};
-ghost use Prim.Native.Nat.{_+_, _<_, _≤_};
+ghost use Prim.Native.Nat.{ℕ, _+_, _<_, _≤_};
 ghost use lib.ListN.{length};
 ghost use lib.IntN.{pos};
 ghost use Rattle.row_order.specs.Lists.{All};
 ghost use Rattle.plan.specs.WellFormed.{joinWidth};
 ghost use Rattle.semantics.specs.Facts as sem;
-ghost use Rattle.semantics.specs.Fits.{Fits};
-ghost use Rattle.key_lists.specs.Keys.{Keyed};
+ghost use Rattle.key_lists.specs.Keys.{keysOf, Keyed};
 ghost use Rattle.facts.specs.Known.{known, Fine, Says};
-ghost use Rattle.join_facts.specs.Joining.{keptOf, onOf, Linkable, Sides, Joinable};
+ghost use Rattle.join_facts.specs.Joining.{keptOf, onOf, Linkable, Placeable, Joinable};
 
 // The side whose order a join keeps.
 pub enum KeptSide {
@@ -194,18 +193,17 @@ fn join_base(t: JoinType, a: Facts, b: Facts, lefts: &[usize], rights: &[usize])
 }
 
 // The left side's order, in its place.
-fn left_order(t: JoinType, f: Facts) -> Keys
-    requires { ⌜ Fine f × Fits (known f) ⌝ }
-    ensures { λ r. ⌜ Keyed (sem.leftOrder t (f .width) (known f .order)) r ⌝ }
+fn left_order(t: JoinType, keys: Keys) -> Keys
+    requires { ⌜ keys .len ≤ 8 ⌝ }
+    ensures { λ r. ⌜ ((w : ℕ) → All (λ k. k .col < w) (keysOf keys) → Keyed (sem.leftOrder t w (keysOf keys)) r) ⌝ }
 {
-    let order = f.order;
     match t {
-        JoinType::Inner => order,
-        JoinType::Left => order,
+        JoinType::Inner => keys,
+        JoinType::Left => keys,
         JoinType::Right => no_keys(),
         JoinType::Full => no_keys(),
-        JoinType::LeftSemi => order,
-        JoinType::LeftAnti => order,
+        JoinType::LeftSemi => keys,
+        JoinType::LeftAnti => keys,
         JoinType::RightSemi => no_keys(),
         JoinType::RightAnti => no_keys(),
     }
@@ -220,42 +218,38 @@ fn offset(w: usize) -> isize
 }
 
 // The order behind w columns.
-fn moved_order(w: usize, f: Facts) -> Keys
-    requires { ⌜ Fine f × Fits (known f) × (w + f .width ≤ 32) ⌝ }
-    ensures { λ r. ⌜ Keyed (map (sem.moved w) (known f .order)) r ⌝ }
+fn moved_order(w: usize, keys: Keys) -> Keys
+    requires { ⌜ (w ≤ 32) × All (λ k. w + k .col < 32) (keysOf keys) × (keys .len ≤ 8) ⌝ }
+    ensures { λ r. ⌜ Keyed (map (sem.moved w) (keysOf keys)) r ⌝ }
 {
-    let order = f.order;
-    let items = order.items;
-    let n = order.len;
-    move_keys(&items[..n], offset(w))
+    move_keys(keys, offset(w))
 }
 
 // The right side's order, moved to its place.
-fn right_order(t: JoinType, w: usize, f: Facts) -> Keys
-    requires { ⌜ Fine f × Fits (known f) × (joinWidth t w (f .width) ≤ 32) ⌝ }
-    ensures { λ r. ⌜ Keyed (sem.rightOrder t w (known f .order)) r ⌝ }
+fn right_order(t: JoinType, w: usize, keys: Keys) -> Keys
+    requires { ⌜ (w ≤ 32) × All (λ k. joinWidth t w (k .col + 1) ≤ 32) (keysOf keys) × (keys .len ≤ 8) ⌝ }
+    ensures { λ r. ⌜ Keyed (sem.rightOrder t w (keysOf keys)) r ⌝ }
 {
-    let order = f.order;
     match t {
-        JoinType::Inner => moved_order(w, f),
+        JoinType::Inner => moved_order(w, keys),
         JoinType::Left => no_keys(),
-        JoinType::Right => moved_order(w, f),
+        JoinType::Right => moved_order(w, keys),
         JoinType::Full => no_keys(),
         JoinType::LeftSemi => no_keys(),
         JoinType::LeftAnti => no_keys(),
-        JoinType::RightSemi => order,
-        JoinType::RightAnti => order,
+        JoinType::RightSemi => keys,
+        JoinType::RightAnti => keys,
     }
 }
 
-// The kept side's order, moved to its place.
-fn join_order(t: JoinType, kept: KeptSide, a: Facts, b: Facts) -> Keys
-    requires { ⌜ Sides t a b ⌝ }
-    ensures { λ r. ⌜ Keyed (sem.joinOrder t (keptOf kept) (known a) (known b)) r ⌝ }
+// The kept side's order, moved to its place; w: the left columns.
+pub fn join_order(t: JoinType, kept: KeptSide, w: usize, left: Keys, right: Keys) -> Keys
+    requires { ⌜ Placeable t w left right ⌝ }
+    ensures { λ r. ⌜ ((F G : sem.Facts) → F .width ≡ w → keysOf left ≡ F .order → keysOf right ≡ G .order → Keyed (sem.joinOrder t (keptOf kept) F G) r) ⌝ }
 {
     match kept {
-        KeptSide::Left => left_order(t, a),
-        KeptSide::Right => right_order(t, a.width, b),
+        KeptSide::Left => left_order(t, left),
+        KeptSide::Right => right_order(t, w, right),
         KeptSide::Neither => no_keys(),
     }
 }
@@ -274,10 +268,10 @@ pub fn join_facts(
     ensures { λ r. ⌜ Says (sem.joinFacts t (keptOf kept) (onOf (now (lefts .entry)) (now (rights .entry))) (known a) (known b) streams) r ⌝ }
 {
     let base = join_base(t, a, b, lefts, rights);
-    let order = join_order(t, kept, a, b);
-    let items = order.items;
-    let n = order.len;
-    sorted_facts(base, streams, &items[..n])
+    let left = a.order;
+    let right = b.order;
+    let order = join_order(t, kept, a.width, left, right);
+    sorted_facts(base, streams, order)
 }
 
 // A sort-merge join has the left side's streams, for Right types the right side's.

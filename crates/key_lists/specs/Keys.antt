@@ -1,29 +1,53 @@
--- Key lists as the code hands them back, and offsets of columns. These are definitions.
+-- Key lists and orders as the code holds them, and offsets of columns. These are definitions.
 use mathlib.Core.Path.{_≡_}
-use mathlib.Core.List.{List, map}
-use Prim.Native.Nat.{ℕ, _≤_}
+use mathlib.Core.List.{List, [], _∷_, _++_}
+use Prim.Native.Nat.{ℕ, zero, suc, _*_, _/_, _^_, _≤_, _<_}
 use lib.IntN.{ℤ, pos, natAbs, _+ℤ_}
-use lib.ListN.{length, take}
 use lib.Signed.{_≤ℤ_, _<ℤ_}
 use Rattle.row_order.specs.Iso.{Key}
 use Rattle.row_order.specs.Packed.{keyOf}
-use Rattle.semantics.specs.Facts.{withColumn, common}
+use Rattle.semantics.specs.Facts.{withColumn}
 use Rattle.key_lists.specs.declared.Keys.{Keys}
+use Rattle.key_lists.specs.declared.Order.{Order}
+use Rattle.key_lists.specs.declared.Order.the-variants.{Unordered, By}
 
--- The keys that stand in the first len items
+-- n keys of a word, a byte for each, the first in the lowest: keyOf reads seven bits of it
+abbrev pub keysIn : ℕ → ℕ → List Key
+keysIn zero w = []
+keysIn (suc n) w = keyOf w ∷ keysIn n (w / 256)
+
 abbrev pub keysOf : Keys → List Key
-keysOf r = map keyOf (take (r .len) (r .items))
+keysOf k = keysIn (k .len) (k .word)
 
--- r holds the list ks
-pub record Keyed (ks : List Key) (r : Keys) : Type 0 where
-  pub is : keysOf r ≡ ks
-  pub few : r .len ≤ 8
-  pub long : length (r .items) ≡ 8
+-- k holds the list ks
+pub record Keyed (ks : List Key) (k : Keys) : Type 0 where
+  pub is : keysOf k ≡ ks
+  pub few : k .len ≤ 8
 
--- The first r keys of p are what p and q have in common in front
-pub record Shared (p q : List ℕ) (r : ℕ) : Type 0 where
-  pub few : r ≤ length p
-  pub is : map keyOf (take r p) ≡ common (map keyOf p) (map keyOf q)
+-- Nothing stands in the word behind the list
+abbrev pub Tight : Keys → Type 0
+Tight k = k .word < 2 ^ (8 * k .len)
+
+-- r is the list k with one key more
+pub record Longer (k : Keys) (key : ℕ) (r : Keys) : Type 0 where
+  pub is : keysOf r ≡ keysOf k ++ (keyOf key ∷ [])
+  pub len : r .len ≡ suc (k .len)
+  pub tight : Tight r
+
+-- "an empty one is no order"
+abbrev pub orderOf : Order → List Key
+orderOf Unordered = []
+orderOf (By k) = keysOf k
+
+-- An order has one key at least
+abbrev pub Real : Order → Type 0
+Real Unordered = Unit {0}
+Real (By k) = (0 < k .len) × (k .len ≤ 8)
+
+-- o is the order ks; no order where ks is empty
+pub record Ordered (ks : List Key) (o : Order) : Type 0 where
+  pub is : orderOf o ≡ ks
+  pub real : Real o
 
 -- "isize offsets for the right side: signed, range shown": a number that is a column, 0 to 31
 pub record InRange (z : ℤ) : Type 0 where

@@ -4,3 +4,4 @@ pub mod Offsets
 pub mod Lists
 pub mod Comparing
 pub mod Normalising
+pub mod Sets

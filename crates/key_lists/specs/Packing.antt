@@ -5,10 +5,24 @@ use Prim.Native.Nat.{ℕ, zero, suc, _+_, _*_, _/_, _%_, _^_, _<_}
 use native.Mathlib.Omega.{arith}
 use lib.Dec.{eqb}
 use lib.Bits.{bitAnd, bitOr, and-mask, or-shifted}
-use lib.Pow.{shr-shr}
+use lib.Pow.{shr-shr, field, mod-mod-pow}
 use borrow.Author.Tests.{eqb-true, eqb-false, eq-eqb, ne-eqb}
 use Rattle.row_order.specs.Packed.{keyOf}
 use Rattle.semantics.specs.Facts.{withColumn, eqKey}
+
+-- only seven bits of a key count
+pub seven-bits : (k : ℕ) → keyOf (k % 128) ≡ keyOf k
+seven-bits k =
+    let a : k % 128 % 32 ≡ k % 32 = omega arith in
+    let b : k % 128 / 32 % 2 ≡ k / 32 % 2 = ap (λ n. n % 2) (field k 2 5) ∙ mod-mod-pow (k / 32) 1 1 in
+    let d : k % 128 / 64 % 2 ≡ k / 64 % 2 = ap (λ n. n % 2) (field k 1 6) ∙ mod-mod-pow (k / 64) 0 1 in
+    λ i. record { col = a i; desc = eqb (b i) 1; first = eqb (d i) 1 }
+
+pub low-key : (k : ℕ) → keyOf (k % 256) ≡ keyOf k
+low-key k = sym (seven-bits (k % 256)) ∙ ap keyOf (let e : k % 256 % 128 ≡ k % 128 = omega arith in e) ∙ seven-bits k
+
+pub same-low : (a b : ℕ) → a % 256 ≡ b % 256 → keyOf a ≡ keyOf b
+same-low a b e = sym (low-key a) ∙ ap keyOf e ∙ low-key b
 
 rekeyed : (k c : ℕ) → c < 32 → keyOf (k / 32 * 32 + c) ≡ withColumn c (keyOf k)
 rekeyed k c h =

@@ -1,34 +1,94 @@
-// Key lists: normal form, prefix, met, compatible, repeats dropped, columns moved by an offset. A key is one number, column + 32 *
-// options (row_order), and only its seven bits count. Lists are lent as slices and handed back as Keys.
-use class_tables::alone;
+// Key lists by value: normal form, prefix, repeats dropped, columns moved by an offset. A key is one number, column + 32 * options
+// (row_order), and only its seven bits count. A list is one word of up to eight keys, a byte for each, the first in the lowest byte.
 use class_tables::low;
 use column_sets::has;
 use column_sets::with;
 use row_order::column;
 ghost use mathlib.Core.Path.{_≡_};
-ghost use mathlib.Core.Bool.{false};
+ghost use mathlib.Core.Bool.{_&&_};
 ghost use mathlib.Core.List.{[], map};
-ghost use Prim.Native.Nat.{_<_, _≤_};
-ghost use lib.ListN.{length};
+ghost use Prim.Native.Nat.{_*_, _%_, _<_, _≤_, _^_};
+ghost use lib.Bits.{bitOr};
+ghost use lib.Dec.{eqb};
+ghost use lib.ListN.{length, take};
 ghost use lib.IntN.{pos, _+ℤ_};
 ghost use Rattle.row_order.specs.Packed.{bit, keyOf};
 ghost use Rattle.row_order.specs.Lists.{All};
 ghost use Rattle.semantics.specs.Facts.{withColumn, nfBy, eqKey, prefixb, common, dropRepeats};
+ghost use Rattle.semantics.specs.Properties.{columnSet};
 ghost use Rattle.class_tables.specs.Tables.{at, Small};
-ghost use Rattle.key_lists.specs.Keys.{Keyed, Shared, InRange, Movable, movedBy};
+ghost use Rattle.key_lists.specs.Keys.{keysOf, Keyed, Ordered, Tight, Longer, InRange, Movable, movedBy};
 
-// The first len items.
+// The first len keys of the word.
 pub struct Keys {
-    pub items: [usize; 8],
+    pub word: usize,
     pub len: usize,
 }
 
+// An order of one key at least, or none.
+pub enum Order {
+    Unordered,
+    By(Keys),
+}
+
 pub fn no_keys() -> Keys
-    ensures { λ r. ⌜ Keyed [] r ⌝ }
+    ensures { λ r. ⌜ Keyed [] r × Tight r ⌝ }
+{
+    Keys { word: 0, len: 0 }
+}
+
+// The order by the keys: of no keys none.
+pub fn order_of(k: Keys) -> Order
+    requires { ⌜ k .len ≤ 8 ⌝ }
+    ensures { λ r. ⌜ Ordered (keysOf k) r ⌝ }
+{
+    if k.len == 0 {
+        Order::Unordered
+    } else {
+        Order::By(k)
+    }
+}
+
+// The first n keys.
+pub fn front(k: Keys, n: usize) -> Keys
+    requires { ⌜ (n ≤ k .len) × (k .len ≤ 8) ⌝ }
+    ensures { λ r. ⌜ Keyed (take n (keysOf k)) r ⌝ }
 {
     Keys {
-        items: [0; 8],
-        len: 0,
+        word: k.word,
+        len: n,
+    }
+}
+
+// The list with one more key behind.
+pub fn appended(k: Keys, key: usize) -> Keys
+    requires { ⌜ Tight k × (k .len < 8) ⌝ }
+    ensures { λ r. ⌜ Longer k key r ⌝ }
+{
+    Keys {
+        word: k.word + placed(key, k.len),
+        len: k.len + 1,
+    }
+}
+
+// A key's seven bits, n bytes up.
+fn placed(key: usize, n: usize) -> usize
+    requires { ⌜ n < 8 ⌝ }
+    ensures { λ r. ⌜ r ≡ (key % 128) * 2 ^ (8 * n) ⌝ }
+{
+    (key & 127) << (8 * n)
+}
+
+// The first len keys of a row of numbers.
+pub fn keys_of(row: &[usize; 8], len: usize) -> Keys
+    requires { ⌜ (length (now row) ≡ 8) × (len ≤ 8) ⌝ }
+    ensures { λ r. ⌜ Keyed (map keyOf (take len (now (row .entry)))) r ⌝ }
+{
+    let low = placed(row[0], 0) + placed(row[1], 1) + placed(row[2], 2) + placed(row[3], 3);
+    let high = placed(row[4], 4) + placed(row[5], 5) + placed(row[6], 6) + placed(row[7], 7);
+    Keys {
+        word: low + high,
+        len: len,
     }
 }
 
@@ -47,104 +107,108 @@ pub fn same_key(a: usize, b: usize) -> bool
 }
 
 // Whether the first list is a prefix of the second.
-pub fn prefix(p: &[usize], q: &[usize]) -> bool
-    ensures { λ r. ⌜ r ≡ prefixb (map keyOf (now (p .entry))) (map keyOf (now (q .entry))) ⌝ }
+pub fn prefix(p: Keys, q: Keys) -> bool
+    ensures { λ r. ⌜ r ≡ prefixb (keysOf p) (keysOf q) ⌝ }
 {
-    let mut i = 0;
-    while i < p.len() {
-        if q.len() <= i {
+    let mut a = p.word;
+    let mut b = q.word;
+    let mut left = p.len;
+    let mut more = q.len;
+    while 0 < left {
+        if more == 0 {
             return false;
         }
-        if !same_key(p[i], q[i]) {
+        if !same_key(a, b) {
             return false;
         }
-        i += 1;
+        a = a >> 8;
+        b = b >> 8;
+        left -= 1;
+        more -= 1;
     }
     true
 }
 
-// How many keys two lists have in common in front.
-pub fn common_len(p: &[usize], q: &[usize]) -> usize
-    ensures { λ r. ⌜ Shared (now (p .entry)) (now (q .entry)) r ⌝ }
+// Whether two lists have the same keys.
+pub fn same_keys(p: Keys, q: Keys) -> bool
+    ensures { λ r. ⌜ r ≡ prefixb (keysOf p) (keysOf q) && eqb (length (keysOf p)) (length (keysOf q)) ⌝ }
 {
-    let mut i = 0;
-    while i < p.len() {
-        if q.len() <= i {
-            return i;
+    if p.len == q.len { prefix(p, q) } else { false }
+}
+
+// The keys that two lists have in common in front.
+pub fn common_keys(p: Keys, q: Keys) -> Keys
+    requires { ⌜ p .len ≤ 8 ⌝ }
+    ensures { λ r. ⌜ Keyed (common (keysOf p) (keysOf q)) r ⌝ }
+{
+    let mut a = p.word;
+    let mut b = q.word;
+    let mut left = p.len;
+    let mut more = q.len;
+    while 0 < left {
+        if more == 0 {
+            return front(p, p.len - left);
         }
-        if !same_key(p[i], q[i]) {
-            return i;
+        if !same_key(a, b) {
+            return front(p, p.len - left);
         }
-        i += 1;
+        a = a >> 8;
+        b = b >> 8;
+        left -= 1;
+        more -= 1;
     }
-    i
+    p
 }
 
 // The normal form: each column replaced by its class's lowest, constants dropped, later repeats dropped.
-pub fn normal(table: &[usize; 32], consts: u32, keys: &[usize]) -> Keys
+pub fn normal(table: &[usize; 32], consts: u32, k: Keys) -> Keys
     requires { ⌜ Small (now table) ⌝ }
-    requires { ⌜ length (now keys) ≤ 8 ⌝ }
-    ensures { λ r. ⌜ Keyed (nfBy (bit consts) (at (now (table .entry))) [] (map keyOf (now (keys .entry)))) r ⌝ }
+    requires { ⌜ k .len ≤ 8 ⌝ }
+    ensures { λ r. ⌜ Keyed (nfBy (bit consts) (at (now (table .entry))) [] (keysOf k)) r ⌝ }
 {
-    let mut items = [0usize; 8];
-    let mut n: usize = 0;
+    let mut out = no_keys();
     let mut seen = consts;
-    let mut i = 0;
-    while i < keys.len() {
-        let key = keys[i];
-        let c = low(table, column(key));
+    let mut rest = k.word;
+    let mut left = k.len;
+    while 0 < left {
+        let c = low(table, column(rest));
         if !has(seen, c) {
             seen = with(seen, c);
-            items[n] = with_column(key, c);
-            n += 1;
+            out = appended(out, with_column(rest, c));
         }
-        i += 1;
+        rest = rest >> 8;
+        left -= 1;
     }
-    Keys {
-        items: items,
-        len: n,
-    }
-}
-
-// A wanted order is met when its normal form is a prefix of the known order.
-pub fn met(table: &[usize; 32], consts: u32, known: &[usize], wanted: &[usize]) -> bool
-    requires { ⌜ Small (now table) ⌝ }
-    requires { ⌜ length (now wanted) ≤ 8 ⌝ }
-    ensures { λ r. ⌜ r ≡ prefixb (nfBy (bit consts) (at (now (table .entry))) [] (map keyOf (now (wanted .entry)))) (map keyOf (now (known .entry))) ⌝ }
-{
-    let w = normal(table, consts, wanted);
-    let items = w.items;
-    let n = w.len;
-    prefix(&items[..n], known)
-}
-
-// The first list is compatible with the second when the second's normal form is a prefix of the first's.
-pub fn compatible(table: &[usize; 32], consts: u32, first: &[usize], second: &[usize]) -> bool
-    requires { ⌜ Small (now table) ⌝ }
-    requires { ⌜ (length (now first) ≤ 8) × (length (now second) ≤ 8) ⌝ }
-    ensures { λ r. ⌜ r ≡ prefixb (nfBy (bit consts) (at (now (table .entry))) [] (map keyOf (now (second .entry)))) (nfBy (bit consts) (at (now (table .entry))) [] (map keyOf (now (first .entry)))) ⌝ }
-{
-    let f = normal(table, consts, first);
-    let items = f.items;
-    let n = f.len;
-    met(table, consts, &items[..n], second)
+    out
 }
 
 // The list less its constants and a column's later repeats.
-pub fn fresh_keys(consts: u32, keys: &[usize]) -> Keys
-    requires { ⌜ length (now keys) ≤ 8 ⌝ }
-    ensures { λ r. ⌜ Keyed (nfBy (bit consts) (λ c. c) [] (map keyOf (now (keys .entry)))) r ⌝ }
+pub fn fresh_keys(consts: u32, k: Keys) -> Keys
+    requires { ⌜ k .len ≤ 8 ⌝ }
+    ensures { λ r. ⌜ Keyed (nfBy (bit consts) (λ c. c) [] (keysOf k)) r ⌝ }
 {
-    let table = alone();
-    normal(&table, consts, keys)
+    let mut out = no_keys();
+    let mut gone = consts;
+    let mut rest = k.word;
+    let mut left = k.len;
+    while 0 < left {
+        let c = column(rest);
+        if !has(gone, c) {
+            gone = with(gone, c);
+            out = appended(out, rest);
+        }
+        rest = rest >> 8;
+        left -= 1;
+    }
+    out
 }
 
 // The list less a column's later repeats.
-pub fn drop_repeats(keys: &[usize]) -> Keys
-    requires { ⌜ length (now keys) ≤ 8 ⌝ }
-    ensures { λ r. ⌜ Keyed (dropRepeats [] (map keyOf (now (keys .entry)))) r ⌝ }
+pub fn drop_repeats(k: Keys) -> Keys
+    requires { ⌜ k .len ≤ 8 ⌝ }
+    ensures { λ r. ⌜ Keyed (dropRepeats [] (keysOf k)) r ⌝ }
 {
-    fresh_keys(0, keys)
+    fresh_keys(0, k)
 }
 
 // A column moved by an offset, which may be negative.
@@ -156,21 +220,41 @@ pub fn move_column(c: usize, by: isize) -> usize
 }
 
 // Each key's column moved by an offset.
-pub fn move_keys(keys: &[usize], by: isize) -> Keys
-    requires { ⌜ All (Movable by) (map keyOf (now keys)) ⌝ }
-    requires { ⌜ length (now keys) ≤ 8 ⌝ }
-    ensures { λ r. ⌜ Keyed (map (movedBy by) (map keyOf (now (keys .entry)))) r ⌝ }
+pub fn move_keys(k: Keys, by: isize) -> Keys
+    requires { ⌜ All (Movable by) (keysOf k) ⌝ }
+    requires { ⌜ k .len ≤ 8 ⌝ }
+    ensures { λ r. ⌜ Keyed (map (movedBy by) (keysOf k)) r ⌝ }
 {
-    let mut items = [0usize; 8];
-    let mut i = 0;
-    while i < keys.len() {
-        let key = keys[i];
-        let c = move_column(column(key), by);
-        items[i] = with_column(key, c);
-        i += 1;
+    let mut out = no_keys();
+    let mut rest = k.word;
+    let mut left = k.len;
+    while 0 < left {
+        let c = move_column(column(rest), by);
+        out = appended(out, with_column(rest, c));
+        rest = rest >> 8;
+        left -= 1;
     }
-    Keys {
-        items: items,
-        len: i,
+    out
+}
+
+// The set with one more column.
+fn joined(set: u32, c: usize) -> u32
+    requires { ⌜ c < 32 ⌝ }
+    ensures { λ r. ⌜ r ≡ bitOr set (2 ^ c) ⌝ }
+{
+    set | (1 << c)
+}
+
+// The set of the keys' columns.
+pub fn column_set(k: Keys) -> u32
+    requires { ⌜ k .len ≤ 8 ⌝ }
+    ensures { λ r. ⌜ r ≡ columnSet (map (λ k. k .col) (keysOf k)) ⌝ }
+{
+    let mut set: u32 = 0;
+    let mut i = k.len;
+    while 0 < i {
+        i -= 1;
+        set = joined(set, column(k.word >> (8 * i)));
     }
+    set
 }

@@ -15,9 +15,17 @@ pub record On : Type 0 where
   pub key : Key
   pub other : ℕ
 
+-- What a source declares: its columns and streams, the set of its constant columns by bits, the order of each stream, and whether its
+-- rows go on without end
+pub record SourceInfo : Type 0 where
+  pub width : ℕ
+  pub streams : ℕ
+  pub constants : ℕ
+  pub keys : List Key
+  pub unbounded : Bool
+
 pub data Op : Type 0 where
-  -- width, streams, constants as a set of columns by bits, keys, unbounded
-  source : ℕ → ℕ → ℕ → List Key → Bool → Op
+  source : SourceInfo → Op
   filter : Op
   -- for each output column its child column
   projection : List ℕ → Op
@@ -43,7 +51,7 @@ abbrev pub Plan : Type 0
 Plan = Forest Op
 
 abbrev pub kind : Op → Kind
-kind (source w n s ks u) = Source
+kind (source s) = Source
 kind filter = Filter
 kind (projection cols) = Projection
 kind union = Union

@@ -51,7 +51,7 @@ distributionOk Single = true
 distributionOk (Keyed s) = ltb s (2 ^ 32) && between 1 8 (ones s)
 
 abbrev pub fieldsOk : Op → Bool
-fieldsOk (source w n s ks u) = (between 1 32 w && between 1 64 n) && (ltb s (2 ^ 32) && few ks)
+fieldsOk (source s) = (between 1 32 (s .width) && between 1 64 (s .streams)) && (ltb (s .constants) (2 ^ 32) && few (s .keys))
 fieldsOk filter = true
 fieldsOk (projection cols) = between 1 32 (length cols)
 fieldsOk union = true
@@ -70,7 +70,7 @@ fieldsOk (partialSort p ks n f) = (some ks && fetchOk f) && (leb 1 n && ltb n (l
 
 -- Union 2-8 children; joins have two, sources none, the rest one
 abbrev pub childrenOk : Op → ℕ → Bool
-childrenOk (source w n s ks u) k = eqb k 0
+childrenOk (source s) k = eqb k 0
 childrenOk filter k = eqb k 1
 childrenOk (projection cols) k = eqb k 1
 childrenOk union k = between 2 8 k
@@ -98,7 +98,7 @@ joinWidth RightSemi a b = b
 joinWidth RightAnti a b = b
 
 abbrev pub width : Op → List ℕ → ℕ
-width (source w n s ks u) ws = w
+width (source s) ws = s .width
 width filter ws = getD ws 0 0
 width (projection cols) ws = length cols
 width union ws = getD ws 0 0
@@ -120,7 +120,7 @@ widths (tree o c r) = width o (widths c) ∷ widths r
 -- ---- 6 again: union children of unequal width
 
 abbrev pub unionOk : Op → List ℕ → Bool
-unionOk (source w n s ks u) ws = true
+unionOk (source s) ws = true
 unionOk filter ws = true
 unionOk (projection cols) ws = true
 unionOk union ws = every (λ w. eqb w (getD ws 0 0)) ws
@@ -169,7 +169,7 @@ distributionFits w (Keyed s) = setFits w s
 
 -- Source: own width; else the child's; joins: left's and right's; a projection may repeat columns
 abbrev pub columnsOk : Op → List ℕ → Bool
-columnsOk (source w n s ks u) ws = keysFit w ks && setFits w s
+columnsOk (source s) ws = keysFit (s .width) (s .keys) && setFits (s .width) (s .constants)
 columnsOk filter ws = true
 columnsOk (projection cols) ws = below (getD ws 0 0) cols
 columnsOk union ws = true

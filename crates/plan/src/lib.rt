@@ -37,7 +37,7 @@ pub enum Distribution {
     Keyed(u32),
 }
 
-// How many rows a node gives at most.
+// How many rows each output stream of a node has at most: 'Fetch and skip cut each output stream'.
 pub enum Fetch {
     Unlimited,
     AtMost(u32),

@@ -14,18 +14,27 @@ use Rattle.plan_passes.specs.Laws.{length-facts, count-le}
 use Rattle.plan_reader.specs.Stack.{accepted}
 use Rattle.plan_roundtrip.specs.Files.{passed}
 use Rattle.plan_arena.specs.declared.Answer.{Answer}
+use Rattle.arena.specs.Arena.{slotSize}
 use Rattle.plan_arena.specs.Fill.{HoldsTree, Fillable}
+
+-- The bytes of the slots for the records that a block can hold
+abbrev pub blockSlots : ℕ
+blockSlots = 7 * slotSize
+
+-- A file is refused with no slot used
+abbrev pub refusedWith : Refusal → Answer
+refusedWith x = record { refusal = x; used = 0; root = 0 }
 
 -- The file s is refused as 01 says, and the memory m stays; or m becomes m', which holds the file's tree
 pub record ReadAs (s m m' : List ℕ) (r : Answer) : Type 0 where
   pub refusal : r .refusal ≡ refusalOf s
   pub holds : refusalOf s ≡ Accepted → HoldsTree s m' (r .used) (r .root)
-  pub stays : (refusalOf s ≡ Accepted → ⊥) → m' ≡ m
+  pub stays : (refusalOf s ≡ Accepted → ⊥) → (m' ≡ m) × (r ≡ refusedWith (refusalOf s))
 
 pub few-blocks : (s : List ℕ) → refusalOf s ≡ Accepted → (1 ≤ blockCount s) × (blockCount s ≤ 18)
 few-blocks s e = length-facts true (length s) (sym (passed s e .len)) refl
 
-pub fillable : (s : List ℕ) (c room : ℕ) → refusalOf s ≡ Accepted → c ≡ recordCount s → 1344 * blockCount s ≤ room → Fillable s c room
+pub fillable : (s : List ℕ) (c room : ℕ) → refusalOf s ≡ Accepted → c ≡ recordCount s → blockSlots * blockCount s ≤ room → Fillable s c room
 fillable s c room e q h =
     let v = passed s e in
     let b = few-blocks s e in

@@ -13,10 +13,10 @@ use Rattle.plan_roundtrip.specs.Back.{AllBytes}
 use Rattle.plan_roundtrip.specs.Files.{length-span}
 use Rattle.plan_roundtrip.specs.Tree.{nodes-build}
 use Rattle.plan_roundtrip.specs.Plans.{file-back}
-use Rattle.arena.specs.Arena.{held, treeAt}
+use Rattle.arena.specs.Arena.{slotSize, held, treeAt}
 use Rattle.plan_arena.specs.Fill.{HoldsTree}
 use Rattle.plan_arena.specs.Flat.{Flattens}
-use Rattle.plan_arena.specs.Answers.{fillable}
+use Rattle.plan_arena.specs.Answers.{blockSlots, fillable}
 
 pub size-nodes : {A : Type 0} (f : Forest A) → size f ≡ length (nodes f)
 size-nodes none = refl
@@ -26,10 +26,10 @@ size-nodes (tree a c r) = let p = size-nodes c in let q = size-nodes r in let l 
 pub size-tree : (s : List ℕ) → size (treeOf s) ≡ recordCount s
 size-tree s = size-nodes (treeOf s) ∙ ap length (nodes-build (records s)) ∙ length-span (recordAt s) 0 (recordCount s)
 
-pub holds-flattens : (s m : List ℕ) (u r : ℕ) → refusalOf s ≡ Accepted → HoldsTree s m u r → u * 192 ≤ length m → Flattens m u r 8064
+pub holds-flattens : (s m : List ℕ) (u r : ℕ) → refusalOf s ≡ Accepted → HoldsTree s m u r → u * slotSize ≤ length m → Flattens m u r 8064
 holds-flattens s m u r e h l =
     let z = ap size (h .tree) ∙ size-tree s in
-    let f = fillable s (recordCount s) (1344 * blockCount s) e refl (omega arith) .most in
+    let f = fillable s (recordCount s) (blockSlots * blockCount s) e refl (omega arith) .most in
     record { slots = l; good = h .good; here = h .here; few = omega arith; fits = omega arith }
 
 pub held-back : (s m : List ℕ) (u r : ℕ) → AllBytes s → refusalOf s ≡ Accepted → HoldsTree s m u r → fileOfTree (treeAt (held m u) r) ≡ s

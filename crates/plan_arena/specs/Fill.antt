@@ -19,17 +19,17 @@ use Rattle.plan_format.specs.Reading.{finished, enough, childrenAt, kindsOk, tr
 use Rattle.plan_format.specs.Tree.{takeF, dropF, build, treeOf}
 use Rattle.plan_passes.specs.Laws.{past, past-back, past-all}
 use Rattle.plan_reader.specs.Stack.{push, rest, rest-back, enough-at, kidByte, kid-byte}
-use Rattle.arena.specs.Arena.{Node, held, leaf, beside, forest, planted, trees, treeAt, at, Below, Fine, Good, same, more}
-use Rattle.arena.specs.Laws.{at-new, length-trees, ext-tree, below-more, below-take, below-drop, forest-new, forest-take, forest-drop}
-use Rattle.arena.specs.Held.{nodeOf, length-held, Appends}
+use Rattle.arena.specs.Arena.{Node, slotSize, index, held, leaf, beside, forest, planted, trees, treeAt, at, Below, Fine, Good, same, more}
+use Rattle.arena.specs.Laws.{index-even, at-new, length-trees, ext-tree, below-more, below-take, below-drop, forest-new, forest-take, forest-drop}
+use Rattle.arena.specs.Held.{nodeOf, length-held, Appends, Appended, held-more}
 use Rattle.plan_arena.specs.Parts.{Part, here, part-new}
 
--- What the file s leaves in the memory m: its nodes in the first u slots and no others, its tree at number r
+-- What the file s leaves in the memory m: its nodes in the first u slots and no others, its tree at the handle r. What is kept of them is free
 pub record HoldsTree (s m : List ℕ) (u r : ℕ) : Type 0 where
   pub used : u ≡ recordCount s
   pub good : Good (held m u)
-  pub here : r < u
-  pub parts : (j : ℕ) → j < u → Part (treeAt (held m u) j) (treeOf s)
+  pub here : r < 2 * u
+  pub parts : (j : ℕ) → j < u → Part (treeAt (held m u) (2 * j)) (treeOf s)
   pub tree : treeAt (held m u) r ≡ treeOf s
 
 -- Before record i of c: u nodes, the stack from t on
@@ -39,10 +39,10 @@ pub record Filled (s : List ℕ) (c i u t : ℕ) (w m : List ℕ) : Type 0 where
   pub top : t ≤ 126
   pub wide : length w ≡ 126
   pub good : Good (held m u)
-  pub below : Below u (drop t w)
+  pub below : Below (2 * u) (drop t w)
   pub count : length (drop t w) ≡ finished (past (childrenAt s) c i)
   pub are : forest (trees (held m u)) (drop t w) ≡ build (rest s c i)
-  pub parts : (j : ℕ) → j < u → Part (treeAt (held m u) j) (build (rest s c i))
+  pub parts : (j : ℕ) → j < u → Part (treeAt (held m u) (2 * j)) (build (rest s c i))
 
 pub fill-start : (s : List ℕ) (c : ℕ) (w m : List ℕ) → c ≤ 126 → length w ≡ 126 → Filled s c c 0 126 w m
 unfolding span held trees forest
@@ -78,7 +78,7 @@ pub record Fillable (s : List ℕ) (c room : ℕ) : Type 0 where
   pub most : c ≤ 126
   pub kinds : kindsOk s ≡ true
   pub shape : treeOk s ≡ true
-  pub fits : c * 192 ≤ room
+  pub fits : c * slotSize ≤ room
 
 module _ (s : List ℕ) (c room : ℕ) (a : Fillable s c room) where
   enough-all : enough (span (childrenAt s) 0 c) ≡ true
@@ -106,25 +106,25 @@ module _ (s : List ℕ) (c room : ℕ) (a : Fillable s c room) where
     pub fill-fits : t + childrenAt s (i - 1) ≤ 126
     fill-fits = let f = found in let l = p .wide in let o = p .top in let d = length-drop t w in omega arith
 
-    pub fill-fine : (k : ℕ) → k ≡ childrenAt s (i - 1) → (length (take k (drop t w)) ≡ children (recordAt s (i - 1))) × Below u (take k (drop t w))
-    fill-fine k e = let f = found in (length-take-le k (drop t w) (omega arith) ∙ e, below-take u k (drop t w) (p .below))
+    pub fill-fine : (k : ℕ) → k ≡ childrenAt s (i - 1) → (length (take k (drop t w)) ≡ children (recordAt s (i - 1))) × Below (2 * u) (take k (drop t w))
+    fill-fine k e = let f = found in (length-take-le k (drop t w) (omega arith) ∙ e, below-take (2 * u) k (drop t w) (p .below))
 
     -- each node's tree is a part of the new forest
-    part-more : (k j : ℕ) → k ≡ childrenAt s (i - 1) → j < u + 1 → Dec (j ≡ u) → Part (treeAt (nodeOf (recordAt s (i - 1)) (take k (drop t w)) ∷ held m u) j) (build (recordAt s (i - 1) ∷ rest s c i))
+    part-more : (k j : ℕ) → k ≡ childrenAt s (i - 1) → j < u + 1 → Dec (j ≡ u) → Part (treeAt (nodeOf (recordAt s (i - 1)) (take k (drop t w)) ∷ held m u) (2 * j)) (build (recordAt s (i - 1) ∷ rest s c i))
     unfolding trees
     part-more k j e v (yes q) =
         let ns : List Node = held m u in
         let r : List ℕ = recordAt s (i - 1) in
-        let new : at leaf (trees (nodeOf r (take k (drop t w)) ∷ ns)) j ≡ planted (trees ns) (nodeOf r (take k (drop t w))) = at-new leaf _ (trees ns) j (q ∙ sym (length-held m u) ∙ sym (length-trees ns)) in
+        let new : at leaf (trees (nodeOf r (take k (drop t w)) ∷ ns)) (index (2 * j)) ≡ planted (trees ns) (nodeOf r (take k (drop t w))) = at-new leaf _ (trees ns) (index (2 * j)) (index-even j ∙ q ∙ sym (length-held m u) ∙ sym (length-trees ns)) in
         let kids : forest (trees ns) (take k (drop t w)) ≡ takeF (children r) (build (rest s c i)) = forest-take (trees ns) k (drop t w) ∙ ap₂ takeF e (p .are) in
         subst (λ x. Part x (build (r ∷ rest s c i))) (sym (ap (λ x. beside x none) new ∙ ap (λ f. tree r f none) kids)) here
     part-more k j e v (no f) =
         let l : j < u = omega arith in
-        subst (λ x. Part x (build (recordAt s (i - 1) ∷ rest s c i))) (sym (ext-tree {a = held m u} {b = nodeOf (recordAt s (i - 1)) (take k (drop t w)) ∷ held m u} (more same) j (rw length-held l)))
+        subst (λ x. Part x (build (recordAt s (i - 1) ∷ rest s c i))) (sym (ext-tree {a = held m u} {b = nodeOf (recordAt s (i - 1)) (take k (drop t w)) ∷ held m u} (more same) (2 * j) (rw (index-even j, length-held) l)))
         (part-new (recordAt s (i - 1)) (childrenAt s (i - 1)) (p .parts j l))
 
     pub fill-more : (k : ℕ) (m' : List ℕ) → k ≡ childrenAt s (i - 1) → held m' (u + 1) ≡ nodeOf (recordAt s (i - 1)) (take k (drop t w)) ∷ held m u
-        → Filled s c (i - 1) (u + 1) (t + k - 1) (set w (t + k - 1) u) m'
+        → Filled s c (i - 1) (u + 1) (t + k - 1) (set w (t + k - 1) (2 * u)) m'
     fill-more k m' e h =
         let n = p .new in let r = p .room in let o = p .top in let l = p .wide in
         let f = fill-fits in let q = found in
@@ -132,20 +132,20 @@ module _ (s : List ℕ) (c room : ℕ) (a : Fillable s c room) where
         let ns : List Node = held m u in
         let node : Node = nodeOf (recordAt s (i - 1)) (take k ws) in
         let lu : length ns ≡ u = length-held m u in
-        let st : drop (t + k - 1) (set w (t + k - 1) u) ≡ u ∷ drop k ws = push w t k u (omega arith) (omega arith) in
+        let st : drop (t + k - 1) (set w (t + k - 1) (2 * u)) ≡ 2 * u ∷ drop k ws = push w t k (2 * u) (omega arith) (omega arith) in
         let back : rest s c (i - 1) ≡ recordAt s (i - 1) ∷ rest s c i = rest-back s c i z (omega arith) in
         let pb : past (childrenAt s) c (i - 1) ≡ childrenAt s (i - 1) ∷ past (childrenAt s) c i = past-back (childrenAt s) c (i - 1) (omega arith) ∙ ap (λ (x : ℕ). childrenAt s (i - 1) ∷ past (childrenAt s) c x) g in
         let cnt : finished (past (childrenAt s) c (i - 1)) ≡ finished (past (childrenAt s) c i) - childrenAt s (i - 1) + 1 = ap finished pb in
         let ld = length-drop k ws in let pc = p .count in
-        let bk : Below u (drop k ws) = below-drop u k ws (p .below) in
+        let bk : Below (2 * u) (drop k ws) = below-drop (2 * u) k ws (p .below) in
         let fine : Fine u node = record { below = fill-fine k e .1; long = long-record (i - 1) (omega arith); count = fill-fine k e .0; few = few-children (i - 1) (omega arith) } in
-        let new : forest (trees (node ∷ ns)) (u ∷ drop k ws) ≡ tree (recordAt s (i - 1)) (forest (trees ns) (take k ws)) (forest (trees ns) (drop k ws)) =
-        (ap (λ (x : ℕ). forest (trees (node ∷ ns)) (x ∷ drop k ws)) (sym lu) ∙ forest-new ns node (drop k ws) (rw lu bk)) in
+        let new : forest (trees (node ∷ ns)) (2 * u ∷ drop k ws) ≡ tree (recordAt s (i - 1)) (forest (trees ns) (take k ws)) (forest (trees ns) (drop k ws)) =
+        (ap (λ (x : ℕ). forest (trees (node ∷ ns)) (2 * x ∷ drop k ws)) (sym lu) ∙ forest-new ns node (drop k ws) (rw lu bk)) in
         record {
           new = omega arith;
           room = omega arith;
           top = omega arith;
-          wide = length-set w (t + k - 1) u ∙ l;
+          wide = length-set w (t + k - 1) (2 * u) ∙ l;
           good = rw h (p .good, rw lu fine);
           below = rw st (omega arith, below-more (drop k ws) (omega arith) bk);
           count = ap length st ∙ omega arith;
@@ -156,7 +156,7 @@ module _ (s : List ℕ) (c room : ℕ) (a : Fillable s c room) where
         }
 
     -- as the code lends the record and the children
-    pub fill-appends : c * 192 ≤ length m → Appends m u (take (recordStart (i - 1) + 64 - recordStart (i - 1)) (drop (recordStart (i - 1)) s)) (take (t + kidByte s (i - 1) - t) (drop t w))
+    pub fill-appends : c * slotSize ≤ length m → Appends m u (take (recordStart (i - 1) + 64 - recordStart (i - 1)) (drop (recordStart (i - 1)) s)) (take (t + kidByte s (i - 1) - t) (drop t w))
     fill-appends h =
         let n = p .new in let l = a .most in
         let e = kid-byte s (i - 1) in
@@ -169,9 +169,9 @@ module _ (s : List ℕ) (c room : ℕ) (a : Fillable s c room) where
           small = below-more (take (kidByte s (i - 1)) (drop t w)) (omega arith) (f .1);
         }
 
-    pub fill-next : (m' : List ℕ) → held m' (u + 1) ≡ nodeOf (take (recordStart (i - 1) + 64 - recordStart (i - 1)) (drop (recordStart (i - 1)) s)) (take (t + kidByte s (i - 1) - t) (drop t w)) ∷ held m u
-        → Filled s c (i - 1) (u + 1) (t + kidByte s (i - 1) - 1) (set w (t + kidByte s (i - 1) - 1) u) m'
-    fill-next m' h = fill-more (kidByte s (i - 1)) m' (kid-byte s (i - 1)) (rw (cut s (recordStart (i - 1)) 64, cut w t (kidByte s (i - 1))) at h)
+    pub fill-next : (m' : List ℕ) → Appended m u (take (recordStart (i - 1) + 64 - recordStart (i - 1)) (drop (recordStart (i - 1)) s)) (take (t + kidByte s (i - 1) - t) (drop t w)) m'
+        → Filled s c (i - 1) (u + 1) (t + kidByte s (i - 1) - 1) (set w (t + kidByte s (i - 1) - 1) (2 * u)) m'
+    fill-next m' h = fill-more (kidByte s (i - 1)) m' (kid-byte s (i - 1)) (rw (cut s (recordStart (i - 1)) 64, cut w t (kidByte s (i - 1))) at (held-more m u _ _ m' h))
 
     pub fill-room : (t + kidByte s (i - 1) ≤ 126) × (0 < t + kidByte s (i - 1))
     fill-room = let e = kid-byte s (i - 1) in let f = fill-fits in let r = p .room in (omega arith, omega arith)
@@ -195,7 +195,7 @@ module _ (s : List ℕ) (c room : ℕ) (a : Fillable s c room) where
           used = omega arith;
           good = p .good;
           here = (rw one at (p .below)) .0;
-          parts = λ j l. subst (Part (treeAt (held m u) j)) whole (p .parts j l);
+          parts = λ j l. subst (Part (treeAt (held m u) (2 * j))) whole (p .parts j l);
           tree = sym (ap (forest (trees (held m u))) one) ∙ p .are ∙ whole;
         },
       )

@@ -12,8 +12,8 @@ use Rattle.plan.specs.Forest.{tree, size, nodes}
 use Rattle.plan_format.specs.Record.{children}
 use Rattle.plan_roundtrip.specs.Files.{length-span}
 use Rattle.plan_format.specs.Writing.{joined}
-use Rattle.arena.specs.Arena.{Tree, slot, held, forest, trees, treeAt, at, leaf, Below, Fine, Good}
-use Rattle.arena.specs.Laws.{onto, below-more}
+use Rattle.arena.specs.Arena.{slotSize, recordSize, index, Tree, beside, slot, held, forest, trees, treeAt, at, leaf, Below, Fine, Good}
+use Rattle.arena.specs.Laws.{index-even, onto, below-more}
 use Rattle.arena.specs.Held.{view}
 
 -- ---- children onto the stack
@@ -58,13 +58,13 @@ pushed-end ks t w₀ j top w h p =
 
 pub length-kids : (m : List ℕ) (k : ℕ) → length (slot m k .kids) ≡ children (slot m k .rec)
 unfolding slot
-length-kids m k = length-span (λ j. le16 (part (k * 192 + 64) 16 m) (2 * j)) 0 (children (part (k * 192) 64 m))
+length-kids m k = length-span (λ j. le16 (part (k * slotSize + recordSize) 16 m) (2 * j)) 0 (children (part (k * slotSize) recordSize m))
 
 nodes-append : (ts : List Tree) (x y : List ℕ) → nodes (forest ts (x ++ y)) ≡ nodes (forest ts x) ++ nodes (forest ts y)
 unfolding forest
 nodes-append ts [] y = refl
 nodes-append ts (k ∷ x) y =
-    let t : Tree = at leaf ts k in
+    let t : Tree = at leaf ts (index k) in
     ap (λ (l : List (List ℕ)). t .root ∷ (nodes (t .below) ++ l)) (nodes-append ts x y) ∙ ap (λ (l : List (List ℕ)). t .root ∷ l) (sym (append-assoc (nodes (t .below)) (nodes (forest ts x)) (nodes (forest ts y))))
 
 size-append : (ts : List Tree) (x y : List ℕ) → size (forest ts (x ++ y)) ≡ size (forest ts x) + size (forest ts y)
@@ -77,18 +77,20 @@ unfolding forest
 few-roots ts [] = omega arith
 few-roots ts (k ∷ x) = let h = few-roots ts x in omega arith
 
-first-tree : (m : List ℕ) (u k : ℕ) (ws : List ℕ) → Good (held m u) → k < u
-    → forest (trees (held m u)) (k ∷ ws) ≡ tree (slot m k .rec) (forest (trees (held m u)) (slot m k .kids)) (forest (trees (held m u)) ws)
+first-tree : (m : List ℕ) (u k : ℕ) (ws : List ℕ) → Good (held m u) → k < 2 * u
+    → forest (trees (held m u)) (k ∷ ws) ≡ tree (slot m (index k) .rec) (forest (trees (held m u)) (slot m (index k) .kids)) (forest (trees (held m u)) ws)
 unfolding forest
-first-tree m u k ws g h = ap (λ f. onto f (forest (trees (held m u)) ws)) (view m u k g h .tree)
+first-tree m u k ws g h =
+    ap (λ i. beside (at leaf (trees (held m u)) i) (forest (trees (held m u)) ws)) (sym (index-even (index k)))
+    ∙ ap (λ f. onto f (forest (trees (held m u)) ws)) (view m u (index k) g (omega arith) .tree)
 
 -- ---- the walk
 
--- What `flatten` asks: tree i of the arena, with room for its records
+-- What `flatten` asks: the tree of a handle i of the arena, with room for its records
 pub record Flattens (m : List ℕ) (u i room : ℕ) : Type 0 where
-  pub slots : u * 192 ≤ length m
+  pub slots : u * slotSize ≤ length m
   pub good : Good (held m u)
-  pub here : i < u
+  pub here : i < 2 * u
   pub few : size (treeAt (held m u) i) ≤ 126
   pub fits : 64 * size (treeAt (held m u) i) ≤ room
 
@@ -96,7 +98,7 @@ pub record Flattens (m : List ℕ) (u i room : ℕ) : Type 0 where
 pub record Flat (m : List ℕ) (u i n t : ℕ) (w rs₀ rs : List ℕ) : Type 0 where
   pub wide : length w ≡ 126
   pub top : t ≤ 126
-  pub below : Below u (drop t w)
+  pub below : Below (2 * u) (drop t w)
   pub left : n + size (forest (trees (held m u)) (drop t w)) ≡ size (treeAt (held m u) i)
   pub long : length rs ≡ length rs₀
   pub done : take (64 * n) rs ++ joined (nodes (forest (trees (held m u)) (drop t w))) ≡ joined (nodes (treeAt (held m u) i))
@@ -122,32 +124,32 @@ module _ (m : List ℕ) (u i : ℕ) (rs₀ : List ℕ) (a : Flattens m u i (leng
     stack : drop t w ≡ getD w t 0 ∷ drop (t + 1) w
     stack = let l = p .wide in rw add-one (drop-cons w t 0 (omega arith))
 
-    pub flat-here : getD w t 0 < u
+    pub flat-here : getD w t 0 < 2 * u
     flat-here = (rw stack at (p .below)) .0
 
-    grown : forest (trees (held m u)) (drop t w) ≡ tree (slot m k .rec) (forest (trees (held m u)) (slot m k .kids)) (forest (trees (held m u)) (drop (t + 1) w))
+    grown : forest (trees (held m u)) (drop t w) ≡ tree (slot m (index k) .rec) (forest (trees (held m u)) (slot m (index k) .kids)) (forest (trees (held m u)) (drop (t + 1) w))
     grown = ap (forest (trees (held m u))) stack ∙ first-tree m u k (drop (t + 1) w) (a .good) flat-here
 
-    pub flat-fine : Fine (getD w t 0) (slot m (getD w t 0))
-    flat-fine = view m u k (a .good) flat-here .fine
+    pub flat-fine : Fine (index (getD w t 0)) (slot m (index (getD w t 0)))
+    flat-fine = let h = flat-here in view m u (index k) (a .good) (omega arith) .fine
 
     -- there is room for the record and for the children
-    pub flat-room : (64 * n + 64 ≤ length rs) × (children (slot m (getD w t 0) .rec) ≤ t + 1)
+    pub flat-room : (64 * n + 64 ≤ length rs) × (children (slot m (index (getD w t 0)) .rec) ≤ t + 1)
     flat-room =
         let l = p .left in let g = p .long in let f = a .few in let b = a .fits in let o = p .wide in
         let s = ap size grown in
-        let c = few-roots (trees (held m u)) (slot m k .kids) in let d = few-roots (trees (held m u)) (drop (t + 1) w) in
-        let e = length-kids m k in let q = length-drop (t + 1) w in
+        let c = few-roots (trees (held m u)) (slot m (index k) .kids) in let d = few-roots (trees (held m u)) (drop (t + 1) w) in
+        let e = length-kids m (index k) in let q = length-drop (t + 1) w in
         (omega arith, omega arith)
 
     pub flat-next : n < size (treeAt (held m u) i)
     flat-next = let l = p .left in let s = ap size grown in omega arith
 
-    pub flat-more : (t' : ℕ) (w' p' : List ℕ) → length w' ≡ length w → t' ≤ 126 → drop t' w' ≡ slot m (getD w t 0) .kids ++ drop (t + 1) w → p' ≡ slot m (getD w t 0) .rec
+    pub flat-more : (t' : ℕ) (w' p' : List ℕ) → length w' ≡ length w → t' ≤ 126 → drop t' w' ≡ slot m (index (getD w t 0)) .kids ++ drop (t + 1) w → p' ≡ slot m (index (getD w t 0)) .rec
         → Flat m u i (n + 1) t' w' rs₀ (splice rs (64 * n) 64 p')
     flat-more t' w' p' lw ht e ep =
         let l = p .left in let fr = flat-room .0 in let g = p .long in
-        let ks : List ℕ = slot m k .kids in
+        let ks : List ℕ = slot m (index k) .kids in
         let ws : List ℕ = drop (t + 1) w in
         let fine = flat-fine in
         let lp : length p' ≡ 64 = ap length ep ∙ fine .long in
@@ -157,17 +159,17 @@ module _ (m : List ℕ) (u i : ℕ) (rs₀ : List ℕ) (a : Flattens m u i (leng
         let here = flat-here in
         let q : 64 * (n + 1) ≡ 64 * n + 64 = omega arith in
         let N : List ℕ = joined (nodes (forest (trees (held m u)) (ks ++ ws))) in
-        let nn : joined (nodes (forest (trees (held m u)) (drop t w))) ≡ slot m k .rec ++ N =
-        (ap (λ f. joined (nodes f)) grown ∙ ap (λ (x : List (List ℕ)). slot m k .rec ++ joined x) (sym (nodes-append (trees (held m u)) ks ws))) in
+        let nn : joined (nodes (forest (trees (held m u)) (drop t w))) ≡ slot m (index k) .rec ++ N =
+        (ap (λ f. joined (nodes f)) grown ∙ ap (λ (x : List (List ℕ)). slot m (index k) .rec ++ joined x) (sym (nodes-append (trees (held m u)) ks ws))) in
         record {
           wide = lw ∙ p .wide;
           top = ht;
-          below = rw e (below-join u ks ws (below-more ks (omega arith) (fine .below)) (rw stack at (p .below)));
+          below = rw e (below-join (2 * u) ks ws (below-more ks (omega arith) (fine .below)) (rw stack at (p .below)));
           left = omega arith;
           long = splice-length rs p' (64 * n) 64 fr lp ∙ g;
           done = ap₂ (λ (x : ℕ) (y : List ℕ). take x (splice rs (64 * n) 64 p') ++ joined (nodes (forest (trees (held m u)) y))) q e
               ∙ ap (λ (x : List ℕ). x ++ N) (splice-take rs p' (64 * n) 64 fr lp ∙ ap (λ (x : List ℕ). take (64 * n) rs ++ x) ep)
-              ∙ append-assoc (take (64 * n) rs) (slot m k .rec) N
+              ∙ append-assoc (take (64 * n) rs) (slot m (index k) .rec) N
               ∙ ap (λ (x : List ℕ). take (64 * n) rs ++ x) (sym nn) ∙ p .done;
         }
       where

@@ -7,11 +7,13 @@ ghost use Rattle.plan.specs.Forest.{size, nodes};
 ghost use Rattle.plan_format.specs.Record.{children};
 ghost use Rattle.plan_format.specs.Blocks.{blockCount};
 ghost use Rattle.plan_format.specs.Writing.{joined, writeRefusal, written};
-ghost use Rattle.arena.specs.Arena.{slot, held, treeAt};
+ghost use Rattle.arena.specs.Arena.{slotSize, slot, held, treeAt};
 ghost use Rattle.plan_arena.specs.Flat.{Flattens};
-ghost use Rattle.plan_arena.specs.Answers.{ReadAs};
+ghost use Rattle.plan_arena.specs.Answers.{blockSlots, ReadAs};
 ghost use Rattle.plan_arena.specs.Fill.{Fillable, HoldsTree};
 use arena::At;
+use arena::RECORD;
+use arena::read64;
 use plan::Refusal;
 
 // The c records of the accepted file s into the arena, from the last to the first: children come before their parent.
@@ -26,11 +28,11 @@ fn fill(s: &[u8], c: usize, m: &mut [u8]) -> At
     while 0 < i {
         let j = i - 1;
         let at = 512 * (j / 7) + (8 + 64 * (j % 7));
-        let e = at + 64;
+        let e = at + RECORD;
         let f = t + s[at + 1] as usize;
         arena::append(m, u, &s[at..e], &w[t..f]);
         t = f - 1;
-        w[t] = u;
+        w[t] = 2 * u;
         u += 1;
         i = j;
     }
@@ -41,7 +43,7 @@ fn fill(s: &[u8], c: usize, m: &mut [u8]) -> At
     }
 }
 
-// What reading answers: the refusal, or where the file's tree is.
+// What reading answers: the refusal, or how many slots are used and the handle of the file's tree.
 pub struct Answer {
     pub refusal: Refusal,
     pub used: usize,
@@ -50,7 +52,7 @@ pub struct Answer {
 
 // The plan file s into the memory m, which has room for a node of each record that its blocks can hold.
 pub fn read(s: &[u8], m: &mut [u8]) -> Answer
-    requires { ⌜ 1344 * blockCount (now s) ≤ length (now m) ⌝ }
+    requires { ⌜ blockSlots * blockCount (now s) ≤ length (now m) ⌝ }
     ensures { λ r. ⌜ ReadAs (now (s .entry)) (now (m .entry)) (now (m .exit)) r ⌝ }
 {
     let x = plan_reader::refusal_of(s);
@@ -73,7 +75,7 @@ pub fn read(s: &[u8], m: &mut [u8]) -> Answer
 
 // The children of node k onto the stack that starts at t of w, the first on top: where it starts then.
 fn push_children(m: &[u8], k: usize, w: &mut [usize], t: usize) -> usize
-    requires { ⌜ ((k + 1) * 192 ≤ length (now m)) × (children (slot (now m) k .rec) ≤ 8) × (children (slot (now m) k .rec) ≤ t) × (t ≤ length (now w)) ⌝ }
+    requires { ⌜ ((k + 1) * slotSize ≤ length (now m)) × (children (slot (now m) k .rec) ≤ 8) × (children (slot (now m) k .rec) ≤ t) × (t ≤ length (now w)) ⌝ }
     ensures { λ r. ⌜ (r + length (slot (now (m .entry)) k .kids) ≡ t) × (drop r (now (w .exit)) ≡ slot (now (m .entry)) k .kids ++ drop t (now (w .entry))) ⌝ }
 {
     let mut j = arena::child_count(m, k);
@@ -86,7 +88,7 @@ fn push_children(m: &[u8], k: usize, w: &mut [usize], t: usize) -> usize
     top
 }
 
-// The records of tree i in node order, one after the other, over the start of rs: how many.
+// The records of the tree at the handle i in node order, one after the other, over the start of rs: how many.
 fn flatten(m: &[u8], u: usize, i: usize, rs: &mut [u8]) -> usize
     requires { ⌜ Flattens (now m) u i (length (now rs)) ⌝ }
     ensures { λ n. ⌜ (n ≡ size (treeAt (held (now (m .entry)) u) i)) × (take (64 * n) (now (rs .exit)) ≡ joined (nodes (treeAt (held (now (m .entry)) u) i))) ⌝ }
@@ -96,23 +98,24 @@ fn flatten(m: &[u8], u: usize, i: usize, rs: &mut [u8]) -> usize
     let mut t = 125;
     let mut n = 0;
     while t < 126 {
-        let k = w[t];
-        let at = 64 * n;
-        let e = at + 64;
-        scan::copy(&mut rs[at..e], arena::record_at(m, k));
+        let k = w[t] / 2;
+        let at = RECORD * n;
+        let e = at + RECORD;
+        let row = read64(arena::record_at(m, k));
+        scan::copy(&mut rs[at..e], &row);
         t = push_children(m, k, &mut w, t + 1);
         n += 1;
     }
     n
 }
 
-// The file of tree i over the start of out.
+// The file of the tree at the handle i over the start of out.
 pub fn write(m: &[u8], u: usize, i: usize, out: &mut [u8]) -> Refusal
     requires { ⌜ Flattens (now m) u i 8064 ⌝ }
     ensures { λ x. ⌜ (x ≡ writeRefusal (joined (nodes (treeAt (held (now (m .entry)) u) i))) (now (out .entry))) × (now (out .exit) ≡ written (joined (nodes (treeAt (held (now (m .entry)) u) i))) (now (out .entry))) ⌝ }
 {
     let mut rs = [0u8; 8064];
     let n = flatten(m, u, i, &mut rs);
-    let e = 64 * n;
+    let e = RECORD * n;
     plan_writer::write(&rs[..e], out)
 }

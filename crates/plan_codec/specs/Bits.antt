@@ -1,6 +1,6 @@
 -- Bits and bytes of single fields, there and back.
 use mathlib.Core.Path.{_≡_, refl, sym, ap, ap₂}
-use mathlib.Core.Bool.{Bool, true, false, cond, _&&_, _||_}
+use mathlib.Core.Bool.{Bool, true, false, cond, _&&_}
 use Prim.Native.Nat.{ℕ, zero, suc, _+_, _*_, _<_}
 use native.Mathlib.Omega.{arith}
 use lib.Dec.{leb, ltb, eqb}
@@ -20,10 +20,6 @@ use Rattle.plan_codec.specs.Decode.{fetchOf, keyOf}
 use Rattle.plan_codec.specs.Encode.{num, marksByte, fetchNumber, optionsByte}
 
 -- ---- Booleans
-
-pub or-false : (b : Bool) → (b || false) ≡ b
-or-false true = refl
-or-false false = refl
 
 pub no-false : {A : Type 0} → false ≡ true → A
 no-false e = absurd (let z : _≡_ {A = ℕ} 0 1 = ap (λ (b : Bool). cond b 1 0) e in omega arith)

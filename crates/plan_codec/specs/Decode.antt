@@ -65,7 +65,7 @@ onOf (k ∷ ks) (c ∷ l) = record { key = k; other = c } ∷ onOf ks l
 
 -- What each kind has. "32-35 a column set by bits (source: constants; kind 13: keyed columns); 32-63 projection: child columns"
 abbrev pub operatorOf : Kind → NodeRecord → Op
-operatorOf Source x = source (x .width) (x .streams) (le32 (x .tail) 0) (x .keys) (x .unbounded)
+operatorOf Source x = source (record { width = x .width; streams = x .streams; constants = le32 (x .tail) 0; keys = x .keys; unbounded = x .unbounded })
 operatorOf Filter x = filter
 operatorOf Projection x = projection (take (x .width) (x .tail))
 operatorOf Union x = union

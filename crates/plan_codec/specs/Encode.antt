@@ -61,7 +61,7 @@ keyedSet (Keyed s) = s
 -- What each kind has; all else is zero. "32-35 a column set by bits (source: constants; kind 13: keyed columns); 32-63 projection: child columns;
 -- 32-39 joins: right key columns"
 abbrev pub recordOf : ℕ → Op → NodeRecord
-recordOf k (source w n s ks u) = record { kind = Source; children = k; streams = n; preserve = false; hash = false; unbounded = u; fetch = AtMost 0; skip = 0; keys = ks; width = w; role = 0; tail = fill 32 (fourBytes s) }
+recordOf k (source s) = record { kind = Source; children = k; streams = s .streams; preserve = false; hash = false; unbounded = s .unbounded; fetch = AtMost 0; skip = 0; keys = s .keys; width = s .width; role = 0; tail = fill 32 (fourBytes (s .constants)) }
 recordOf k filter = record { kind = Filter; children = k; streams = 0; preserve = false; hash = false; unbounded = false; fetch = AtMost 0; skip = 0; keys = []; width = 0; role = 0; tail = fill 32 [] }
 recordOf k (projection cols) = record { kind = Projection; children = k; streams = 0; preserve = false; hash = false; unbounded = false; fetch = AtMost 0; skip = 0; keys = []; width = length cols; role = 0; tail = fill 32 cols }
 recordOf k union = record { kind = Union; children = k; streams = 0; preserve = false; hash = false; unbounded = false; fetch = AtMost 0; skip = 0; keys = []; width = 0; role = 0; tail = fill 32 [] }

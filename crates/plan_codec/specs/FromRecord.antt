@@ -10,7 +10,7 @@ use lib.ListN.{length, getD, take}
 use lib.Seq.{length-take-le}
 use borrow.Author.Tests.{eqb-true, leb-true, lt-ltb}
 use Rattle.row_order.specs.Iso.{Key}
-use Rattle.scan.specs.Below.{and-left, and-right}
+use Rattle.scan.specs.Below.{and-left, and-right, or-false}
 use Rattle.scan.specs.Bytes.{le32}
 use Rattle.plan.specs.Op.{kind}
 use Rattle.plan.specs.Numbers.{kindNumber, joinNumber, joinTypeOf, distributionNumber}
@@ -28,7 +28,7 @@ use Rattle.plan_roundtrip.specs.Same.{fourth}
 use Rattle.plan_codec.specs.NodeRecord.{NodeRecord}
 use Rattle.plan_codec.specs.Decode.{onOf, distributionOf, operatorOf}
 use Rattle.plan_codec.specs.Encode.{fill, fetchNumber, keyedSet, recordOf}
-use Rattle.plan_codec.specs.Bits.{or-false, no-false, both, join-back}
+use Rattle.plan_codec.specs.Bits.{no-false, both, join-back}
 use Rattle.plan_codec.specs.Fill.{fill-back, part-bytes}
 use Rattle.plan_codec.specs.Keys.{on-keys, on-others, length-on, on-plain}
 use Rattle.plan_codec.specs.Rules.{Rules, few-keys}

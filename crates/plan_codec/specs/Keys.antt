@@ -4,18 +4,19 @@ use mathlib.Core.Bool.{Bool, true, false, not, _&&_}
 use mathlib.Core.List.{List, [], _∷_, map}
 use Prim.Native.Nat.{ℕ, zero, suc, _+_, _*_, _/_, _≤_, _<_}
 use native.Mathlib.Omega.{arith}
-use lib.Dec.{ltb, eqb, leb·suc-suc}
+use lib.Dec.{ltb, eqb}
 use lib.ListN.{length, getD, take}
 use borrow.Author.Tests.{eqb-true, le-ltb, lt-ltb}
 use Rattle.row_order.specs.Iso.{Key}
-use Rattle.scan.specs.Below.{and-left, and-right}
+use Rattle.scan.specs.Below.{and-left, and-right, or-false}
 use Rattle.plan.specs.Op.{On}
 use Rattle.plan.specs.WellFormed.{every, plain}
 use Rattle.plan_format.specs.Blocks.{span}
 use Rattle.plan_format.specs.Record.{either, keyOk}
 use Rattle.plan_codec.specs.Decode.{keyOf, keysOf, onOf}
 use Rattle.plan_codec.specs.Encode.{fill, num, optionsByte, keyBytes}
-use Rattle.plan_codec.specs.Bits.{or-false, no-false, both, options-bits, bits-options}
+use Rattle.plan_rules.specs.Slots.{even, slot-next}
+use Rattle.plan_codec.specs.Bits.{no-false, both, options-bits, bits-options}
 
 pub length-bytes : (ks : List Key) → length (keyBytes ks) ≡ 2 * length ks
 length-bytes [] = refl
@@ -44,23 +45,6 @@ keys-back (suc (suc n)) (k ∷ ks) h = ap₂ _∷_ (key-back k) (keys-back n ks 
 abbrev pub Slot : Bool → ℕ → List ℕ → ℕ → Type 0
 Slot p n l i = keyOk p n i (getD l (2 * i) 0) (getD l (2 * i + 1) 0) ≡ true
 
--- the next slot of bytes is the first of those two bytes on
-module _ (c o : ℕ) (l : List ℕ) (i : ℕ) where
-  even : getD (c ∷ o ∷ l) (2 * suc i) 0 ≡ getD l (2 * i) 0
-  even = let e : 2 * suc i ≡ suc (suc (2 * i)) = omega arith in rw e
-
-  odd : getD (c ∷ o ∷ l) (2 * suc i + 1) 0 ≡ getD l (2 * i + 1) 0
-  odd = let e : 2 * suc i + 1 ≡ suc (suc (2 * i + 1)) = omega arith in rw e
-
-  shift : (p : Bool) (n m : ℕ) → ltb (suc i) n ≡ ltb i m → keyOk p n (suc i) (getD (c ∷ o ∷ l) (2 * suc i) 0) (getD (c ∷ o ∷ l) (2 * suc i + 1) 0) ≡ keyOk p m i (getD l (2 * i) 0) (getD l (2 * i + 1) 0)
-  shift p n m e = rw (e, even, odd)
-
-next : (i n : ℕ) → ltb (suc i) (suc n) ≡ ltb i n
-next i n = leb·suc-suc (suc i) n
-
-past : (i : ℕ) → ltb (suc i) 0 ≡ ltb i 0
-past i = le-ltb (suc i) 0 (omega arith) ∙ sym (le-ltb i 0 (omega arith))
-
 -- what the rule says of a slot that is used, and of one that is not
 small : (p : Bool) (o : ℕ) → either p (eqb o 0) (eqb (o / 4) 0) ≡ true → o < 4
 small true o e = let z = eqb-true o 0 (sym (or-false (eqb o 0)) ∙ e) in omega arith
@@ -78,11 +62,11 @@ bytes-back p n (suc m) [] e h = absurd (omega arith)
 bytes-back p n (suc m) (c ∷ []) e h = absurd (omega arith)
 bytes-back p zero (suc m) (c ∷ o ∷ l) e h =
     let z : (eqb c 0 && eqb o 0) ≡ true = h 0 (omega arith) in
-    let r = bytes-back p zero m l (omega arith) (λ i q. sym (shift c o l i p 0 0 (past i)) ∙ h (suc i) (omega arith)) in
+    let r = bytes-back p zero m l (omega arith) (λ i q. sym (slot-next c o l i p 0 0 refl) ∙ h (suc i) (omega arith)) in
     ap₂ (λ (x : ℕ) (y : List ℕ). x ∷ y) (sym (eqb-true c 0 (and-left (eqb c 0) (eqb o 0) z)))
     (ap₂ (λ (x : ℕ) (y : List ℕ). x ∷ y) (sym (eqb-true o 0 (and-right (eqb c 0) (eqb o 0) z))) r)
 bytes-back p (suc n) (suc m) (c ∷ o ∷ l) e h =
-    let r = bytes-back p n m l (omega arith) (λ i q. sym (shift c o l i p (suc n) n (next i n)) ∙ h (suc i) (omega arith)) in
+    let r = bytes-back p n m l (omega arith) (λ i q. sym (slot-next c o l i p (suc n) n (omega arith)) ∙ h (suc i) (omega arith)) in
     ap₂ (λ (x : ℕ) (y : List ℕ). c ∷ x ∷ y) (bits-options c o (small p o (first-used p n c o (h 0 (omega arith))))) r
 
 -- options 0 where the rule asks for them
@@ -97,7 +81,7 @@ bytes-plain (suc n) (suc m) (c ∷ o ∷ l) e h =
     let z : o ≡ 0 = eqb-true o 0 (sym (or-false (eqb o 0)) ∙ f) in
     let k : plain (keyOf c o) ≡ true = rw z in
     both (plain (keyOf c o)) (every plain (keysOf n l)) k
-    (bytes-plain n m l (omega arith) (λ i q. sym (shift c o l i true (suc n) n (next i n)) ∙ h (suc i) (omega arith)))
+    (bytes-plain n m l (omega arith) (λ i q. sym (slot-next c o l i true (suc n) n (omega arith)) ∙ h (suc i) (omega arith)))
 
 -- ---- the bytes of keys obey the rule
 
@@ -117,7 +101,7 @@ slots p (k ∷ ks) h zero =
     let o : either p (eqb (optionsByte k) 0) (eqb (optionsByte k / 4) 0) ≡ true = options-ok p (k .desc) (k .first) (λ t. and-left (plain k) (every plain ks) (h t)) in
     rw e (or-false (either p (eqb (optionsByte k) 0) (eqb (optionsByte k / 4) 0)) ∙ o)
 slots p (k ∷ ks) h (suc i) =
-    shift (k .col) (optionsByte k) (keyBytes ks) i p (suc (length ks)) (length ks) (next i (length ks))
+    slot-next (k .col) (optionsByte k) (keyBytes ks) i p (suc (length ks)) (length ks) (omega arith)
     ∙ slots p ks (λ t. and-right (plain k) (every plain ks) (h t)) i
 
 -- ---- columns of keys, and right key columns

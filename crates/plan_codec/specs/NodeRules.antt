@@ -9,7 +9,7 @@ use lib.Count.{ones}
 use lib.Dec.{leb, ltb, eqb}
 use lib.ListN.{length, getD, take, length-map}
 use borrow.Author.Tests.{eq-eqb, leb-true}
-use Rattle.scan.specs.Below.{and-left, and-right}
+use Rattle.scan.specs.Below.{and-left, and-right, or-false}
 use Rattle.scan.specs.Bytes.{part, le32}
 use Rattle.plan.specs.Op.{On, Op, source, filter, projection, union, repartition, coalesce, sortOp, mergeOp, globalLimit, localLimit, sortMergeJoin, hashJoin, outputRequirement, partialSort, kind}
 use Rattle.plan.specs.Numbers.{kindNumber, joinNumber}
@@ -26,7 +26,6 @@ use Rattle.plan_format.specs.LastPass.{joinWidth as byteWidth, unionOk as union
 use Rattle.plan_format.specs.Writing.{fourBytes}
 use Rattle.plan_codec.specs.NodeRecord.{NodeRecord}
 use Rattle.plan_codec.specs.Encode.{fill, keyBytes, keyedSet, recordOf, toBytes, encode}
-use Rattle.plan_codec.specs.Bits.{or-false}
 use Rattle.plan_codec.specs.Fill.{fill-take, fill-at}
 use Rattle.plan_codec.specs.Keys.{columns-of, length-bytes, on-columns}
 use Rattle.plan_codec.specs.Columns.{below-list, widths-list, columns-list}
@@ -48,7 +47,7 @@ join-width RightAnti a b = refl
 
 pub width-same : (k : ℕ) (o : Op) (ws : List ℕ) → widthOf (fields (encode k o)) (encode k o) ws ≡ width o ws
 unfolding encode
-width-same k (source w n s ks u) ws = refl
+width-same k (source s) ws = refl
 width-same k filter ws = refl
 width-same k (projection cols) ws = refl
 width-same k union ws = refl
@@ -65,7 +64,7 @@ width-same k (partialSort p ks n f) ws = refl
 
 pub union-same : (k : ℕ) (o : Op) (ws : List ℕ) → unionRule (encode k o) ws ≡ unionOk o ws
 unfolding encode
-union-same k (source w n s ks u) ws = refl
+union-same k (source s) ws = refl
 union-same k filter ws = refl
 union-same k (projection cols) ws = refl
 union-same k union ws = widths-list ws
@@ -81,7 +80,7 @@ union-same k (outputRequirement ks d f) ws = refl
 union-same k (partialSort p ks n f) ws = refl
 
 pub children-same : (o : Op) (m : ℕ) → countOk (kindNumber (kind o)) m ≡ childrenOk o m
-children-same (source w n s ks u) m = or-false (eqb m 0)
+children-same (source s) m = or-false (eqb m 0)
 children-same filter m = refl
 children-same (projection cols) m = refl
 children-same union m = or-false (between 2 8 m)
@@ -150,11 +149,11 @@ join-rule x w v on ek et h =
 
 pub columns-same : (k : ℕ) (o : Op) (ws : List ℕ) → fieldsOk o ≡ true → columnsRule (fields (encode k o)) (encode k o) (columnLimit (fields (encode k o)) (encode k o) ws) (getD ws 1 0) ≡ columnsOk o ws
 unfolding encode
-columns-same k (source w n s ks u) ws e =
-    let x : NodeRecord = recordOf k (source w n s ks u) in
-    let b = and-right (between 1 32 w && between 1 64 n) (ltb s (2 ^ 32) && few ks) e in
-    and-one (columnsBelow (take (length ks) (keyColumns (toBytes x))) w && setBelow (le32 (toBytes x) 32) w)
-    ∙ ap₂ _&&_ (keys-rule x w (few-of k (source w n s ks u) e)) (set-rule x w s refl (and-left (ltb s (2 ^ 32)) (few ks) b))
+columns-same k (source s) ws e =
+    let x : NodeRecord = recordOf k (source s) in
+    let b = and-right (between 1 32 (s .width) && between 1 64 (s .streams)) (ltb (s .constants) (2 ^ 32) && few (s .keys)) e in
+    and-one (columnsBelow (take (length (s .keys)) (keyColumns (toBytes x))) (s .width) && setBelow (le32 (toBytes x) 32) (s .width))
+    ∙ ap₂ _&&_ (keys-rule x (s .width) (few-of k (source s) e)) (set-rule x (s .width) (s .constants) refl (and-left (ltb (s .constants) (2 ^ 32)) (few (s .keys)) b))
 columns-same k filter ws e = keys-alone (recordOf k filter) (getD ws 0 0) (few-of k filter e)
 columns-same k (projection cols) ws e =
     let x : NodeRecord = recordOf k (projection cols) in

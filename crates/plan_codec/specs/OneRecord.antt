@@ -30,7 +30,7 @@ use Rattle.plan_codec.specs.Sizes.{bytes-record, length-record, small-of
 
 -- a child count that some kind can have
 few-children : (o : Op) (k : ℕ) → childrenOk o k ≡ true → k ≤ 8
-few-children (source w n s ks u) k e = let z = eqb-true k 0 e in omega arith
+few-children (source s) k e = let z = eqb-true k 0 e in omega arith
 few-children filter k e = let z = eqb-true k 1 e in omega arith
 few-children (projection cols) k e = let z = eqb-true k 1 e in omega arith
 few-children union k e = leb-true k 8 (and-right (leb 2 k) (leb k 8) e)

@@ -8,7 +8,7 @@ use lib.Dec.{leb, ltb, eqb}
 use lib.ListN.{length, getD, length-append}
 use borrow.Author.Tests.{eqb-true, leb-true, ltb-true, lt-ltb}
 use Rattle.row_order.specs.Iso.{Key}
-use Rattle.scan.specs.Below.{and-left, and-right}
+use Rattle.scan.specs.Below.{and-left, and-right, or-false}
 use Rattle.plan.specs.Op.{On, Op, source, filter, projection, union, repartition, coalesce, sortOp, mergeOp, globalLimit, localLimit, sortMergeJoin, hashJoin, outputRequirement, partialSort}
 use Rattle.plan.specs.Numbers.{kindNumber}
 use Rattle.plan.specs.WellFormed.{between, every, few, fieldsOk, below, distinct, columnsFit, keysFit, onFit, setFits, distributionFits, columnsOk}
@@ -18,7 +18,7 @@ use Rattle.plan_format.specs.Writing.{fourBytes}
 use Rattle.plan_roundtrip.specs.Files.{byte, every-append}
 use Rattle.plan_codec.specs.NodeRecord.{NodeRecord}
 use Rattle.plan_codec.specs.Encode.{fill, optionsByte, keyBytes, fetchNumber, marksByte, keyedSet, headBytes, toBytes, recordOf}
-use Rattle.plan_codec.specs.Bits.{or-false, both, known, marks-bits, options-bits}
+use Rattle.plan_codec.specs.Bits.{both, known, marks-bits, options-bits}
 use Rattle.plan_codec.specs.Fill.{length-fill}
 use Rattle.plan_codec.specs.Keys.{on-columns}
 use Rattle.plan_codec.specs.Rules.{Rules, few-keys}
@@ -112,9 +112,9 @@ module _ (k : ℕ) (ws : List ℕ) (h₀ : getD ws 0 0 ≤ 32) (h₁ : getD ws 1
       (bytes-fit (getD ws 1 0) (map (λ k. k .other) on) h₁ (and-right (columnsFit (getD ws 0 0) (map (λ k. k .key .col) on)) (columnsFit (getD ws 1 0) (map (λ k. k .other) on)) c))
 
   pub small-of : (o : Op) → fieldsOk o ≡ true → columnsOk o ws ≡ true → Small (recordOf k o)
-  small-of (source w n s ks u) e c =
-      let a = and-left (between 1 32 w) (between 1 64 n) (and-left (between 1 32 w && between 1 64 n) (ltb s (2 ^ 32) && few ks) e) in
-      record { keys = bytes-fit w (map (λ k. k .col) ks) (leb-true w 32 (and-right (leb 1 w) (leb w 32) a)) (and-left (keysFit w ks) (setFits w s) c); tail = bytes-fill 32 (fourBytes s) (bytes-four s) }
+  small-of (source s) e c =
+      let a = and-left (between 1 32 (s .width)) (between 1 64 (s .streams)) (and-left (between 1 32 (s .width) && between 1 64 (s .streams)) (ltb (s .constants) (2 ^ 32) && few (s .keys)) e) in
+      record { keys = bytes-fit (s .width) (map (λ k. k .col) (s .keys)) (leb-true (s .width) 32 (and-right (leb 1 (s .width)) (leb (s .width) 32) a)) (and-left (keysFit (s .width) (s .keys)) (setFits (s .width) (s .constants)) c); tail = bytes-fill 32 (fourBytes (s .constants)) (bytes-four (s .constants)) }
   small-of filter e c = record { keys = refl; tail = refl }
   small-of (projection cols) e c = record { keys = refl; tail = bytes-fill 32 cols (bytes-below (getD ws 0 0) cols h₀ c) }
   small-of union e c = record { keys = refl; tail = refl }

@@ -9,7 +9,7 @@ use lib.Dec.{leb, ltb, eqb}
 use lib.ListN.{length, drop, length-map}
 use borrow.Author.Tests.{eqb-true, leb-true, ltb-true, ne-eqb}
 use Rattle.row_order.specs.Iso.{Key}
-use Rattle.scan.specs.Below.{and-left, and-right}
+use Rattle.scan.specs.Below.{and-left, and-right, or-false}
 use Rattle.scan.specs.Bytes.{zeros, le32}
 use Rattle.plan.specs.Op.{On, Op, source, filter, projection, union, repartition, coalesce, sortOp, mergeOp, globalLimit, localLimit, sortMergeJoin, hashJoin, outputRequirement, partialSort, kind}
 use Rattle.plan.specs.Numbers.{kindNumber, joinNumber, distributionNumber}
@@ -26,7 +26,7 @@ use Rattle.plan_roundtrip.specs.Back.{four}
 use Rattle.plan_codec.specs.NodeRecord.{NodeRecord}
 use Rattle.plan_codec.specs.Decode.{distributionOf, operatorOf}
 use Rattle.plan_codec.specs.Encode.{fill, fetchNumber, keyedSet, recordOf}
-use Rattle.plan_codec.specs.Bits.{or-false, no-false, both, join-number}
+use Rattle.plan_codec.specs.Bits.{no-false, both, join-number}
 use Rattle.plan_codec.specs.Fill.{length-fill, fill-take, fill-rest}
 use Rattle.plan_codec.specs.Keys.{on-back, plain-on}
 use Rattle.plan_codec.specs.Rules.{Rules, few-keys}
@@ -92,10 +92,10 @@ on-rest : (on : List On) → zeros (drop (length (map (λ k. k .key) on)) (fill 
 on-rest on = fill-rest 32 (length (map (λ k. k .key) on)) (map (λ k. k .other) on) (let a = length-map on (λ k. k .key) in let b = length-map on (λ k. k .other) in omega arith)
 
 pub rules-of : (k : ℕ) (o : Op) → fieldsOk o ≡ true → Rules (fieldsOf (kindNumber (kind o))) (recordOf k o)
-rules-of k (source w n s ks u) e =
-    let a = and-left (between 1 32 w && between 1 64 n) (ltb s (2 ^ 32) && few ks) e in
-    let b = and-right (between 1 32 w && between 1 64 n) (ltb s (2 ^ 32) && few ks) e in
-    record { streams = keep (between 1 64 n) (and-right (between 1 32 w) (between 1 64 n) a); preserve = refl; hash = refl; unbounded = refl; fetch = refl; skip = refl; count = free ks (and-right (ltb s (2 ^ 32)) (few ks) b); width = keep (between 1 32 w) (and-left (between 1 32 w) (between 1 64 n) a); role = refl; options = λ q. no-false q; set = refl; rest = refl }
+rules-of k (source s) e =
+    let a = and-left (between 1 32 (s .width) && between 1 64 (s .streams)) (ltb (s .constants) (2 ^ 32) && few (s .keys)) e in
+    let b = and-right (between 1 32 (s .width) && between 1 64 (s .streams)) (ltb (s .constants) (2 ^ 32) && few (s .keys)) e in
+    record { streams = keep (between 1 64 (s .streams)) (and-right (between 1 32 (s .width)) (between 1 64 (s .streams)) a); preserve = refl; hash = refl; unbounded = refl; fetch = refl; skip = refl; count = free (s .keys) (and-right (ltb (s .constants) (2 ^ 32)) (few (s .keys)) b); width = keep (between 1 32 (s .width)) (and-left (between 1 32 (s .width)) (between 1 64 (s .streams)) a); role = refl; options = λ q. no-false q; set = refl; rest = refl }
 rules-of k filter e = record { streams = refl; preserve = refl; hash = refl; unbounded = refl; fetch = refl; skip = refl; count = refl; width = refl; role = refl; options = λ q. no-false q; set = refl; rest = refl }
 rules-of k (projection cols) e = record { streams = refl; preserve = refl; hash = refl; unbounded = refl; fetch = refl; skip = refl; count = refl; width = keep (between 1 32 (length cols)) e; role = refl; options = λ q. no-false q; set = refl; rest = fill-rest 32 (length cols) cols (omega arith) }
 rules-of k union e = record { streams = refl; preserve = refl; hash = refl; unbounded = refl; fetch = refl; skip = refl; count = refl; width = refl; role = refl; options = λ q. no-false q; set = refl; rest = refl }
@@ -127,8 +127,8 @@ few-on : (on : List On) → length (map (λ k. k .key) on) ≤ 8 → length on �
 few-on on e = let a = length-map on (λ k. k .key) in omega arith
 
 pub operator-back : (k : ℕ) (o : Op) → fieldsOk o ≡ true → operatorOf (kind o) (recordOf k o) ≡ o
-operator-back k (source w n s ks u) e =
-    ap (λ (x : ℕ). source w n x ks u) (set-is s (and-left (ltb s (2 ^ 32)) (few ks) (and-right (between 1 32 w && between 1 64 n) (ltb s (2 ^ 32) && few ks) e)))
+operator-back k (source s) e =
+    ap (λ (x : ℕ). source (record { width = s .width; streams = s .streams; constants = x; keys = s .keys; unbounded = s .unbounded })) (set-is (s .constants) (and-left (ltb (s .constants) (2 ^ 32)) (few (s .keys)) (and-right (between 1 32 (s .width) && between 1 64 (s .streams)) (ltb (s .constants) (2 ^ 32) && few (s .keys)) e)))
 operator-back k filter e = refl
 operator-back k (projection cols) e = ap projection (fill-take 32 cols (leb-true (length cols) 32 (and-right (leb 1 (length cols)) (leb (length cols) 32) e)))
 operator-back k union e = refl
@@ -145,7 +145,7 @@ operator-back k (outputRequirement ks d f) e =
 operator-back k (partialSort p ks n f) e = refl
 
 pub kind-of : (k : ℕ) (o : Op) → recordOf k o .kind ≡ kind o
-kind-of k (source w n s ks u) = refl
+kind-of k (source s) = refl
 kind-of k filter = refl
 kind-of k (projection cols) = refl
 kind-of k union = refl
@@ -161,7 +161,7 @@ kind-of k (outputRequirement ks d f) = refl
 kind-of k (partialSort p ks n f) = refl
 
 pub children-of : (k : ℕ) (o : Op) → recordOf k o .children ≡ k
-children-of k (source w n s ks u) = refl
+children-of k (source s) = refl
 children-of k filter = refl
 children-of k (projection cols) = refl
 children-of k union = refl
@@ -184,7 +184,7 @@ pub record Fits (x : NodeRecord) : Type 0 where
   pub tail : length (x .tail) ≡ 32
 
 pub fits-of : (k : ℕ) (o : Op) → fieldsOk o ≡ true → Fits (recordOf k o)
-fits-of k (source w n s ks u) e = record { fetch = refl; skip = omega arith; tail = refl }
+fits-of k (source s) e = record { fetch = refl; skip = omega arith; tail = refl }
 fits-of k filter e = record { fetch = refl; skip = omega arith; tail = refl }
 fits-of k (projection cols) e = record { fetch = refl; skip = omega arith; tail = length-fill 32 cols }
 fits-of k union e = record { fetch = refl; skip = omega arith; tail = refl }

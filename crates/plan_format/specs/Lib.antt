@@ -4,4 +4,5 @@ pub mod Blocks
 pub mod LastPass
 pub mod Reading
 pub mod Writing
+pub mod Written
 pub mod Tree

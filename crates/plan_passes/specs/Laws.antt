@@ -10,7 +10,8 @@ use borrow.Author.Tests.{leb-true, eqb-true, le-leb, lt-leb, not-true, not-false
 use Rattle.scan.specs.Below.{all-at, and-left, and-right, and-false}
 use Rattle.scan.specs.Bytes.{part, cut, le16}
 use Rattle.plan_format.specs.Blocks.{span, block, blockCount, recordCount, countOk, paddingOk, headerOk, lengthOk}
-use Rattle.plan_format.specs.Reading.{headersOk, finished, enough}
+use Rattle.plan_format.specs.Reading.{headersOk, kindsOk, treeOk, recordsOk, finished, enough}
+use Rattle.plan_passes.specs.declared.Records.{Records}
 use Rattle.plan_format.specs.Record.{either}
 
 -- a test of the part that `&s[a..a + n]` lends, as the flag b says it
@@ -58,49 +59,47 @@ module _ (f : ℕ → ℕ) (m : ℕ) where
   pub past-all : past 0 ≡ span f 0 m
   past-all = let e : m - 0 ≡ m = omega arith in rw e
 
-  fail-down : (i : ℕ) → i ≤ m → enough (past i) ≡ false → enough (past 0) ≡ false
-  fail-down zero h e = e
-  fail-down (suc j) h e =
-      let g : suc j ≡ j + 1 = omega arith in
-      fail-down j (omega arith) (ap enough (past-back j (omega arith)) ∙ and-false (leb (f j) (finished (past (j + 1)))) (enough (past (j + 1))) (rw g at e))
-
-  -- the state of the pass before record i: h finished trees
-  pub record Pass (i h : ℕ) : Type 0 where
+  -- the state of the pass before record i: h finished trees, and whether each record so far found enough of them
+  pub record Pass (i h : ℕ) (e : Bool) : Type 0 where
     pub low : i ≤ m
     pub have : h ≡ finished (past i)
-    pub found : enough (past i) ≡ true
+    pub found : e ≡ enough (past i)
     pub few : h ≤ m - i
 
-  pub pass-start : Pass m 0
-  pass-start = record { low = omega arith; have = sym (ap finished (past-end m (omega arith))); found = ap enough (past-end m (omega arith)); few = omega arith }
+  pub pass-start : Pass m 0 true
+  pass-start =
+      record {
+        low = omega arith;
+        have = sym (ap finished (past-end m (omega arith)));
+        found = sym (ap enough (past-end m (omega arith)));
+        few = omega arith;
+      }
 
-  pub pass-more : (i h k : ℕ) → 0 < i → Pass i h → k ≡ f (i - 1) → k ≤ h → Pass (i - 1) (h - k + 1)
-  pass-more i h k z p q l =
+  pub pass-more : (i h k : ℕ) (e : Bool) → 0 < i → Pass i h e → k ≡ f (i - 1) → Pass (i - 1) (h - k + 1) (leb k h && e)
+  pass-more i h k e z p q =
       let lo : i ≤ m = p .low in
       let b : i - 1 + 1 ≡ i = omega arith in
-      let e : past (i - 1) ≡ f (i - 1) ∷ past i = past-back (i - 1) (omega arith) ∙ ap (λ (n : ℕ). f (i - 1) ∷ past n) b in
-      let d : finished (past (i - 1)) ≡ finished (past i) - f (i - 1) + 1 = ap finished e in
+      let g : past (i - 1) ≡ f (i - 1) ∷ past i = past-back (i - 1) (omega arith) ∙ ap (λ (n : ℕ). f (i - 1) ∷ past n) b in
+      let d : finished (past (i - 1)) ≡ finished (past i) - f (i - 1) + 1 = ap finished g in
       let x = p .have in let y = p .few in
       record {
         low = omega arith;
         have = omega arith;
-        found = ap enough e ∙ ap₂ _&&_ (le-leb (f (i - 1)) (finished (past i)) (omega arith)) (p .found);
+        found = ap₂ _&&_ (ap₂ leb q x) (p .found) ∙ sym (ap enough g);
         few = omega arith;
       }
 
-  pub pass-fail : (i h k : ℕ) → 0 < i → Pass i h → k ≡ f (i - 1) → h < k → false ≡ (enough (span f 0 m) && eqb (finished (span f 0 m)) 1)
-  pass-fail i h k z p q l =
-      let lo : i ≤ m = p .low in
-      let x = p .have in
-      let b : i - 1 + 1 ≡ i = omega arith in
-      let e : enough (past (i - 1)) ≡ false = ap enough (past-back (i - 1) (omega arith) ∙ ap (λ (n : ℕ). f (i - 1) ∷ past n) b) ∙ ap (λ (b : Bool). b && enough (past i)) (lt-leb (f (i - 1)) (finished (past i)) (omega arith)) in
-      sym (ap (λ (b : Bool). b && eqb (finished (span f 0 m)) 1) (ap enough (sym past-all) ∙ fail-down (i - 1) (omega arith) e))
+  pub pass-end : (i h : ℕ) (e : Bool) → Pass i h e → i ≤ 0 → e && eqb h 1 ≡ (enough (span f 0 m) && eqb (finished (span f 0 m)) 1)
+  pass-end i h e p z =
+      let g : i ≡ 0 = omega arith in
+      let q : past i ≡ span f 0 m = ap past g ∙ past-all in
+      ap₂ (λ (b : Bool) (n : ℕ). b && eqb n 1) (p .found ∙ ap enough q) (p .have ∙ ap finished q)
 
-  pub pass-end : (i h : ℕ) → Pass i h → i ≤ 0 → eqb h 1 ≡ (enough (span f 0 m) && eqb (finished (span f 0 m)) 1)
-  pass-end i h p z =
-      let e : i ≡ 0 = omega arith in
-      let q : past i ≡ span f 0 m = ap past e ∙ past-all in
-      ap (λ (n : ℕ). eqb n 1) (p .have ∙ ap finished q) ∙ sym (ap (λ (b : Bool). b && eqb (finished (span f 0 m)) 1) (ap enough (sym q) ∙ p .found))
+-- what one pass over the records answers
+pub record Found (s : List ℕ) (x : Records) : Type 0 where
+  pub kinds : x .kinds ≡ kindsOk s
+  pub tree : x .tree ≡ treeOk s
+  pub rules : x .rules ≡ recordsOk s
 
 -- ---- the order of the refusals: t is the flag in the code, a the test in the definition
 

@@ -1,9 +1,10 @@
 // The passes of the reader over a lent file before the last one: refusals 1 to 6, each over all blocks or all records.
 ghost use mathlib.Core.Path.{_≡_};
-ghost use Prim.Native.Nat.{_*_, _≤_, _<_};
+ghost use Prim.Native.Nat.{_*_, _-_, _≤_, _<_};
 ghost use lib.ListN.{length};
 ghost use Rattle.plan_format.specs.Blocks.{lengthOk, blockCount, recordCount, sumOk, countOk, paddingOk, headerOk};
-ghost use Rattle.plan_format.specs.Reading.{sumsOk, headersOk, kindsOk, treeOk, recordsOk, earlyRefusal};
+ghost use Rattle.plan_format.specs.Reading.{sumsOk, headersOk, earlyRefusal};
+ghost use Rattle.plan_passes.specs.Laws.{Found};
 use plan::Refusal;
 
 fn length_ok(n: usize) -> bool
@@ -91,55 +92,49 @@ pub fn record_count(s: &[u8], n: usize) -> usize
     7 * (n - 1) + s[(n - 1) * 512 + 4] as usize
 }
 
-fn kinds_ok(s: &[u8], m: usize) -> bool
-    requires { ⌜ (m ≡ recordCount (now s)) × (m ≤ 7 * blockCount (now s)) ⌝ }
-    ensures { λ r. ⌜ r ≡ kindsOk (now (s .entry)) ⌝ }
-{
-    let mut i = 0;
-    while i < m {
-        let at = 512 * (i / 7) + (8 + 64 * (i % 7));
-        let e = at + 64;
-        if !plan_rules::kind_ok(&s[at..e]) {
-            return false;
-        }
-        i += 1;
-    }
-    true
+// What one pass over the records finds: known kinds and child counts, one tree, 6's single-record rules.
+pub struct Records {
+    pub kinds: bool,
+    pub tree: bool,
+    pub rules: bool,
 }
 
-fn tree_ok(s: &[u8], m: usize) -> bool
-    requires { ⌜ (m ≡ recordCount (now s)) × (m ≤ 7 * blockCount (now s)) ⌝ }
-    ensures { λ r. ⌜ r ≡ treeOk (now (s .entry)) ⌝ }
+// a - b, or 0 where b is more.
+fn minus(a: usize, b: usize) -> usize
+    ensures { λ r. ⌜ r ≡ a - b ⌝ }
 {
+    if a < b {
+        return 0;
+    }
+    a - b
+}
+
+// From the last record to the first: each takes its children from the finished trees and leaves one. No answer ends the pass, so that one loop gives all three.
+fn records_of(s: &[u8], m: usize) -> Records
+    requires { ⌜ (m ≡ recordCount (now s)) × (m ≤ 7 * blockCount (now s)) ⌝ }
+    ensures { λ x. ⌜ Found (now (s .entry)) x ⌝ }
+{
+    let mut kinds = true;
+    let mut enough = true;
+    let mut rules = true;
     let mut have = 0;
     let mut i = m;
     while 0 < i {
         let j = i - 1;
         let at = 512 * (j / 7) + (8 + 64 * (j % 7));
+        let e = at + 64;
         let k = s[at + 1] as usize;
-        if have < k {
-            return false;
-        }
-        have = have - k + 1;
+        kinds = kinds & plan_rules::kind_ok(&s[at..e]);
+        rules = rules & plan_rules::record_ok(&s[at..e]);
+        enough = (k <= have) & enough;
+        have = minus(have, k) + 1;
         i = j;
     }
-    have == 1
-}
-
-fn records_ok(s: &[u8], m: usize) -> bool
-    requires { ⌜ (m ≡ recordCount (now s)) × (m ≤ 7 * blockCount (now s)) ⌝ }
-    ensures { λ r. ⌜ r ≡ recordsOk (now (s .entry)) ⌝ }
-{
-    let mut i = 0;
-    while i < m {
-        let at = 512 * (i / 7) + (8 + 64 * (i % 7));
-        let e = at + 64;
-        if !plan_rules::record_ok(&s[at..e]) {
-            return false;
-        }
-        i += 1;
+    Records {
+        kinds: kinds,
+        tree: enough & (have == 1),
+        rules: rules,
     }
-    true
 }
 
 // The first refusal of these passes, in document 01's order.
@@ -159,13 +154,17 @@ pub fn early_refusal(s: &[u8]) -> Refusal
         return Refusal::Header;
     }
     let m = record_count(s, n);
-    if !kinds_ok(s, m) {
+    let x = records_of(s, m);
+    let kinds = x.kinds;
+    let tree = x.tree;
+    let rules = x.rules;
+    if !kinds {
         return Refusal::KindOrChildren;
     }
-    if !tree_ok(s, m) {
+    if !tree {
         return Refusal::RecordCount;
     }
-    if !records_ok(s, m) {
+    if !rules {
         return Refusal::Field;
     }
     Refusal::Accepted

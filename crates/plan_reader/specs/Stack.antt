@@ -4,8 +4,6 @@ use mathlib.Core.Bool.{Bool, true, false, cond, _&&_, _||_}
 use mathlib.Core.List.{List, _∷_}
 use Prim.Native.Nat.{ℕ, zero, suc, _+_, _*_, _-_, _/_, _^_, _≤_, _<_}
 use native.Mathlib.Omega.{arith}
-use native.Mathlib.Nat.{div-eq-of-lt}
-use lib.Pow.{pow-mono}
 use lib.Dec.{leb, eqb}
 use lib.ListN.{length, getD, take, drop, set, length-drop, length-set}
 use lib.Seq.{drop-cons, drop-drop, getD-set-same, drop-set-lt, drop-length}
@@ -23,6 +21,7 @@ use Rattle.plan.specs.declared.Refusal.the-variants.{Accepted, Field, Column, W
 use Rattle.plan_passes.specs.Laws.{past, past-back, past-all, length-facts, count-le}
 use Rattle.scan.specs.Parts.{at-part}
 use Rattle.scan.specs.Bytes.{part, cut}
+use Rattle.scan.specs.Words.{shifted-out}
 
 -- push: k taken, x put
 pub push : (w : List ℕ) (t k x : ℕ) → 0 < t + k → t + k ≤ length w → drop (t + k - 1) (set w (t + k - 1) x) ≡ x ∷ drop k (drop t w)
@@ -180,7 +179,7 @@ passed s e = go (lengthOk (length s)) (sumsOk s) (headersOk s) (kindsOk s) (tree
 
 -- a set shifted by 32 or more is gone
 pub wide-set : (x w : ℕ) → x < 2 ^ 32 → 32 ≤ w → true ≡ eqb (x / 2 ^ w) 0
-wide-set x w h l = let p : 2 ^ 32 ≤ 2 ^ w = pow-mono l in sym (eq-eqb (x / 2 ^ w) 0 (div-eq-of-lt (omega arith)))
+wide-set x w h l = ap (λ (n : ℕ). eqb n 0) (sym (shifted-out x 32 w h l))
 
 -- the counts that a record's rules bound
 pub field-small : (f : Fields) (r : List ℕ) → rulesOk f r ≡ true → (getD r 12 0 ≤ 8) × (getD r 13 0 ≤ 32)
@@ -203,9 +202,10 @@ pub record-small : (s : List ℕ) (j : ℕ) → recordsOk s ≡ true → j < rec
 unfolding recordsOk
 record-small s j e h = field-small _ (recordAt s j) (all-at (λ i. recordOk (recordAt s i)) (recordCount s) e j h)
 
+-- what a visit to record r, over children of widths ws, finds: both parts for a refused node too
 pub record Saw (r ws : List ℕ) (x : Seen) : Type 0 where
   pub is : x .refusal ≡ nodeRefusal r ws
-  pub wide : numberOf (x .refusal) ≡ 0 → x .width ≡ widthOf (fields r) r ws
+  pub wide : x .width ≡ widthOf (fields r) r ws
 
 -- as the code lends the parts
 pub saw-cut : (b w : List ℕ) (a t k : ℕ) (x : Seen) → Saw (take (a + 64 - a) (drop a b)) (take (t + k - t) (drop t w)) x → Saw (part a 64 b) (take k (drop t w)) x
@@ -233,10 +233,13 @@ module _ (s : List ℕ) (m i t : ℕ) (w : List ℕ) (x : Seen) (e : m ≡ recor
       let c : m - 0 ≡ recordCount s = omega arith in
       v .is ∙ late-fail s m i t (kidByte s (i - 1)) w z p (kid-byte s (i - 1)) (λ g. f (ap numberOf (v .is) ∙ g)) ∙ ap (λ (n : ℕ). lastPass (span (recordAt s) 0 n)) c
 
+  pub visit-narrow : numberOf (x .refusal) ≡ 0 → x .width ≤ 32
+  visit-narrow n = let w = h .wide in let l = node-width _ _ (sym (ap numberOf (h .is)) ∙ n) in omega arith
+
   pub visit-more : treeOk s ≡ true → numberOf (x .refusal) ≡ 0 → Late s m (i - 1) (t + kidByte s (i - 1) - 1) (set w (t + kidByte s (i - 1) - 1) (x .width))
   visit-more o n =
       let v = saw-cut s w (recordStart (i - 1)) t (kidByte s (i - 1)) x h in
-      late-more s m i t (kidByte s (i - 1)) w z p (kid-byte s (i - 1)) (x .width) (kids-fit s m i t w e o z p) (sym (v .is) ∙ accepted (x .refusal) n) (v .wide n)
+      late-more s m i t (kidByte s (i - 1)) w z p (kid-byte s (i - 1)) (x .width) (kids-fit s m i t w e o z p) (sym (v .is) ∙ accepted (x .refusal) n) (v .wide)
 
 pub visit-end : (s : List ℕ) (m i t : ℕ) (w : List ℕ) → m ≡ recordCount s → Late s m i t w → i ≤ 0 → Accepted ≡ lastPass (span (recordAt s) 0 (recordCount s))
 visit-end s m i t w e p h = let c : m - 0 ≡ recordCount s = omega arith in late-end s m i t w p h ∙ ap (λ (n : ℕ). lastPass (span (recordAt s) 0 n)) c

@@ -1,9 +1,11 @@
 // The last pass of the reader: from the last node to the first, unequal union, columns, width. And the whole reader's refusal.
 ghost use mathlib.Core.Path.{_≡_};
 ghost use Prim.Native.Nat.{_+_, _*_, _≤_, _<_};
-ghost use mathlib.Core.Bool.{true, cond};
-ghost use lib.ListN.{length, getD};
+ghost use mathlib.Core.Bool.{true, cond, not, _||_};
+ghost use lib.ListN.{length, getD, take};
+ghost use Rattle.scan.specs.Bytes.{part, le32};
 ghost use Rattle.plan_format.specs.Blocks.{recordCount, blockCount, records};
+ghost use Rattle.plan_format.specs.Record.{fields};
 ghost use Rattle.plan_format.specs.Reading.{treeOk, recordsOk, refusalOf};
 ghost use Rattle.plan_format.specs.LastPass.{belowOk, freshOk, columnOk, columnsOk, setBelow, keyColumns, sameWidths, columnLimit, unionOk, columnsRule, joinWidth, widthOf, nodeRefusal, lastPass};
 ghost use Rattle.plan_reader.specs.Stack.{Saw};
@@ -119,21 +121,60 @@ fn column_limit(f: Fields, r: &[u8], ws: &[u8]) -> u8
     at_or_zero(ws, 0)
 }
 
+fn keys_below(r: &[u8], w: u8) -> bool
+    requires { ⌜ (length (now r) ≡ 64) × (getD (now r) 12 0 ≤ 8) ⌝ }
+    ensures { λ b. ⌜ b ≡ columnsOk (take (getD (now (r .entry)) 12 0) (keyColumns (now (r .entry)))) w ⌝ }
+{
+    let n = r[12] as usize;
+    if n == 0 {
+        return true;
+    }
+    let ks = key_columns(r);
+    list_ok(&ks[..n], w, false)
+}
+
+// A source's constants, kind 13's keyed columns.
+fn set_ok(f: Fields, r: &[u8], w: u8) -> bool
+    requires { ⌜ length (now r) ≡ 64 ⌝ }
+    ensures { λ b. ⌜ b ≡ not (f .constants || f .distribution) || setBelow (le32 (now (r .entry)) 32) w ⌝ }
+{
+    if f.constants | f.distribution {
+        let x = scan::get32(r, 32);
+        return set_below(x, w);
+    }
+    true
+}
+
+// A projection's child columns, which may repeat.
+fn child_columns_ok(f: Fields, r: &[u8], w: u8) -> bool
+    requires { ⌜ (length (now r) ≡ 64) × (getD (now r) 13 0 ≤ 32) ⌝ }
+    ensures { λ b. ⌜ b ≡ not (f .columns) || belowOk (part 32 (getD (now (r .entry)) 13 0) (now (r .entry))) w ⌝ }
+{
+    if f.columns {
+        let e = 32 + r[13] as usize;
+        return list_ok(&r[32..e], w, true);
+    }
+    true
+}
+
+// A join's right key columns.
+fn right_columns_ok(f: Fields, r: &[u8], w: u8) -> bool
+    requires { ⌜ (length (now r) ≡ 64) × (getD (now r) 12 0 ≤ 8) ⌝ }
+    ensures { λ b. ⌜ b ≡ not (f .join) || columnsOk (part 32 (getD (now (r .entry)) 12 0) (now (r .entry))) w ⌝ }
+{
+    if f.join {
+        let e = 32 + r[12] as usize;
+        return list_ok(&r[32..e], w, false);
+    }
+    true
+}
+
+// w: the width that a node's columns must lie below; w1: the second child's.
 fn columns_rule(f: Fields, r: &[u8], w: u8, w1: u8) -> bool
     requires { ⌜ (length (now r) ≡ 64) × (getD (now r) 12 0 ≤ 8) × (getD (now r) 13 0 ≤ 32) ⌝ }
     ensures { λ b. ⌜ b ≡ columnsRule f (now (r .entry)) w w1 ⌝ }
 {
-    let n = r[12] as usize;
-    let v = r[13] as usize;
-    let x = scan::get32(r, 32);
-    let ks = key_columns(r);
-    let keys = list_ok(&ks[..n], w, false);
-    let set = set_below(x, w);
-    let a = 32 + v;
-    let columns = list_ok(&r[32..a], w, true);
-    let e = 32 + n;
-    let right = list_ok(&r[32..e], w1, false);
-    (keys & (!(f.constants | f.distribution) | set)) & ((!f.columns | columns) & (!f.join | right))
+    (keys_below(r, w) & set_ok(f, r, w)) & (child_columns_ok(f, r, w) & right_columns_ok(f, r, w1))
 }
 
 fn join_width(t: u8, a: usize, b: usize) -> usize
@@ -173,12 +214,17 @@ fn union_ok(r: &[u8], ws: &[u8]) -> bool
     !(k == 4) | same_widths(ws)
 }
 
-fn node_refusal(r: &[u8], ws: &[u8]) -> Refusal
-    requires { ⌜ (length (now r) ≡ 64) × (getD (now r) 12 0 ≤ 8) × (getD (now r) 13 0 ≤ 32) ⌝ }
+// What the last pass finds at a node: its refusal and its width. The width stands there for a refused node too, and may then be more than 32.
+pub struct Seen {
+    pub refusal: Refusal,
+    pub width: usize,
+}
+
+// f: the fields of r's kind; v: the node's width.
+fn node_refusal(f: Fields, v: usize, r: &[u8], ws: &[u8]) -> Refusal
+    requires { ⌜ ((length (now r) ≡ 64) × (getD (now r) 12 0 ≤ 8) × (getD (now r) 13 0 ≤ 32)) × (f ≡ fields (now r)) × (v ≡ widthOf f (now r) (now ws)) ⌝ }
     ensures { λ x. ⌜ x ≡ nodeRefusal (now (r .entry)) (now (ws .entry)) ⌝ }
 {
-    let k = r[0];
-    let f = plan_format::fields_of(k);
     if !union_ok(r, ws) {
         return Refusal::Field;
     }
@@ -187,35 +233,23 @@ fn node_refusal(r: &[u8], ws: &[u8]) -> Refusal
     if !columns_rule(f, r, w, w1) {
         return Refusal::Column;
     }
-    if 32 < width_of(f, r, ws) {
+    if 32 < v {
         return Refusal::Width;
     }
     Refusal::Accepted
-}
-
-// What the last pass finds at a node: its refusal, and its width if there is none.
-pub struct Seen {
-    pub refusal: Refusal,
-    pub width: u8,
 }
 
 fn visit(r: &[u8], ws: &[u8]) -> Seen
     requires { ⌜ (length (now r) ≡ 64) × (getD (now r) 12 0 ≤ 8) × (getD (now r) 13 0 ≤ 32) ⌝ }
     ensures { λ x. ⌜ Saw (now (r .entry)) (now (ws .entry)) x ⌝ }
 {
-    let x = node_refusal(r, ws);
-    if plan::number(x) != 0 {
-        return Seen {
-            refusal: x,
-            width: 0,
-        };
-    }
     let k = r[0];
     let f = plan_format::fields_of(k);
     let v = width_of(f, r, ws);
+    let x = node_refusal(f, v, r, ws);
     Seen {
         refusal: x,
-        width: v as u8,
+        width: v,
     }
 }
 
@@ -237,7 +271,7 @@ fn last_pass(s: &[u8], m: usize) -> Refusal
             return x;
         }
         t = u - 1;
-        w[t] = y.width;
+        w[t] = y.width as u8;
         i = j;
     }
     Refusal::Accepted

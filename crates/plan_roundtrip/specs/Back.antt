@@ -16,7 +16,7 @@ use Rattle.plan_format.specs.Blocks.{lengthOk, blockCount, block, sumOk, countO
 use Rattle.plan_format.specs.Reading.{sumsOk, headersOk}
 use Rattle.plan_format.specs.Writing.{header, fourBytes, body, blockOf, blocksFor, sevenAt, blocksTo, fileOfBytes}
 use Rattle.scan.specs.Parts.{at-part, part-part, part-left, part-right}
-use Rattle.plan_writer.specs.Laws.{length-block, length-seven}
+use Rattle.plan_format.specs.Written.{length-block, length-seven, length-blocks, length-whole}
 
 -- ---- bytes
 
@@ -124,15 +124,6 @@ module _ (n k : ℕ) (rs : List ℕ) (lr : length rs ≤ 448) where
 
 -- ---- the whole file
 
-length-blocks : (n : ℕ) (rs : List ℕ) (N : ℕ) → length (blocksTo n rs N) ≡ N * 512
-unfolding blocksTo
-length-blocks n rs zero = refl
-length-blocks n rs (suc N) =
-    let a = length-append (blocksTo n rs N) (blockOf n N (sevenAt rs N)) in
-    let b = length-block n N (sevenAt rs N) (length-seven rs N) in
-    let c = length-blocks n rs N in
-    omega arith
-
 blocks-at : (n : ℕ) (rs : List ℕ) (N k : ℕ) → k < N → block (blocksTo n rs N) k ≡ blockOf n k (sevenAt rs k)
 unfolding blocksTo
 blocks-at n rs zero k h = absurd (omega arith)
@@ -154,8 +145,7 @@ fifth n k rs = refl
 -- rs: m whole records
 module _ (rs : List ℕ) (m : ℕ) (lm : length rs ≡ 64 * m) where
   pub length-file : length (fileOfBytes rs) ≡ blocksFor (length rs) * 512
-  unfolding fileOfBytes
-  length-file = length-blocks (blocksFor (length rs)) rs (blocksFor (length rs))
+  length-file = length-whole rs
 
   pub file-blocks : blockCount (fileOfBytes rs) ≡ blocksFor (length rs)
   file-blocks = let h = length-file in omega arith

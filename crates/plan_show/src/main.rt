@@ -1,12 +1,18 @@
 // Lists the plan on standard input, a line for each node in node order: number, depth, kind, streams, fetch, keys (01, 'Worked on
 // paper'). A hyphen stands for none. A refusal prints only its number.
+use arena::KEPT_FROM;
+use arena::RECORD;
+use arena::SLOT;
 use libc::STDOUT_FILENO;
 use plan::Fetch;
 use plan::Kind;
+use plan_context::settling::settle_all;
 ghost use mathlib.Core.Path.{_≡_};
 ghost use Prim.Native.Nat.{_*_, _≤_, _<_};
 ghost use lib.ListN.{length};
 ghost use Rattle.plan_format.specs.Blocks.{blockCount};
+ghost use Rattle.arena.specs.Arena.{slotSize};
+ghost use Rattle.plan_arena.specs.Answers.{blockSlots};
 
 const NO_FETCH: u32 = 4294967295;
 
@@ -102,10 +108,10 @@ fn put_keys(r: &[u8])
 
 // The line of one node, from its slot in the arena.
 fn put_node(slot: &[u8], node: usize, depth: usize)
-    requires { ⌜ length (now slot) ≡ 192 ⌝ }
+    requires { ⌜ length (now slot) ≡ slotSize ⌝ }
 {
     let k = slot[0];
-    let facts = fact_slots::load(&slot[80..192]);
+    let facts = fact_slots::load(&slot[KEPT_FROM..SLOT]);
     put_number(node as u64);
     put(b" ");
     put_number(depth as u64);
@@ -116,7 +122,7 @@ fn put_node(slot: &[u8], node: usize, depth: usize)
     put(b" ");
     put_fetch(fetch_of(k, scan::get32(slot, 4)));
     put(b" ");
-    put_keys(&slot[0..64]);
+    put_keys(&slot[0..RECORD]);
     put(b"\n");
 }
 
@@ -147,15 +153,15 @@ fn next_depth(left: &mut [u8; 128], depth: usize, children: u8) -> usize {
 
 // The u nodes of an arena that was read from a file: the last slot is node 0.
 fn list(m: &[u8], u: usize)
-    requires { ⌜ u * 192 ≤ length (now m) ⌝ }
+    requires { ⌜ u * slotSize ≤ length (now m) ⌝ }
 {
     put(b"node depth kind streams fetch keys\n");
     let mut left = [0u8; 128];
     let mut depth = 0;
     let mut i = 0;
     while i < u {
-        let at = (u - 1 - i) * 192;
-        let e = at + 192;
+        let at = (u - 1 - i) * SLOT;
+        let e = at + SLOT;
         put_node(&m[at..e], i, depth);
         depth = next_depth(&mut left, depth, m[at + 1]);
         i += 1;
@@ -164,14 +170,14 @@ fn list(m: &[u8], u: usize)
 
 // Reads the plan into the arena, with its facts, and lists it.
 fn show(plan: &[u8], m: &mut [u8])
-    requires { ⌜ 1344 * blockCount (now plan) ≤ length (now m) ⌝ }
+    requires { ⌜ blockSlots * blockCount (now plan) ≤ length (now m) ⌝ }
 {
     let a = plan_arena::read(plan, m);
     let x = a.refusal;
     let n = plan::number(x);
     if n == 0 {
         let u = a.used;
-        order_check::cache(m, u);
+        settle_all(m, u);
         list(m, u);
     } else {
         put_number(n as u64);

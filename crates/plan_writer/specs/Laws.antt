@@ -5,6 +5,7 @@ use Prim.Native.Nat.{ℕ, _+_, _*_, _-_, _/_, _≤_, _<_}
 use native.Mathlib.Omega.{arith}
 use lib.ListN.{length, take, drop, length-append, length-drop, length-take, take-append-drop, replicate, length-replicate}
 use Rattle.scan.specs.Bytes.{total}
+use Rattle.plan_format.specs.Written.{length-block, length-seven}
 use Rattle.plan_format.specs.Writing.{header, fourBytes, body, blockOf, sevenAt, blocksTo, blocksFor, fileOfBytes, written}
 use borrow.Author.Tests.{lt-ltb, le-ltb}
 use lib.Dec.{ltb}
@@ -58,18 +59,6 @@ pub record Blocks (out₀ rs : List ℕ) (n k : ℕ) (out : List ℕ) : Type 0 w
 pub blocks-none : (out₀ rs : List ℕ) (n : ℕ) → Blocks out₀ rs n 0 out₀
 unfolding blocksTo
 blocks-none out₀ rs n = record { low = omega arith; front = front-none (length out₀) out₀ refl; rest = refl }
-
-pub length-block : (n k : ℕ) (rs : List ℕ) → length rs ≤ 448 → length (blockOf n k rs) ≡ 512
-unfolding blockOf body
-length-block n k rs h =
-    let a = length-append ((header k n (length rs / 64) ++ rs) ++ replicate (500 - length rs) 0) (fourBytes (total ((header k n (length rs / 64) ++ rs) ++ replicate (500 - length rs) 0))) in
-    let b = length-append (header k n (length rs / 64) ++ rs) (replicate (500 - length rs) 0) in
-    let c = length-append (header k n (length rs / 64)) rs in
-    let d = length-replicate {A = ℕ} (500 - length rs) 0 in
-    omega arith
-
-pub length-seven : (rs : List ℕ) (k : ℕ) → length (sevenAt rs k) ≤ 448
-length-seven rs k = omega (arith, length-take 448 (drop (k * 448) rs))
 
 -- what the code lends: k * 512 to k * 512 + 512
 pub blocks-more : (out₀ rs out p : List ℕ) (n k : ℕ) → n * 512 ≤ length out₀ → k < n → p ≡ blockOf n k (sevenAt rs k) → Blocks out₀ rs n k out

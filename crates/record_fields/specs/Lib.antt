@@ -1,2 +1,4 @@
 pub mod Fields
 pub mod Decoded
+pub mod Proper
+pub mod Encoded

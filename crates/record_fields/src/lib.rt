@@ -1,12 +1,37 @@
 // The fields of a record of 64 bytes, as the facts of a node ask for them.
+use key_lists::Keys;
+use key_lists::keys_of;
 use plan::JoinType;
 use plan::Kind;
 ghost use mathlib.Core.Path.{_≡_};
-ghost use Prim.Native.Nat.{_+_, _*_, _%_};
-ghost use lib.ListN.{length, getD};
-ghost use Rattle.row_order.specs.Packed.{bit};
+ghost use mathlib.Core.List.{map};
+ghost use Prim.Native.Nat.{_+_, _*_, _%_, _≤_};
+ghost use lib.ListN.{length, getD, take};
+ghost use Rattle.row_order.specs.Packed.{bit, keyOf};
 ghost use Rattle.plan.specs.Numbers.{kindOf, joinTypeOf};
+ghost use Rattle.key_lists.specs.Keys.{Keyed};
 ghost use Rattle.record_fields.specs.Fields.{packedKeys, packedRightKeys, tailColumns};
+
+// Where the fields stand that are asked for by name (01, 'A plan file comes in').
+pub const KIND: usize = 0;
+
+pub const STREAMS: usize = 2;
+
+pub const MARKS: usize = 3;
+
+pub const FETCH: usize = 4;
+
+pub const SKIP: usize = 8;
+
+pub const KEY_COUNT: usize = 12;
+
+pub const WIDTH: usize = 13;
+// A join's type, a distribution or a met prefix.
+pub const ROLE: usize = 14;
+// A set of columns, a projection's columns or a join's right key columns.
+pub const TAIL: usize = 32;
+
+pub const RECORD: usize = 64;
 
 pub fn kind_of(k: u8) -> Kind
     ensures { λ r. ⌜ r ≡ kindOf k ⌝ }
@@ -73,11 +98,20 @@ pub fn tail_columns(r: &[u8]) -> [usize; 32]
     requires { ⌜ length (now r) ≡ 64 ⌝ }
     ensures { λ k. ⌜ k ≡ tailColumns (now (r .entry)) ⌝ }
 {
-    byte_rows::read32(&r[32..64])
+    byte_rows::read32(&r[TAIL..RECORD])
+}
+
+// The keys of a record.
+pub fn key_list(r: &[u8]) -> Keys
+    requires { ⌜ (length (now r) ≡ 64) × (getD (now r) 12 0 ≤ 8) ⌝ }
+    ensures { λ k. ⌜ Keyed (map keyOf (take (getD (now (r .entry)) 12 0) (packedKeys (now (r .entry))))) k ⌝ }
+{
+    let row = packed_keys(r);
+    keys_of(&row, byte_rows::wide(r[KEY_COUNT]))
 }
 
 // The right key columns of a join beside the left keys' options, packed.
-pub fn packed_right_keys(r: &[u8]) -> [usize; 8]
+fn packed_right_keys(r: &[u8]) -> [usize; 8]
     requires { ⌜ length (now r) ≡ 64 ⌝ }
     ensures { λ k. ⌜ k ≡ packedRightKeys (now (r .entry)) ⌝ }
 {
@@ -93,10 +127,19 @@ pub fn packed_right_keys(r: &[u8]) -> [usize; 8]
     ]
 }
 
+// The right keys of a join, with the left keys' options.
+pub fn right_key_list(r: &[u8]) -> Keys
+    requires { ⌜ (length (now r) ≡ 64) × (getD (now r) 12 0 ≤ 8) ⌝ }
+    ensures { λ k. ⌜ Keyed (map keyOf (take (getD (now (r .entry)) 12 0) (packedRightKeys (now (r .entry))))) k ⌝ }
+{
+    let row = packed_right_keys(r);
+    keys_of(&row, byte_rows::wide(r[KEY_COUNT]))
+}
+
 // The mark in bit 0.
 pub fn preserves(r: &[u8]) -> bool
     requires { ⌜ length (now r) ≡ 64 ⌝ }
     ensures { λ p. ⌜ p ≡ bit (getD (now (r .entry)) 3 0) 0 ⌝ }
 {
-    r[3] & 1 == 1
+    r[MARKS] & 1 == 1
 }

@@ -2,20 +2,32 @@
 ghost use mathlib.Core.Path.{_≡_};
 ghost use Prim.Native.Nat.{_+_, _≤_, _<_};
 ghost use lib.ListN.{length, getD, replicate};
-ghost use Rattle.scan.specs.Bytes.{total, zeros, le16, le32};
+ghost use Rattle.scan.specs.Bytes.{total, zeros, le16, le32, part};
+ghost use Rattle.scan.specs.Words.{value};
+
+// The sum of at most 256 bytes: it fits 16 bits, so that eight are added at once.
+fn sum16(s: &[u8]) -> u16
+    requires { ⌜ length (now s) ≤ 256 ⌝ }
+    ensures { λ r. ⌜ r ≡ total (now (s .entry)) ⌝ }
+{
+    let mut a: u16 = 0;
+    let mut i = 0;
+    while i < s.len() {
+        a += s[i] as u16;
+        i += 1;
+    }
+    a
+}
 
 // The sum of the bytes of s.
 pub fn sum(s: &[u8]) -> u32
     requires { ⌜ length (now s) ≤ 512 ⌝ }
     ensures { λ r. ⌜ r ≡ total (now (s .entry)) ⌝ }
 {
-    let mut a: u32 = 0;
-    let mut i = 0;
-    while i < s.len() {
-        a += s[i] as u32;
-        i += 1;
-    }
-    a
+    let h = s.len() / 2;
+    let a = sum16(&s[..h]);
+    let b = sum16(&s[h..]);
+    a as u32 + b as u32
 }
 
 // Whether each byte of s is zero. With no way out of the loop, many bytes are tested at once.
@@ -39,18 +51,28 @@ pub fn byte(s: &[u8], i: usize) -> u32
     s[i] as u32
 }
 
+// Little-endian numbers, put together by shifts: 01 asks so for the 32-bit sets, and the compiler makes one load of each.
 pub fn get16(s: &[u8], at: usize) -> u32
     requires { ⌜ at + 2 ≤ length (now s) ⌝ }
     ensures { λ r. ⌜ r ≡ le16 (now (s .entry)) at ⌝ }
 {
-    byte(s, at) + 256 * byte(s, at + 1)
+    byte(s, at) | (byte(s, at + 1) << 8)
 }
 
 pub fn get32(s: &[u8], at: usize) -> u32
     requires { ⌜ at + 4 ≤ length (now s) ⌝ }
     ensures { λ r. ⌜ r ≡ le32 (now (s .entry)) at ⌝ }
 {
-    byte(s, at) + 256 * byte(s, at + 1) + 65536 * byte(s, at + 2) + 16777216 * byte(s, at + 3)
+    ((byte(s, at) | (byte(s, at + 1) << 8)) | (byte(s, at + 2) << 16)) | (byte(s, at + 3) << 24)
+}
+
+pub fn get64(s: &[u8], at: usize) -> u64
+    requires { ⌜ at + 8 ≤ length (now s) ⌝ }
+    ensures { λ r. ⌜ r ≡ value (part at 8 (now (s .entry))) ⌝ }
+{
+    let low = get32(s, at);
+    let high = get32(s, at + 4);
+    low as u64 | ((high as u64) << 32)
 }
 
 // Zero over the whole of d.

@@ -34,7 +34,7 @@ simplePlan (tree o c r) = simpleOp o && (simplePlan c && simplePlan r)
 
 -- The rows of a node, from its children's: no kind but filters, projections and unions changes them. A join is left out here
 abbrev pub bagOp : Env → ℕ → ℕ → Op → List (List Row) → List Row
-bagOp E i j (source w n s ks u) bs = concat (tab n (E .rows i))
+bagOp E i j (source s) bs = concat (tab (s .streams) (E .rows i))
 bagOp E i j filter bs = keep (E .test j) (getD bs 0 [])
 bagOp E i j (projection cols) bs = map (proj cols) (getD bs 0 [])
 bagOp E i j union bs = concat bs

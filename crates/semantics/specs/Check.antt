@@ -1,25 +1,28 @@
 -- The order check (01, 'Rows'). These are definitions.
 use mathlib.Core.Path.{_≡_}
 use mathlib.Core.Bool.{Bool, true, false, _&&_}
-use mathlib.Core.List.{List, [], _∷_, map}
-use Prim.Native.Nat.{ℕ}
+use mathlib.Core.List.{List, [], _∷_}
+use Prim.Native.Nat.{ℕ, suc}
 use lib.ListN.{getD}
 use Rattle.row_order.specs.Iso.{Key}
 use Rattle.plan.specs.Forest.{none, tree}
 use Rattle.plan.specs.Op.{Op, Plan}
 use Rattle.plan.specs.WellFormed.{every}
 use Rattle.semantics.specs.Facts.{Facts, met, nothing, facts}
-use Rattle.semantics.specs.Properties.{rightKey, Wish, noWish, same, pairs, wish, wanted}
+use Rattle.semantics.specs.Properties.{Wish, wish, wishesOf, wanted}
 
 -- One wanted order: the child's number, and the keys
 pub record Ask : Type 0 where
   pub child : ℕ
   pub keys : List Key
 
+-- The wanted orders, with their children's numbers from i on
+abbrev pub asksFrom : ℕ → List (List Key) → List Ask
+asksFrom i [] = []
+asksFrom i (ks ∷ l) = record { child = i; keys = ks } ∷ asksFrom (suc i) l
+
 abbrev pub asksOf : Wish → List Ask
-asksOf noWish = []
-asksOf (same ks) = record { child = 0; keys = ks } ∷ []
-asksOf (pairs on) = record { child = 0; keys = map (λ k. k .key) on } ∷ record { child = 1; keys = map rightKey on } ∷ []
+asksOf v = asksFrom 0 (wishesOf v)
 
 abbrev pub asks : Op → List Ask
 asks o = asksOf (wish o)

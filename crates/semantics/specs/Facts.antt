@@ -30,6 +30,10 @@ cl F c = getD (F .cls) c c
 abbrev pub isC : Facts → ℕ → Bool
 isC F c = getD (F .consts) c false
 
+-- The known order
+abbrev pub knownOrder : Facts → List Key
+knownOrder F = F .order
+
 -- ---- key lists
 
 abbrev pub withColumn : ℕ → Key → Key
@@ -60,7 +64,7 @@ common (k ∷ p) (l ∷ q) = cond (eqKey k l) (k ∷ common p q) []
 
 -- "A wanted order is met when its normal form is a prefix of the known order's": a known order is its own normal form (Canon)
 abbrev pub met : Facts → List Key → Bool
-met F ks = prefixb (nf F [] ks) (F .order)
+met F ks = prefixb (nf F [] ks) (knownOrder F)
 
 -- "one list is compatible with a second when the second's normal form is a prefix of the first's"
 abbrev pub compatible : Facts → List Key → List Key → Bool
@@ -147,7 +151,7 @@ isNil (x ∷ l) = false
 
 -- "A repartition's preserve mark counts only over an ordered child of several streams"
 abbrev pub counts : Bool → Facts → Bool
-counts p F = p && (not (isNil (F .order)) && ltb 1 (F .streams))
+counts p F = p && (not (isNil (knownOrder F)) && ltb 1 (F .streams))
 
 -- "Repartition maintains with one input stream or with preserve."
 abbrev pub keepsOrder : Bool → Facts → Bool
@@ -290,8 +294,8 @@ rightOrder RightAnti w ks = ks
 
 -- "Join: the kept side's order, moved to its place; `calculate_join_output_ordering` gives just that."
 abbrev pub joinOrder : JoinType → Kept → Facts → Facts → List Key
-joinOrder t kLeft F G = leftOrder t (F .width) (F .order)
-joinOrder t kRight F G = rightOrder t (F .width) (G .order)
+joinOrder t kLeft F G = leftOrder t (F .width) (knownOrder F)
+joinOrder t kRight F G = rightOrder t (F .width) (knownOrder G)
 joinOrder t kNone F G = []
 
 -- n: the join's streams. "A known order is held in normal form"
@@ -310,15 +314,15 @@ at1 fs = getD fs 1 nothing
 -- "Coalesce loses order. Sort, partial sort and merge know their keys; whole sorts of both kinds, merges, coalesces and global
 -- limits give one stream."
 abbrev pub factsOp : Op → List Facts → Facts
-factsOp (source w n s ks u) fs = reorder (sourceFacts w n s) ks
+factsOp (source s) fs = reorder (sourceFacts (s .width) (s .streams) (s .constants)) (s .keys)
 factsOp filter fs = at0 fs
 factsOp (projection cols) fs = projFacts (at0 fs) cols
 factsOp union fs = unionFacts fs
-factsOp (repartition p n h ks) fs = ordered (at0 fs) n (cond (keepsOrder p (at0 fs)) (at0 fs .order) [])
+factsOp (repartition p n h ks) fs = ordered (at0 fs) n (cond (keepsOrder p (at0 fs)) (knownOrder (at0 fs)) [])
 factsOp (coalesce f) fs = ordered (at0 fs) 1 []
 factsOp (sortOp p ks f) fs = ordered (at0 fs) (sortStreams p (at0 fs)) (nf (at0 fs) [] ks)
 factsOp (mergeOp ks f) fs = ordered (at0 fs) 1 (nf (at0 fs) [] ks)
-factsOp (globalLimit s f note) fs = ordered (at0 fs) 1 (cond (eqb (at0 fs .streams) 1) (at0 fs .order) [])
+factsOp (globalLimit s f note) fs = ordered (at0 fs) 1 (cond (eqb (at0 fs .streams) 1) (knownOrder (at0 fs)) [])
 factsOp (localLimit f note) fs = at0 fs
 factsOp (sortMergeJoin t on) fs = joinFacts t (smjKept t) on (at0 fs) (at1 fs) (cond (byRight t) (at1 fs .streams) (at0 fs .streams))
 factsOp (hashJoin t on) fs = joinFacts t (hashKept t) on (at0 fs) (at1 fs) (at1 fs .streams)

@@ -25,7 +25,7 @@ abbrev pub Fits : Facts → Type 0
 Fits F = All (λ k. k .col < F .width) (F .order)
 
 -- ---- widths
-child-width : (fs : List Facts) (n : ℕ) → getD fs n nothing .width ≡ getD (map (λ F. F .width) fs) n 0
+pub child-width : (fs : List Facts) (n : ℕ) → getD fs n nothing .width ≡ getD (map (λ F. F .width) fs) n 0
 child-width [] n = refl
 child-width (F ∷ fs) zero = refl
 child-width (F ∷ fs) (suc n) = child-width fs n
@@ -57,7 +57,7 @@ sides-width : (t : JoinType) (on : List On) (fs : List Facts) → joinBase t on 
 sides-width t on fs = join-width t on (at0 fs) (at1 fs) ∙ ap₂ (joinWidth t) (child-width fs 0) (child-width fs 1)
 
 pub op-width : (o : Op) (fs : List Facts) → factsOp o fs .width ≡ width o (map (λ F. F .width) fs)
-op-width (source w n s ks u) fs = refl
+op-width (source s) fs = refl
 op-width filter fs = child-width fs 0
 op-width (projection cols) fs = refl
 op-width union fs = union-width fs
@@ -174,7 +174,7 @@ sort-fits : (fs : List Facts) → All Canon fs → (ks : List Key) → keysFit (
 sort-fits fs cs ks e = nf-fits (at0 fs) (nth-canon fs cs 0 .classes) (at0 fs .width) ks (fit-below (at0 fs .width) ks (ap (λ (w : ℕ). keysFit w ks) (child-width fs 0) ∙ e))
 
 op-fits : (o : Op) (fs : List Facts) → columnsOk o (map (λ F. F .width) fs) ≡ true → All Canon fs → All Fits fs → Fits (factsOp o fs)
-op-fits (source w n s ks u) fs e cs hs = nf-fits (sourceFacts w n s) (source-classes w n s) w ks (fit-below w ks (search and-left))
+op-fits (source s) fs e cs hs = nf-fits (sourceFacts (s .width) (s .streams) (s .constants)) (source-classes (s .width) (s .streams) (s .constants)) (s .width) (s .keys) (fit-below (s .width) (s .keys) (search and-left))
 op-fits filter fs e cs hs = nth-fits fs hs 0
 op-fits (projection cols) fs e cs hs = proj-fits (at0 fs) cols (at0 fs .order)
 op-fits union fs e cs hs = union-fits fs hs

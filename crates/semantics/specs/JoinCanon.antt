@@ -253,7 +253,7 @@ nth-canon (F ∷ fs) (all-cons h hs) zero = h
 nth-canon (F ∷ fs) (all-cons h hs) (suc n) = nth-canon fs hs n
 
 pub op-canon : (o : Op) (fs : List Facts) → All Canon fs → Canon (factsOp o fs)
-op-canon (source w n s ks u) fs hs = nf-canon (sourceFacts w n s) n ks (source-classes w n s)
+op-canon (source s) fs hs = nf-canon (sourceFacts (s .width) (s .streams) (s .constants)) (s .streams) (s .keys) (source-classes (s .width) (s .streams) (s .constants))
 op-canon filter fs hs = nth-canon fs hs 0
 op-canon (projection cols) fs hs = proj-canon (at0 fs) (nth-canon fs hs 0) cols
 op-canon union fs hs = union-canon fs hs

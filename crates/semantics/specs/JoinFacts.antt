@@ -15,12 +15,13 @@ use Rattle.plan.specs.Op.{On}
 use Rattle.plan.specs.declared.JoinType.{JoinType}
 use Rattle.plan.specs.declared.JoinType.the-variants.{Inner, Left, Right, Full, LeftSemi, LeftAnti, RightSemi, RightAnti}
 use Rattle.semantics.specs.Facts.{Facts, cl, isC, unknown, Kept, kLeft, kRight, kNone, placed, shifted, beside, inClass, linked, linkAll, joinBase, within, moved, leftOrder, rightOrder, joinOrder}
-use Rattle.semantics.specs.Joins.{keep, joinRow, eqCells, matches, orElse, ifAny, gLeft, gRight, sql, Joined}
+use Rattle.semantics.specs.Joins.{keep, joinRow, nulls, eqCells, matches, orElse, ifAny, leftPairs, rightPairs, Gives, matched, padded, semi, anti, gLeft, gRight, sql, Grouped, Joined}
 use Rattle.semantics.specs.Holds.{RowOK}
 use Rattle.semantics.specs.Bools.{and-left, and-right, or-cases}
 use Rattle.semantics.specs.Lowest.{tab-same, tab-false, min-cases}
 use Rattle.semantics.specs.Streams.{keep-all, sorted-nil}
-use Rattle.semantics.specs.JoinedRows.{cell-left, cell-right, cell-far, eqCells-true, grouped-all, concat-all, grouped-sorted}
+use Rattle.semantics.specs.JoinedRows.{cell-left, cell-right, cell-far, eqCells-true, keep-true, orElse-all, ifAny-all, any-all, map-all, concat-all, grouped-sorted}
+use Rattle.semantics.specs.JoinRows.{joined-sql}
 
 -- ---- constants and classes of a joined row
 -- low: the left side's classes go by their lowest, so they stay in the left columns
@@ -111,7 +112,8 @@ linkAllValue w [] F v = v
 linkAllValue w (k ∷ on) F v =
     linkAllValue w on (cond (ltb (k .key .col) w) (linked F (k .key .col) (w + k .other)) F) (cond (ltb (k .key .col) w) (linkValue F (k .key .col) (w + k .other) v) v)
 
-pub linkAll-row : (w : ℕ) (l r : Row) (on : List On) (F : Facts) (v : ℕ → Cell) → matches on l r ≡ true → RowOK F v (joinRow w l r) → RowOK (linkAll w on F) (linkAllValue w on F v) (joinRow w l r)
+pub linkAll-row : (w : ℕ) (l r : Row) (on : List On) (F : Facts) (v : ℕ → Cell) → matches on l r ≡ true → RowOK F v (joinRow w l r) →
+    RowOK (linkAll w on F) (linkAllValue w on F v) (joinRow w l r)
 linkAll-row w l r [] F v m p = p
 linkAll-row w l r (k ∷ on) F v m p =
     linkAll-row w l r on (cond (ltb (k .key .col) w) (linked F (k .key .col) (w + k .other)) F) (cond (ltb (k .key .col) w) (linkValue F (k .key .col) (w + k .other) v) v)
@@ -120,7 +122,8 @@ linkAll-row w l r (k ∷ on) F v m p =
     eq : cell l (k .key .col) ≡ cell r (k .other)
     eq = eqCells-true (cell l (k .key .col)) (cell r (k .other)) (and-left (eqCells (cell l (k .key .col)) (cell r (k .other))) (matches on l r) m)
 
-    go : (b : Bool) → ltb (k .key .col) w ≡ b → RowOK (cond b (linked F (k .key .col) (w + k .other)) F) (cond b (linkValue F (k .key .col) (w + k .other) v) v) (joinRow w l r)
+    go : (b : Bool) → ltb (k .key .col) w ≡ b →
+        RowOK (cond b (linked F (k .key .col) (w + k .other)) F) (cond b (linkValue F (k .key .col) (w + k .other) v) v) (joinRow w l r)
     go true e = linked-row F (k .key .col) (w + k .other) v (joinRow w l r) p (cell-left w l r (k .key .col) (ltb-true (k .key .col) w e) ∙ eq ∙ sym (cell-right w l r (k .other)))
     go false e = p
 
@@ -135,68 +138,40 @@ joinValue LeftAnti on F G u v = u
 joinValue RightSemi on F G u v = v
 joinValue RightAnti on F G u v = v
 
-keep-true : {A : Type 0} (p : A → Bool) (l : List A) → All (λ x. p x ≡ true) (keep p l)
-keep-true p [] = all-nil
-keep-true p (x ∷ l) = go (p x) refl (keep-true p l)
-  where
-    go : (b : Bool) → p x ≡ b → All (λ y. p y ≡ true) (keep p l) → All (λ y. p y ≡ true) (cond b (x ∷ keep p l) (keep p l))
-    go true e h = all-cons e h
-    go false e h = h
-
-orElse-all : {A : Type 0} {P : A → Type 0} {l m : List A} → All P l → All P m → All P (orElse l m)
-orElse-all all-nil qs = qs
-orElse-all (all-cons p ps) qs = all-cons p ps
-
-ifAny-all : {A B : Type 0} {P : B → Type 0} (l : List A) {m n : List B} → All P m → All P n → All P (ifAny l m n)
-ifAny-all [] ps qs = qs
-ifAny-all (x ∷ l) ps qs = ps
-
-any-all : {A : Type 0} {P : A → Type 0} → ((x : A) → P x) → (l : List A) → All P l
-any-all f [] = all-nil
-any-all f (x ∷ l) = all-cons (f x) (any-all f l)
-
 module _ (on : List On) (F G : Facts) (low : (c : ℕ) → cl F c ≤ c) (u v : ℕ → Cell) where
-  left-rows : (t : JoinType) (R : List Row) → All (RowOK G v) R → (l : Row) → RowOK F u l → All (RowOK (joinBase t on F G) (joinValue t on F G u v)) (gLeft t on (F .width) R l)
-  left-rows Inner R qs l p = all-over (joinRow (F .width) l) (λ r q. linkAll-row (F .width) l r on (beside F G) _ (q .1) (beside-row F low l r G u v p (q .0))) (all-zip (keep-all (matches on l) qs) (keep-true (matches on l) R))
-  left-rows Left R qs l p = orElse-all (all-over (joinRow (F .width) l) (λ r q. placed-row F low l r (G .width) u p) (keep-all (matches on l) qs)) (all-cons (placed-row F low l [] (G .width) u p) all-nil)
-  left-rows Right R qs l p = all-nil
-  left-rows Full R qs l p = all-nil
-  left-rows LeftSemi R qs l p = ifAny-all (keep (matches on l) R) (all-cons p all-nil) all-nil
-  left-rows LeftAnti R qs l p = ifAny-all (keep (matches on l) R) all-nil (all-cons p all-nil)
-  left-rows RightSemi R qs l p = all-nil
-  left-rows RightAnti R qs l p = all-nil
+  abbrev Of : JoinType → Row → Type 0
+  Of t x = RowOK (joinBase t on F G) (joinValue t on F G u v) x
 
-  right-rows : (t : JoinType) (L : List Row) → All (RowOK F u) L → (r : Row) → RowOK G v r → All (RowOK (joinBase t on F G) (joinValue t on F G u v)) (gRight t on (F .width) L r)
-  right-rows Inner L ps r q = all-over (λ l. joinRow (F .width) l r) (λ l p. linkAll-row (F .width) l r on (beside F G) _ (p .1) (beside-row F low l r G u v (p .0) q)) (all-zip (keep-all (λ l. matches on l r) ps) (keep-true (λ l. matches on l r) L))
-  right-rows Left L ps r q = all-nil
-  right-rows Right L ps r q = orElse-all (all-over (λ l. joinRow (F .width) l r) (λ l p. shifted-row (F .width) l r G v q) (keep-all (λ l. matches on l r) ps)) (all-cons (shifted-row (F .width) [] r G v q) all-nil)
-  right-rows Full L ps r q = all-nil
-  right-rows LeftSemi L ps r q = all-nil
-  right-rows LeftAnti L ps r q = all-nil
-  right-rows RightSemi L ps r q = ifAny-all (keep (λ l. matches on l r) L) (all-cons q all-nil) all-nil
-  right-rows RightAnti L ps r q = ifAny-all (keep (λ l. matches on l r) L) all-nil (all-cons q all-nil)
+  inner-rows : (R : List Row) → All (RowOK G v) R → (l : Row) → RowOK F u l → All (Of Inner) (gLeft matched on (F .width) (G .width) R l)
+  inner-rows R qs l p = all-over (joinRow (F .width) l) (λ r q. linkAll-row (F .width) l r on (beside F G) _ (q .1) (beside-row F low l r G u v p (q .0))) (all-zip (keep-all (matches on l) qs) (keep-true (matches on l) R))
 
-  sql-rows : (t : JoinType) (L R : List Row) → All (RowOK F u) L → All (RowOK G v) R → All (RowOK (joinBase t on F G) (joinValue t on F G u v)) (sql t on (F .width) L R)
-  sql-rows Inner L R ps qs = concat-all (gLeft Inner on (F .width) R) (left-rows Inner R qs) ps
-  sql-rows Left L R ps qs = concat-all (gLeft Left on (F .width) R) (left-rows Left R qs) ps
-  sql-rows Right L R ps qs = concat-all (gRight Right on (F .width) L) (right-rows Right L ps) qs
-  sql-rows Full L R ps qs = any-all (unknown-row (F .width + G .width)) (sql Full on (F .width) L R)
-  sql-rows LeftSemi L R ps qs = concat-all (gLeft LeftSemi on (F .width) R) (left-rows LeftSemi R qs) ps
-  sql-rows LeftAnti L R ps qs = concat-all (gLeft LeftAnti on (F .width) R) (left-rows LeftAnti R qs) ps
-  sql-rows RightSemi L R ps qs = concat-all (gRight RightSemi on (F .width) L) (right-rows RightSemi L ps) qs
-  sql-rows RightAnti L R ps qs = concat-all (gRight RightAnti on (F .width) L) (right-rows RightAnti L ps) qs
+  left-rows : (R : List Row) (l : Row) → RowOK F u l → All (Of Left) (gLeft padded on (F .width) (G .width) R l)
+  left-rows R l p = orElse-all (map-all (joinRow (F .width) l) (λ r. placed-row F low l r (G .width) u p) (keep (matches on l) R)) (all-cons (placed-row F low l (nulls (G .width)) (G .width) u p) all-nil)
 
-  pub joined-rows : (t : JoinType) (k : Kept) (p : List Row × List Row) (out : List Row) → All (RowOK F u) (p .0) → All (RowOK G v) (p .1) → Joined t k on (F .width) p out → All (RowOK (joinBase t on F G) (joinValue t on F G u v)) out
-  joined-rows t kLeft p out ps qs j = grouped-all (left-rows t (p .1) qs) ps j
-  joined-rows t kRight p out ps qs j = grouped-all (right-rows t (p .0) ps) qs j
-  joined-rows t kNone p out ps qs j = same-all row-discrete out j (sql-rows t (p .0) (p .1) ps qs)
+  right-rows : (L : List Row) (r : Row) → RowOK G v r → All (Of Right) (gRight padded on (F .width) L r)
+  right-rows L r q = orElse-all (map-all (λ l. joinRow (F .width) l r) (λ l. shifted-row (F .width) l r G v q) (keep (λ l. matches on l r) L)) (all-cons (shifted-row (F .width) (nulls (F .width)) r G v q) all-nil)
+
+  sql-rows : (t : JoinType) (L R : List Row) → All (RowOK F u) L → All (RowOK G v) R → All (Of t) (sql t on (F .width) (G .width) L R)
+  sql-rows Inner L R ps qs = concat-all (gLeft matched on (F .width) (G .width) R) (inner-rows R qs) ps
+  sql-rows Left L R ps qs = concat-all (gLeft padded on (F .width) (G .width) R) (left-rows R) ps
+  sql-rows Right L R ps qs = concat-all (gRight padded on (F .width) L) (right-rows L) qs
+  sql-rows Full L R ps qs = any-all (unknown-row (F .width + G .width)) (sql Full on (F .width) (G .width) L R)
+  sql-rows LeftSemi L R ps qs = concat-all (gLeft semi on (F .width) (G .width) R) (λ l p. ifAny-all (leftPairs on (F .width) R l) (all-cons p all-nil) all-nil) ps
+  sql-rows LeftAnti L R ps qs = concat-all (gLeft anti on (F .width) (G .width) R) (λ l p. ifAny-all (leftPairs on (F .width) R l) all-nil (all-cons p all-nil)) ps
+  sql-rows RightSemi L R ps qs = concat-all (gRight semi on (F .width) L) (λ r q. ifAny-all (rightPairs on (F .width) L r) (all-cons q all-nil) all-nil) qs
+  sql-rows RightAnti L R ps qs = concat-all (gRight anti on (F .width) L) (λ r q. ifAny-all (rightPairs on (F .width) L r) all-nil (all-cons q all-nil)) qs
+
+  pub joined-rows : (t : JoinType) (k : Kept) (p : List Row × List Row) (out : List Row) → All (RowOK F u) (p .0) → All (RowOK G v) (p .1) →
+      Joined t k on (F .width) (G .width) p out → All (Of t) out
+  joined-rows t k p out ps qs j = same-all row-discrete out (joined-sql on (F .width) (G .width) p out t k j) (sql-rows t (p .0) (p .1) ps qs)
 
 -- ---- the order of the kept side
 within-le : (w : ℕ) (ks : List Key) (x y r s : Row) → le ks x y ≡ true → le (within w ks) (joinRow w x r) (joinRow w y s) ≡ true
 within-le w [] x y r s h = refl
 within-le w (k ∷ ks) x y r s h = go (ltb (k .col) w) refl (λ a. within-le w ks x y r s a)
   where
-    go : (b : Bool) → ltb (k .col) w ≡ b → (le ks x y ≡ true → le (within w ks) (joinRow w x r) (joinRow w y s) ≡ true) → le (cond b (k ∷ within w ks) []) (joinRow w x r) (joinRow w y s) ≡ true
+    go : (b : Bool) → ltb (k .col) w ≡ b → (le ks x y ≡ true → le (within w ks) (joinRow w x r) (joinRow w y s) ≡ true) →
+        le (cond b (k ∷ within w ks) []) (joinRow w x r) (joinRow w y s) ≡ true
     go false e ih = refl
     go true e ih =
         let lt = ltb-true (k .col) w e in
@@ -212,65 +187,39 @@ moved-le w (k ∷ ks) x y l m h =
     le-in (moved w k) (map (moved w) ks) (joinRow w l x) (joinRow w m y) (ap₂ (leCell (k .desc) (k .first)) cx cy ∙ le-head k ks x y h) (λ a. moved-le w ks x y l m (le-tail k ks x y h (sym (ap₂ (leCell (k .desc) (k .first)) cy cx) ∙ a)))
 
 -- x is a row of l's group
-abbrev LeftOf : JoinType → ℕ → Row → Row → Type 0
-LeftOf Inner w l x = (r : Row) × (x ≡ joinRow w l r)
-LeftOf Left w l x = (r : Row) × (x ≡ joinRow w l r)
-LeftOf Right w l x = Unit {0}
-LeftOf Full w l x = Unit {0}
-LeftOf LeftSemi w l x = x ≡ l
-LeftOf LeftAnti w l x = x ≡ l
-LeftOf RightSemi w l x = Unit {0}
-LeftOf RightAnti w l x = Unit {0}
+abbrev LeftOf : Gives → ℕ → Row → Row → Type 0
+LeftOf matched w l x = (r : Row) × (x ≡ joinRow w l r)
+LeftOf padded w l x = (r : Row) × (x ≡ joinRow w l r)
+LeftOf semi w l x = x ≡ l
+LeftOf anti w l x = x ≡ l
 
-left-of : (t : JoinType) (on : List On) (w : ℕ) (R : List Row) (l : Row) → All (LeftOf t w l) (gLeft t on w R l)
-left-of Inner on w R l = all-over {P = λ r. Unit {0}} (joinRow w l) (λ r _. (r, refl)) (any-all (λ r. tt) (keep (matches on l) R))
-left-of Left on w R l = orElse-all (all-over {P = λ r. Unit {0}} (joinRow w l) (λ r _. (r, refl)) (any-all (λ r. tt) (keep (matches on l) R))) (all-cons ([], refl) all-nil)
-left-of Right on w R l = all-nil
-left-of Full on w R l = all-nil
-left-of LeftSemi on w R l = ifAny-all (keep (matches on l) R) (all-cons refl all-nil) all-nil
-left-of LeftAnti on w R l = ifAny-all (keep (matches on l) R) all-nil (all-cons refl all-nil)
-left-of RightSemi on w R l = all-nil
-left-of RightAnti on w R l = all-nil
+left-of : (g : Gives) (on : List On) (w v : ℕ) (R : List Row) (l : Row) → All (LeftOf g w l) (gLeft g on w v R l)
+left-of matched on w v R l = map-all (joinRow w l) (λ r. (r, refl)) (keep (matches on l) R)
+left-of padded on w v R l = orElse-all (map-all (joinRow w l) (λ r. (r, refl)) (keep (matches on l) R)) (all-cons (nulls v, refl) all-nil)
+left-of semi on w v R l = ifAny-all (leftPairs on w R l) (all-cons refl all-nil) all-nil
+left-of anti on w v R l = ifAny-all (leftPairs on w R l) all-nil (all-cons refl all-nil)
 
-left-le : (t : JoinType) (w : ℕ) (ks : List Key) (x y a b : Row) → LeftOf t w x a → LeftOf t w y b → le ks x y ≡ true → le (leftOrder t w ks) a b ≡ true
-left-le Inner w ks x y a b p q h = subst₂ (λ c d. le (within w ks) c d ≡ true) (sym (p .1)) (sym (q .1)) (within-le w ks x y (p .0) (q .0) h)
-left-le Left w ks x y a b p q h = subst₂ (λ c d. le (within w ks) c d ≡ true) (sym (p .1)) (sym (q .1)) (within-le w ks x y (p .0) (q .0) h)
-left-le Right w ks x y a b p q h = refl
-left-le Full w ks x y a b p q h = refl
-left-le LeftSemi w ks x y a b p q h = subst₂ (λ c d. le ks c d ≡ true) (sym p) (sym q) h
-left-le LeftAnti w ks x y a b p q h = subst₂ (λ c d. le ks c d ≡ true) (sym p) (sym q) h
-left-le RightSemi w ks x y a b p q h = refl
-left-le RightAnti w ks x y a b p q h = refl
+abbrev RightOf : Gives → ℕ → Row → Row → Type 0
+RightOf matched w r x = (l : Row) × (x ≡ joinRow w l r)
+RightOf padded w r x = (l : Row) × (x ≡ joinRow w l r)
+RightOf semi w r x = x ≡ r
+RightOf anti w r x = x ≡ r
 
-abbrev RightOf : JoinType → ℕ → Row → Row → Type 0
-RightOf Inner w r x = (l : Row) × (x ≡ joinRow w l r)
-RightOf Left w r x = Unit {0}
-RightOf Right w r x = (l : Row) × (x ≡ joinRow w l r)
-RightOf Full w r x = Unit {0}
-RightOf LeftSemi w r x = Unit {0}
-RightOf LeftAnti w r x = Unit {0}
-RightOf RightSemi w r x = x ≡ r
-RightOf RightAnti w r x = x ≡ r
+right-of : (g : Gives) (on : List On) (w : ℕ) (L : List Row) (r : Row) → All (RightOf g w r) (gRight g on w L r)
+right-of matched on w L r = map-all (λ l. joinRow w l r) (λ l. (l, refl)) (keep (λ l. matches on l r) L)
+right-of padded on w L r = orElse-all (map-all (λ l. joinRow w l r) (λ l. (l, refl)) (keep (λ l. matches on l r) L)) (all-cons (nulls w, refl) all-nil)
+right-of semi on w L r = ifAny-all (rightPairs on w L r) (all-cons refl all-nil) all-nil
+right-of anti on w L r = ifAny-all (rightPairs on w L r) all-nil (all-cons refl all-nil)
 
-right-of : (t : JoinType) (on : List On) (w : ℕ) (L : List Row) (r : Row) → All (RightOf t w r) (gRight t on w L r)
-right-of Inner on w L r = all-over {P = λ l. Unit {0}} (λ l. joinRow w l r) (λ l _. (l, refl)) (any-all (λ l. tt) (keep (λ l. matches on l r) L))
-right-of Left on w L r = all-nil
-right-of Right on w L r = orElse-all (all-over {P = λ l. Unit {0}} (λ l. joinRow w l r) (λ l _. (l, refl)) (any-all (λ l. tt) (keep (λ l. matches on l r) L))) (all-cons ([], refl) all-nil)
-right-of Full on w L r = all-nil
-right-of LeftSemi on w L r = all-nil
-right-of LeftAnti on w L r = all-nil
-right-of RightSemi on w L r = ifAny-all (keep (λ l. matches on l r) L) (all-cons refl all-nil) all-nil
-right-of RightAnti on w L r = ifAny-all (keep (λ l. matches on l r) L) all-nil (all-cons refl all-nil)
+-- two rows of groups compare as the kept rows do
+near-le : (w : ℕ) (ks : List Key) (x y a b : Row) → LeftOf matched w x a → LeftOf matched w y b → le ks x y ≡ true → le (within w ks) a b ≡ true
+near-le w ks x y a b p q h = subst₂ (λ c d. le (within w ks) c d ≡ true) (sym (p .1)) (sym (q .1)) (within-le w ks x y (p .0) (q .0) h)
 
-right-le : (t : JoinType) (w : ℕ) (ks : List Key) (x y a b : Row) → RightOf t w x a → RightOf t w y b → le ks x y ≡ true → le (rightOrder t w ks) a b ≡ true
-right-le Inner w ks x y a b p q h = subst₂ (λ c d. le (map (moved w) ks) c d ≡ true) (sym (p .1)) (sym (q .1)) (moved-le w ks x y (p .0) (q .0) h)
-right-le Left w ks x y a b p q h = refl
-right-le Right w ks x y a b p q h = subst₂ (λ c d. le (map (moved w) ks) c d ≡ true) (sym (p .1)) (sym (q .1)) (moved-le w ks x y (p .0) (q .0) h)
-right-le Full w ks x y a b p q h = refl
-right-le LeftSemi w ks x y a b p q h = refl
-right-le LeftAnti w ks x y a b p q h = refl
-right-le RightSemi w ks x y a b p q h = subst₂ (λ c d. le ks c d ≡ true) (sym p) (sym q) h
-right-le RightAnti w ks x y a b p q h = subst₂ (λ c d. le ks c d ≡ true) (sym p) (sym q) h
+far-le : (w : ℕ) (ks : List Key) (x y a b : Row) → RightOf matched w x a → RightOf matched w y b → le ks x y ≡ true → le (map (moved w) ks) a b ≡ true
+far-le w ks x y a b p q h = subst₂ (λ c d. le (map (moved w) ks) c d ≡ true) (sym (p .1)) (sym (q .1)) (moved-le w ks x y (p .0) (q .0) h)
+
+own-le : (ks : List Key) (x y a b : Row) → a ≡ x → b ≡ y → le ks x y ≡ true → le ks a b ≡ true
+own-le ks x y a b p q h = subst₂ (λ c d. le ks c d ≡ true) (sym p) (sym q) h
 
 -- what is asked of a pair of streams: the kept side is in order
 abbrev pub KeptSorted : Kept → Facts → Facts → List Row × List Row → Type 0
@@ -278,7 +227,42 @@ KeptSorted kLeft F G p = Sorted (F .order) (p .0)
 KeptSorted kRight F G p = Sorted (G .order) (p .1)
 KeptSorted kNone F G p = Unit {0}
 
-pub joined-sorted : (on : List On) (F G : Facts) (t : JoinType) (k : Kept) (p : List Row × List Row) (out : List Row) → KeptSorted k F G p → Joined t k on (F .width) p out → Sorted (joinOrder t k F G) out
-joined-sorted on F G t kLeft p out s j = grouped-sorted (F .order) (leftOrder t (F .width) (F .order)) {Im = LeftOf t (F .width)} (left-of t on (F .width) (p .1)) (left-le t (F .width) (F .order)) s j
-joined-sorted on F G t kRight p out s j = grouped-sorted (G .order) (rightOrder t (F .width) (G .order)) {Im = RightOf t (F .width)} (right-of t on (F .width) (p .0)) (right-le t (F .width) (G .order)) s j
-joined-sorted on F G t kNone p out s j = sorted-nil out
+module _ (on : List On) (F G : Facts) (p : List Row × List Row) (out : List Row) where
+  abbrev Gets : JoinType → Kept → Type 0
+  Gets t k = KeptSorted k F G p → Joined t k on (F .width) (G .width) p out → Sorted (joinOrder t k F G) out
+
+  -- left rows in order, and what each gives
+  by-left : (g : Gives) (ls : List Key) →
+      ((x y a b : Row) → LeftOf g (F .width) x a → LeftOf g (F .width) y b → le (F .order) x y ≡ true → le ls a b ≡ true) → Sorted (F .order) (p .0) →
+      Grouped (gLeft g on (F .width) (G .width) (p .1)) (p .0) out → Sorted ls out
+  by-left g ls f s j = grouped-sorted (F .order) ls {Im = LeftOf g (F .width)} (left-of g on (F .width) (G .width) (p .1)) f s j
+
+  left-sorted : (t : JoinType) → Gets t kLeft
+  left-sorted Inner s j = by-left matched (within (F .width) (F .order)) (near-le (F .width) (F .order)) s j
+  left-sorted Left s j = by-left padded (within (F .width) (F .order)) (near-le (F .width) (F .order)) s j
+  left-sorted Right s j = sorted-nil out
+  left-sorted Full s j = sorted-nil out
+  left-sorted LeftSemi s j = by-left semi (F .order) (own-le (F .order)) s j
+  left-sorted LeftAnti s j = by-left anti (F .order) (own-le (F .order)) s j
+  left-sorted RightSemi s j = sorted-nil out
+  left-sorted RightAnti s j = sorted-nil out
+
+  by-right : (g : Gives) (ls : List Key) →
+      ((x y a b : Row) → RightOf g (F .width) x a → RightOf g (F .width) y b → le (G .order) x y ≡ true → le ls a b ≡ true) → Sorted (G .order) (p .1) →
+      Grouped (gRight g on (F .width) (p .0)) (p .1) out → Sorted ls out
+  by-right g ls f s j = grouped-sorted (G .order) ls {Im = RightOf g (F .width)} (right-of g on (F .width) (p .0)) f s j
+
+  right-sorted : (t : JoinType) → Gets t kRight
+  right-sorted Inner s j = by-right matched (map (moved (F .width)) (G .order)) (far-le (F .width) (G .order)) s j
+  right-sorted Left s j = sorted-nil out
+  right-sorted Right s j = by-right padded (map (moved (F .width)) (G .order)) (far-le (F .width) (G .order)) s j
+  right-sorted Full s j = sorted-nil out
+  right-sorted LeftSemi s j = sorted-nil out
+  right-sorted LeftAnti s j = sorted-nil out
+  right-sorted RightSemi s j = by-right semi (G .order) (own-le (G .order)) s j
+  right-sorted RightAnti s j = by-right anti (G .order) (own-le (G .order)) s j
+
+  pub joined-sorted : (t : JoinType) (k : Kept) → KeptSorted k F G p → Joined t k on (F .width) (G .width) p out → Sorted (joinOrder t k F G) out
+  joined-sorted t kLeft s j = left-sorted t s j
+  joined-sorted t kRight s j = right-sorted t s j
+  joined-sorted t kNone s j = sorted-nil out

@@ -1,6 +1,6 @@
 -- The rows of a join, cell by cell, and the order of rows in groups. Assumes nothing.
-use mathlib.Core.Path.{_≡_, sym, ap, _∙_}
-use mathlib.Core.Bool.{true}
+use mathlib.Core.Path.{_≡_, refl, sym, ap, _∙_}
+use mathlib.Core.Bool.{Bool, true, false, cond}
 use mathlib.Core.List.{List, [], _∷_, _++_, map}
 use Prim.Native.Nat.{ℕ, _+_, _-_, _≤_, _<_}
 use native.Mathlib.Omega.{arith}
@@ -10,9 +10,9 @@ use lib.ListN.{List·getD-append}
 use lib.Seq.{getD-append-add}
 use Rattle.row_order.specs.Iso.{Cell, null, num, Row, Key, cell, eqℤ}
 use Rattle.row_order.specs.Order.{le, row-discrete, no-bool, le-refl}
-use Rattle.row_order.specs.Lists.{concat, All, all-nil, all-head, all-tail, all-map, all-append, same-all, pw-nil, pw-cons, pw-head, pw-tail, all-concat, all-over, tab, length-tab, getD-tab}
+use Rattle.row_order.specs.Lists.{concat, All, all-nil, all-cons, all-head, all-tail, all-map, all-append, same-all, pw-nil, pw-cons, pw-head, pw-tail, all-concat, all-over, tab, length-tab, getD-tab}
 use Rattle.row_order.specs.Sorting.{Rel, Sorted}
-use Rattle.semantics.specs.Joins.{joinRow, eqCells, Grouped, grouped-nil, grouped-cons}
+use Rattle.semantics.specs.Joins.{keep, joinRow, eqCells, orElse, ifAny, Grouped, grouped-nil, grouped-cons}
 
 pub cell-left : (w : ℕ) (l r : Row) (c : ℕ) → c < w → cell (joinRow w l r) c ≡ cell l c
 cell-left w l r c h = List·getD-append (tab w (cell l)) r null c (omega (arith, length-tab w (cell l))) ∙ getD-tab w (cell l) null c h
@@ -36,6 +36,30 @@ eqCells-true (num x) null e = no-bool e
 eqCells-true (num x) (num y) e = ap num (eqℤ-true x y e)
 
 -- ---- what holds of all of them
+pub keep-true : {A : Type 0} (p : A → Bool) (l : List A) → All (λ x. p x ≡ true) (keep p l)
+keep-true p [] = all-nil
+keep-true p (x ∷ l) = go (p x) refl (keep-true p l)
+  where
+    go : (b : Bool) → p x ≡ b → All (λ y. p y ≡ true) (keep p l) → All (λ y. p y ≡ true) (cond b (x ∷ keep p l) (keep p l))
+    go true e h = all-cons e h
+    go false e h = h
+
+pub orElse-all : {A : Type 0} {P : A → Type 0} {l m : List A} → All P l → All P m → All P (orElse l m)
+orElse-all all-nil qs = qs
+orElse-all (all-cons p ps) qs = all-cons p ps
+
+pub ifAny-all : {A B : Type 0} {P : B → Type 0} (l : List A) {m n : List B} → All P m → All P n → All P (ifAny l m n)
+ifAny-all [] ps qs = qs
+ifAny-all (x ∷ l) ps qs = ps
+
+pub any-all : {A : Type 0} {P : A → Type 0} → ((x : A) → P x) → (l : List A) → All P l
+any-all f [] = all-nil
+any-all f (x ∷ l) = all-cons (f x) (any-all f l)
+
+pub map-all : {A B : Type 0} {P : B → Type 0} (f : A → B) → ((x : A) → P (f x)) → (l : List A) → All P (map f l)
+map-all f h [] = all-nil
+map-all f h (x ∷ l) = all-cons (h x) (map-all f h l)
+
 pub grouped-all : {P Q : Row → Type 0} {g : Row → List Row} {l m : List Row} → ((x : Row) → P x → All Q (g x)) → All P l → Grouped g l m → All Q m
 grouped-all f ps grouped-nil = all-nil
 grouped-all f ps (grouped-cons {x = x} {t = t} s h) = all-append (same-all row-discrete t s (f x (all-head ps))) (grouped-all f (all-tail ps) h)

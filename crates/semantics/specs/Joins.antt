@@ -14,9 +14,13 @@ abbrev pub keep : {A : Type 0} → (A → Bool) → List A → List A
 keep p [] = []
 keep p (x ∷ l) = cond (p x) (x ∷ keep p l) (keep p l)
 
--- A left row, w columns wide, beside a right row. A missing cell is null, so the empty row stands for a row of nulls
+-- A left row, w columns wide, beside a right row
 abbrev pub joinRow : ℕ → Row → Row → Row
 joinRow w l r = tab w (cell l) ++ r
+
+-- A row of nulls, w columns wide
+abbrev pub nulls : ℕ → Row
+nulls w = tab w (λ c. null)
 
 -- SQL equality: a null equals nothing
 abbrev pub eqCells : Cell → Cell → Bool
@@ -38,53 +42,88 @@ abbrev pub ifAny : {A B : Type 0} → List A → List B → List B → List B
 ifAny [] m n = n
 ifAny (x ∷ l) m n = m
 
--- The rows that one left row gives, R being the right rows. For Inner, Left, LeftSemi and LeftAnti these are the SQL join's, whether
--- or not the join keeps the left side's order; the other types aren't taken by left rows, and have none here
-abbrev pub gLeft : JoinType → List On → ℕ → List Row → Row → List Row
-gLeft Inner on w R l = map (joinRow w l) (keep (matches on l) R)
-gLeft Left on w R l = orElse (map (joinRow w l) (keep (matches on l) R)) (joinRow w l [] ∷ [])
-gLeft Right on w R l = []
-gLeft Full on w R l = []
-gLeft LeftSemi on w R l = ifAny (keep (matches on l) R) (l ∷ []) []
-gLeft LeftAnti on w R l = ifAny (keep (matches on l) R) [] (l ∷ [])
-gLeft RightSemi on w R l = []
-gLeft RightAnti on w R l = []
+-- ---- the SQL join of left rows L, w columns wide, and right rows R, v columns wide
 
--- The rows that one right row gives, L being the left rows. For Inner, Right, RightSemi and RightAnti these are the SQL join's, whether
--- or not the join keeps the right side's order; the other types aren't taken by right rows, and have none here
-abbrev pub gRight : JoinType → List On → ℕ → List Row → Row → List Row
-gRight Inner on w L r = map (λ l. joinRow w l r) (keep (λ l. matches on l r) L)
-gRight Left on w L r = []
-gRight Right on w L r = orElse (map (λ l. joinRow w l r) (keep (λ l. matches on l r) L)) (joinRow w [] r ∷ [])
-gRight Full on w L r = []
-gRight LeftSemi on w L r = []
-gRight LeftAnti on w L r = []
-gRight RightSemi on w L r = ifAny (keep (λ l. matches on l r) L) (r ∷ []) []
-gRight RightAnti on w L r = ifAny (keep (λ l. matches on l r) L) [] (r ∷ [])
+-- The rows that a left row makes with its matches, and a right row with its
+abbrev pub leftPairs : List On → ℕ → List Row → Row → List Row
+leftPairs on w R l = map (joinRow w l) (keep (matches on l) R)
+
+abbrev pub rightPairs : List On → ℕ → List Row → Row → List Row
+rightPairs on w L r = map (λ l. joinRow w l r) (keep (λ l. matches on l r) L)
+
+-- What one row of a side gives: the rows that it makes with its matches; these, or where it has none itself beside nulls; itself where
+-- it has a match; itself where it has none
+pub data Gives : Type 0 where
+  matched padded semi anti : Gives
+
+-- ms: the rows that x makes with its matches; alone: x beside nulls
+abbrev pub given : Gives → List Row → Row → Row → List Row
+given matched ms x alone = ms
+given padded ms x alone = orElse ms (alone ∷ [])
+given semi ms x alone = ifAny ms (x ∷ []) []
+given anti ms x alone = ifAny ms [] (x ∷ [])
+
+abbrev pub gLeft : Gives → List On → ℕ → ℕ → List Row → Row → List Row
+gLeft g on w v R l = given g (leftPairs on w R l) l (joinRow w l (nulls v))
+
+abbrev pub gRight : Gives → List On → ℕ → List Row → Row → List Row
+gRight g on w L r = given g (rightPairs on w L r) r (joinRow w (nulls w) r)
 
 -- A right row that matches no left row, beside nulls
 abbrev pub unmatched : List On → ℕ → List Row → Row → List Row
-unmatched on w L r = ifAny (keep (λ l. matches on l r) L) [] (joinRow w [] r ∷ [])
+unmatched on w L r = ifAny (rightPairs on w L r) [] (joinRow w (nulls w) r ∷ [])
 
 -- "all rows of the SQL join"
-abbrev pub sql : JoinType → List On → ℕ → List Row → List Row → List Row
-sql Inner on w L R = concat (map (gLeft Inner on w R) L)
-sql Left on w L R = concat (map (gLeft Left on w R) L)
-sql Right on w L R = concat (map (gRight Right on w L) R)
-sql Full on w L R = concat (map (gLeft Left on w R) L) ++ concat (map (unmatched on w L) R)
-sql LeftSemi on w L R = concat (map (gLeft LeftSemi on w R) L)
-sql LeftAnti on w L R = concat (map (gLeft LeftAnti on w R) L)
-sql RightSemi on w L R = concat (map (gRight RightSemi on w L) R)
-sql RightAnti on w L R = concat (map (gRight RightAnti on w L) R)
+abbrev pub sql : JoinType → List On → ℕ → ℕ → List Row → List Row → List Row
+sql Inner on w v L R = concat (map (gLeft matched on w v R) L)
+sql Left on w v L R = concat (map (gLeft padded on w v R) L)
+sql Right on w v L R = concat (map (gRight padded on w L) R)
+sql Full on w v L R = concat (map (gLeft padded on w v R) L) ++ concat (map (unmatched on w L) R)
+sql LeftSemi on w v L R = concat (map (gLeft semi on w v R) L)
+sql LeftAnti on w v L R = concat (map (gLeft anti on w v R) L)
+sql RightSemi on w v L R = concat (map (gRight semi on w L) R)
+sql RightAnti on w v L R = concat (map (gRight anti on w L) R)
 
--- "in the order of the kept side's rows": row by row, the rows of one kept row in any order
+-- ---- "in the order of the kept side's rows"
+
+-- A join's rows told row by row of one side, by what each gives; or they can't be told by that side
+pub data Told : Type 0 where
+  told : Gives → Told
+  untold : Told
+
+abbrev pub byLeftRows : JoinType → Told
+byLeftRows Inner = told matched
+byLeftRows Left = told padded
+byLeftRows Right = untold
+byLeftRows Full = untold
+byLeftRows LeftSemi = told semi
+byLeftRows LeftAnti = told anti
+byLeftRows RightSemi = untold
+byLeftRows RightAnti = untold
+
+abbrev pub byRightRows : JoinType → Told
+byRightRows Inner = told matched
+byRightRows Left = untold
+byRightRows Right = told padded
+byRightRows Full = untold
+byRightRows LeftSemi = untold
+byRightRows LeftAnti = untold
+byRightRows RightSemi = told semi
+byRightRows RightAnti = told anti
+
+-- Row by row, the rows of one kept row in any order
 pub data Grouped (g : Row → List Row) : List Row → List Row → Type 0 where
   grouped-nil : Grouped g [] []
   grouped-cons : {x : Row} {l t m : List Row} → Same t (g x) → Grouped g l m → Grouped g (x ∷ l) (t ++ m)
 
--- What a join may put out for one pair of streams; "or in any order where no side is kept". JoinRows: for the side that its kind keeps
--- (smjKept, hashKept) these are all rows of the SQL join of that pair
-abbrev pub Joined : JoinType → Kept → List On → ℕ → List Row × List Row → List Row → Type 0
-Joined t kLeft on w p out = Grouped (gLeft t on w (p .1)) (p .0) out
-Joined t kRight on w p out = Grouped (gRight t on w (p .0)) (p .1) out
-Joined t kNone on w p out = Same out (sql t on w (p .0) (p .1))
+-- No rows are in the order of a side by which they can't be told
+abbrev pub RowByRow : Told → (Gives → Row → List Row) → List Row → List Row → Type 0
+RowByRow (told k) g l out = Grouped (g k) l out
+RowByRow untold g l out = ⊥
+
+-- What a join may put out for one pair of streams; "or in any order where no side is kept". JoinRows: whichever side is kept, all rows of
+-- the SQL join of that pair. Exists: no join keeps a side by which its rows can't be told
+abbrev pub Joined : JoinType → Kept → List On → ℕ → ℕ → List Row × List Row → List Row → Type 0
+Joined t kLeft on w v p out = RowByRow (byLeftRows t) (λ k. gLeft k on w v (p .1)) (p .0) out
+Joined t kRight on w v p out = RowByRow (byRightRows t) (λ k. gRight k on w (p .0)) (p .1) out
+Joined t kNone on w v p out = Same out (sql t on w v (p .0) (p .1))

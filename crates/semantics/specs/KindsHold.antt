@@ -10,19 +10,19 @@ use lib.Dec.{eqb}
 use lib.ListN.{length, getD, length-append, length-map}
 use Rattle.row_order.specs.Iso.{Cell, null, Row, Key, cell}
 use Rattle.row_order.specs.Order.{row-discrete, no-bool}
-use Rattle.row_order.specs.Lists.{concat, All, all-nil, all-cons, all-head, all-tail, all-map, all-zip, all-append, same-all, Pw, pw-map, all-concat, all-over, pw-over, Mix, mix-nil, mix-left, Mixes, mixes-nil, mixes-cons, mixes-all, unmix-all, tab, length-tab, tab-true, tab-at}
+use Rattle.row_order.specs.Lists.{concat, All, all-nil, all-cons, all-head, all-tail, all-map, all-zip, all-append, same-all, Pw, pw-map, all-concat, all-over, pw-over, Mix, mix-nil, mix-left, Mixes, mixes-nil, mixes-cons, mixes-all, tab, tab-true, tab-at}
 use Rattle.row_order.specs.Sorting.{Sorted}
 use Rattle.plan.specs.declared.Fetch.{Fetch}
 use Rattle.plan.specs.declared.Fetch.the-variants.{Unlimited, AtMost}
 use Rattle.semantics.specs.Facts.{Facts, cl, isC, nf, common, met, ordered, lowest, both, unionFacts, projFacts, sortStreams}
 use Rattle.semantics.specs.Properties.{Cut}
 use Rattle.semantics.specs.Joins.{keep}
-use Rattle.semantics.specs.Runs.{Streams, Each, each-nil, each-cons, OneStream, proj, sentTo, Split, SortOf, Sorting, front, cutRows}
-use Rattle.semantics.specs.Holds.{RowOK, Holds}
+use Rattle.semantics.specs.Runs.{Streams, Each, each-nil, each-cons, OneStream, proj, Split, SortOf, Sorting, front, cutRows}
+use Rattle.semantics.specs.Holds.{RowOK, Holds, AsMany}
 use Rattle.semantics.specs.Bools.{and-left, and-right}
 use Rattle.semantics.specs.Lowest.{lowest-le, lowest-ok, tab-false}
 use Rattle.semantics.specs.Normal.{nf-le, common-left, common-right, met-le, cell-proj, carries, proj-le}
-use Rattle.semantics.specs.Streams.{keep-all, keep-pw, sorted-nil, all-sorted-nil, streams-map, all-at, all-tab, each-length, all-take, all-drop, pw-take, pw-drop}
+use Rattle.semantics.specs.Streams.{keep-all, keep-pw, sorted-nil, all-sorted-nil, streams-map, concat-each, each-length, all-take, all-drop, pw-take, pw-drop}
 
 -- sorted by keys: sorted by their normal form
 pub nf-sorted : (F : Facts) (v : ℕ → Cell) (ks : List Key) {s : Streams} → All (All (RowOK F v)) s → All (Sorted ks) s → All (Sorted (nf F [] ks)) s
@@ -65,21 +65,20 @@ module _ (F G : Facts) where
   pub both-holds : (s t : Streams) → Holds F s → Holds G t → Holds (both F G) (s ++ t)
   both-holds s t h k =
       record {
-        count = length-append s t ∙ ap₂ _+_ (h .count) (k .count);
         value = λ c. null;
         rows = all-append (all-map (λ l. all-map (row-of F in-left (h .value))) (h .rows)) (all-map (λ l. all-map (row-of G in-right (k .value))) (k .rows));
         sorted = all-append (streams-map (F .order) (common (F .order) (G .order)) (λ x y _ _. common-left (F .order) (G .order) x y) (h .rows) (h .sorted)) (streams-map (G .order) (common (F .order) (G .order)) (λ x y _ _. common-right (F .order) (G .order) x y) (k .rows) (k .sorted));
       }
 
 pub union-holds : {fs : List Facts} {css : List Streams} → Each Holds fs css → Holds (unionFacts fs) (concat css)
-union-holds each-nil = record { count = refl; value = λ c. null; rows = all-nil; sorted = all-nil }
+union-holds each-nil = record { value = λ c. null; rows = all-nil; sorted = all-nil }
 union-holds (each-cons {x = F} {y = s} h each-nil) = subst (Holds F) (sym (append-nil s)) h
 union-holds (each-cons {x = F} {y = s} h (each-cons {x = G} {y = t} {l = fs} {m = css} k ks)) = both-holds F (unionFacts (G ∷ fs)) s (t ++ concat css) h (union-holds (each-cons k ks))
 
 -- ---- the kinds
 pub filter-holds : (F : Facts) (p : Row → Bool) (s : Streams) → Holds F s → Holds F (map (keep p) s)
 filter-holds F p s h =
-    record { count = length-map s (keep p) ∙ h .count; value = h .value; rows = all-over (keep p) (λ l. keep-all p) (h .rows); sorted = all-over (keep p) (λ l. keep-pw p) (h .sorted) }
+    record { value = h .value; rows = all-over (keep p) (λ l. keep-all p) (h .rows); sorted = all-over (keep p) (λ l. keep-pw p) (h .sorted) }
 
 module _ (F : Facts) (v : ℕ → Cell) (cols : List ℕ) where
   proj-class : (r : Row) → RowOK F v r → (j : ℕ) → cell (proj cols r) (cl (projFacts F cols) j) ≡ cell (proj cols r) j
@@ -102,7 +101,6 @@ module _ (F : Facts) (v : ℕ → Cell) (cols : List ℕ) where
 pub projection-holds : (F : Facts) (cols : List ℕ) (s : Streams) → Holds F s → Holds (projFacts F cols) (map (map (proj cols)) s)
 projection-holds F cols s h =
     record {
-      count = length-map s (map (proj cols)) ∙ h .count;
       value = λ j. h .value (getD cols j 0);
       rows = all-over (map (proj cols)) (λ l. all-over (proj cols) (proj-row F (h .value) cols)) (h .rows);
       sorted = all-over (map (proj cols)) (λ l pr. pw-over (proj cols) (λ x y px py. proj-le F (h .value) cols x y px py (F .order)) (pr .0) (pr .1)) (all-zip (h .rows) (h .sorted));
@@ -110,26 +108,14 @@ projection-holds F cols s h =
 
 pub single-holds : (F : Facts) (v : ℕ → Cell) {P : List Row → Type 0} {out : Streams} (ks : List Key) (h : OneStream P out) → All (RowOK F v) (h .one) → Sorted ks (h .one) → Holds (ordered F 1 ks) out
 single-holds F v ks h ps ss =
-    subst (Holds (ordered F 1 ks)) (sym (h .is)) (record { count = refl; value = v; rows = all-cons ps all-nil; sorted = all-cons ss all-nil })
+    subst (Holds (ordered F 1 ks)) (sym (h .is)) (record { value = v; rows = all-cons ps all-nil; sorted = all-cons ss all-nil })
 
--- ---- repartitions: every row of an output stream is a row of an input stream
-parts-rows : {P : Row → Type 0} {parts : List Streams} {ins : Streams} → Each Mixes parts ins → All (All P) ins → All (All (All P)) parts
-parts-rows each-nil ps = all-nil
-parts-rows (each-cons m h) ps = all-cons (unmix-all m (all-head ps)) (parts-rows h (all-tail ps))
-
-mixed-rows : {P : Row → Type 0} {parts : List Streams} {out : Streams} → Each Mixes parts out → All (All (All P)) parts → All (All P) out
-mixed-rows each-nil ps = all-nil
-mixed-rows (each-cons m h) ps = all-cons (mixes-all m (all-head ps)) (mixed-rows h (all-tail ps))
-
-sent-rows : {P : Row → Type 0} (n : ℕ) {parts : List Streams} → All (All (All P)) parts → All (All (All P)) (tab n (sentTo parts))
-sent-rows n {parts} ps = all-tab n (sentTo parts) (λ j. all-over (λ p. getD p j []) (λ p h. all-at [] all-nil h j) ps)
-
+-- ---- repartitions
 pub repartition-holds : (F : Facts) (k : Bool) (n : ℕ) {s out : Streams} → Holds F s → Split n (F .order) k s out → Holds (ordered F n (cond k (F .order) [])) out
 repartition-holds F k n {s} {out} h e =
     record {
-      count = each-length (e .mixed) ∙ length-tab n (sentTo (e .parts));
       value = h .value;
-      rows = mixed-rows (e .mixed) (sent-rows n (parts-rows (e .taken) (h .rows)));
+      rows = concat-each out (same-all row-discrete (concat out) (e .same) (all-concat s (h .rows)));
       sorted = go k (e .sorted);
     }
   where
@@ -158,18 +144,18 @@ one-stream [] z e m ps = absurd (omega arith)
 one-stream {P} (x ∷ []) z e m ps = subst P (sym (mixes-only m)) (all-head ps)
 one-stream (x ∷ y ∷ s) z e m ps = absurd (omega arith)
 
-pub limit-sorted : (F : Facts) (s : Streams) (z : List Row) → Holds F s → Mixes s z → Sorted (cond (eqb (F .streams) 1) (F .order) []) z
-limit-sorted F s z h m = go (eqb (F .streams) 1) refl
+pub limit-sorted : (F : Facts) (s : Streams) (z : List Row) → AsMany F s → Holds F s → Mixes s z → Sorted (cond (eqb (F .streams) 1) (F .order) []) z
+limit-sorted F s z n h m = go (eqb (F .streams) 1) refl
   where
     go : (b : Bool) → eqb (F .streams) 1 ≡ b → Sorted (cond b (F .order) []) z
-    go true e = one-stream {P = Sorted (F .order)} s z (h .count ∙ eqb-true (F .streams) 1 e) m (h .sorted)
+    go true e = one-stream {P = Sorted (F .order)} s z (n ∙ eqb-true (F .streams) 1 e) m (h .sorted)
     go false e = sorted-nil z
 
 -- ---- sorts
 pub sorting-holds : (F : Facts) (p : Bool) (ks : List Key) (s out : Streams) → Holds F s → Sorting p ks s out → Holds (ordered F (sortStreams p F) (nf F [] ks)) out
 sorting-holds F true ks s out h e =
     let rs : All (All (RowOK F (h .value))) out = sorts-rows e (h .rows) in
-    record { count = each-length e ∙ h .count; value = h .value; rows = rs; sorted = nf-sorted F (h .value) ks rs (sorts-sorted e) }
+    record { value = h .value; rows = rs; sorted = nf-sorted F (h .value) ks rs (sorts-sorted e) }
 sorting-holds F false ks s out h e =
     let rs : All (RowOK F (h .value)) (e .one) = same-all row-discrete (e .one) (e .that .same) (all-concat s (h .rows)) in
     single-holds F (h .value) (nf F [] ks) e rs (nf-one F (h .value) ks rs (e .that .sorted))
@@ -179,6 +165,9 @@ front-all : {P : Row → Type 0} (f : Fetch) {l : List Row} → All P l → All 
 front-all Unlimited ps = ps
 front-all (AtMost n) ps = all-take n ps
 
+pub cut-all : {P : Row → Type 0} (k : Cut) {s : Streams} → All (All P) s → All (All P) (map (cutRows k) s)
+cut-all k ps = all-over (cutRows k) (λ l qs. front-all (k .fetch) (all-drop (k .skip) qs)) ps
+
 front-pw : {R : Row → Row → Type 0} (f : Fetch) {l : List Row} → Pw R l → Pw R (front f l)
 front-pw Unlimited ps = ps
 front-pw (AtMost n) ps = pw-take n ps
@@ -186,8 +175,7 @@ front-pw (AtMost n) ps = pw-take n ps
 pub cut-holds : (F : Facts) (k : Cut) (s : Streams) → Holds F s → Holds F (map (cutRows k) s)
 cut-holds F k s h =
     record {
-      count = length-map s (cutRows k) ∙ h .count;
       value = h .value;
-      rows = all-over (cutRows k) (λ l ps. front-all (k .fetch) (all-drop (k .skip) ps)) (h .rows);
+      rows = cut-all k (h .rows);
       sorted = all-over (cutRows k) (λ l ps. front-pw (k .fetch) (pw-drop (k .skip) ps)) (h .sorted);
     }

@@ -15,7 +15,7 @@ use Rattle.plan.specs.declared.Distribution.{Distribution}
 use Rattle.plan.specs.declared.Distribution.the-variants.{Unspecified, Single, Keyed}
 use Rattle.plan.specs.declared.Fetch.{Fetch}
 use Rattle.plan.specs.declared.Fetch.the-variants.{Unlimited}
-use Rattle.semantics.specs.Facts.{Facts, isC, met, nothing, unionFacts, isNil, counts, keepsOrder, Kept, kLeft, kRight, kNone, smjKept, hashKept, at0}
+use Rattle.semantics.specs.Facts.{Facts, isC, met, nothing, unionFacts, isNil, counts, keepsOrder, Kept, kLeft, kRight, kNone, smjKept, hashKept, at0, knownOrder}
 
 -- ---- wanted orders
 
@@ -32,7 +32,7 @@ pub data Wish : Type 0 where
 -- "Merge, output requirement and sort-merge join want their keys as order; a limit's note is not wanted."
 -- 'Rows': "a partial sort wants its prefix"
 abbrev pub wish : Op → Wish
-wish (source w n s ks u) = noWish
+wish (source s) = noWish
 wish filter = noWish
 wish (projection cols) = noWish
 wish union = noWish
@@ -47,14 +47,15 @@ wish (hashJoin t on) = noWish
 wish (outputRequirement ks d f) = same ks
 wish (partialSort p ks n f) = same (take n ks)
 
+-- The order wanted of the first child, and of the second; of others none
+abbrev pub wishesOf : Wish → List (List Key)
+wishesOf noWish = []
+wishesOf (same ks) = ks ∷ []
+wishesOf (pairs on) = map (λ k. k .key) on ∷ map rightKey on ∷ []
+
 -- The order that a node wants of its child number i; the empty list is no wish
 abbrev pub wantedOf : Wish → ℕ → List Key
-wantedOf noWish i = []
-wantedOf (same ks) zero = ks
-wantedOf (same ks) (suc i) = []
-wantedOf (pairs on) zero = map (λ k. k .key) on
-wantedOf (pairs on) (suc zero) = map rightKey on
-wantedOf (pairs on) (suc (suc i)) = []
+wantedOf v i = getD (wishesOf v) i []
 
 abbrev pub wanted : Op → ℕ → List Key
 wanted o i = wantedOf (wish o) i
@@ -84,7 +85,7 @@ bySide on (suc i) = Keyed (columnSet (map (λ k. k .other) on))
 
 -- The distribution that a node wants of its child number i
 abbrev pub distOf : Op → ℕ → Distribution
-distOf (source w n s ks u) i = Unspecified
+distOf (source s) i = Unspecified
 distOf filter i = Unspecified
 distOf (projection cols) i = Unspecified
 distOf union i = Unspecified
@@ -117,10 +118,10 @@ keptSide kNone i = false
 -- "Filter, projection, limits and output requirement maintain. .. Merge maintains, sorts and coalesce don't."
 -- A union "maintains a child whose known order is as long as its own, and none if it knows no order"
 abbrev pub maintains : Op → List Facts → ℕ → Bool
-maintains (source w n s ks u) fs i = false
+maintains (source s) fs i = false
 maintains filter fs i = true
 maintains (projection cols) fs i = true
-maintains union fs i = not (isNil (unionFacts fs .order)) && eqb (length (getD fs i nothing .order)) (length (unionFacts fs .order))
+maintains union fs i = not (isNil (knownOrder (unionFacts fs))) && eqb (length (knownOrder (getD fs i nothing))) (length (knownOrder (unionFacts fs)))
 maintains (repartition p n h ks) fs i = keepsOrder p (at0 fs)
 maintains (coalesce f) fs i = false
 maintains (sortOp p ks f) fs i = false
@@ -143,7 +144,7 @@ abbrev pub uncut : Cut
 uncut = record { skip = 0; fetch = Unlimited }
 
 abbrev pub cuts : Op → Cut
-cuts (source w n s ks u) = uncut
+cuts (source s) = uncut
 cuts filter = uncut
 cuts (projection cols) = uncut
 cuts union = uncut
@@ -182,7 +183,7 @@ isLimit o = eqb (code o) 9 || eqb (code o) 10
 
 -- "bit 2 unbounded (source)"
 abbrev pub sourceEndless : Op → Bool
-sourceEndless (source w n s ks u) = u
+sourceEndless (source s) = s .unbounded
 sourceEndless filter = false
 sourceEndless (projection cols) = false
 sourceEndless union = false
@@ -217,7 +218,7 @@ isFinal F ks = not (met F ks)
 
 -- Another preserve mark on a repartition
 abbrev pub remark : (Bool → Bool) → Op → Op
-remark g (source w n s ks u) = source w n s ks u
+remark g (source s) = source s
 remark g filter = filter
 remark g (projection cols) = projection cols
 remark g union = union

@@ -19,7 +19,7 @@ use Rattle.semantics.specs.Properties.{Cut, cuts}
 use Rattle.semantics.specs.Runs.{Streams, Env, nextS, nextF, past, Each, each-nil, each-cons, proj, Sorting, in0, Made, front, cutRows, Run, run-none, run-tree, AtSource, EachSource, SameSource, SameInputs}
 use Rattle.semantics.specs.Bools.{and-left, and-right}
 use Rattle.semantics.specs.Streams.{each-at}
-use Rattle.semantics.specs.Sums.{sum-concat-append, sum-map, sum-keep, sum-concat-map, sum-concat-keep, sum-sorts, sum-split, sum-single, sum-ext}
+use Rattle.semantics.specs.Sums.{sum-concat-append, sum-map, sum-keep, sum-concat-map, sum-concat-keep, sum-sorts, sum-single, sum-ext}
 use Rattle.semantics.specs.Bags.{isAll, whole, isJoin, simpleOp, simplePlan, bagOp, bags, Fills, SameRows}
 
 fills-concat : {css : List Streams} {bs : List (List Row)} → Each Fills css bs → Same (concat (concat css)) (concat bs)
@@ -35,7 +35,7 @@ sorting-rows true ks s out e = record { sums = λ w. sum-sorts w ks e }
 sorting-rows false ks s out e = record { sums = λ w. sum-single w e ∙ e .that .same .sums w }
 
 made-rows : (E : Env) (i j : ℕ) (o : Op) (fs : List Facts) (css : List Streams) (bs : List (List Row)) (out : Streams) → not (isJoin o) ≡ true → Made E i j o fs css out → Each Fills css bs → Same (concat out) (bagOp E i j o bs)
-made-rows E i j (source w n s ks u) fs css bs out nj e hs = same-of (ap concat e)
+made-rows E i j (source s) fs css bs out nj e hs = same-of (ap concat e)
 made-rows E i j filter fs css bs out nj e hs =
     let h : Fills (in0 css) (getD bs 0 []) = each-at [] [] (same-refl []) hs 0 in
     record { sums = λ w. ap (λ (s : Streams). sum w (concat s)) e ∙ sum-concat-keep w (E .test j) (in0 css) ∙ h .sums _ ∙ sym (sum-keep w (E .test j) (getD bs 0 [])) }
@@ -43,7 +43,7 @@ made-rows E i j (projection cols) fs css bs out nj e hs =
     let h : Fills (in0 css) (getD bs 0 []) = each-at [] [] (same-refl []) hs 0 in
     record { sums = λ w. ap (λ (s : Streams). sum w (concat s)) e ∙ sum-concat-map w (proj cols) (in0 css) ∙ h .sums _ ∙ sym (sum-map w (proj cols) (getD bs 0 [])) }
 made-rows E i j union fs css bs out nj e hs = same-trans (same-of (ap concat e)) (fills-concat hs)
-made-rows E i j (repartition p n h ks) fs css bs out nj e hs = same-trans (record { sums = λ w. sum-split w n _ _ e }) (each-at [] [] (same-refl []) hs 0)
+made-rows E i j (repartition p n h ks) fs css bs out nj e hs = same-trans (e .same) (each-at [] [] (same-refl []) hs 0)
 made-rows E i j (coalesce f) fs css bs out nj e hs = same-trans (record { sums = λ w. sum-single w e ∙ mixes-sum (e .that) w }) (each-at [] [] (same-refl []) hs 0)
 made-rows E i j (sortOp p ks f) fs css bs out nj e hs = same-trans (sorting-rows p ks (in0 css) out e) (each-at [] [] (same-refl []) hs 0)
 made-rows E i j (mergeOp ks f) fs css bs out nj e hs = same-trans (record { sums = λ w. sum-single w e ∙ mixes-sum (e .that .mixed) w }) (each-at [] [] (same-refl []) hs 0)
@@ -63,7 +63,7 @@ cut-whole k e l =
     front-whole (k .fetch) (drop (k .skip) l) (and-right (eqb (k .skip) 0) (isAll (k .fetch)) e)
     ∙ ap (λ (n : ℕ). drop n l) (eqb-true (k .skip) 0 (and-left (eqb (k .skip) 0) (isAll (k .fetch)) e))
 
-map-id : {A : Type 0} (f : A → A) → ((x : A) → f x ≡ x) → (l : List A) → map f l ≡ l
+pub map-id : {A : Type 0} (f : A → A) → ((x : A) → f x ≡ x) → (l : List A) → map f l ≡ l
 map-id f h [] = refl
 map-id f h (x ∷ l) = ap₂ _∷_ (h x) (map-id f h l)
 
@@ -83,7 +83,7 @@ same-concat (each-cons h hs) = same-append h (same-concat hs)
 
 module _ (E E′ : Env) (tests : (j : ℕ) (r : Row) → E .test j r ≡ E′ .test j r) where
   same-bag : (i j : ℕ) (o : Op) (bs ds : List (List Row)) → AtSource (SameSource E E′ i) o → Each Same bs ds → Same (bagOp E i j o bs) (bagOp E′ i j o ds)
-  same-bag i j (source w n s ks u) bs ds h hs = h
+  same-bag i j (source s) bs ds h hs = h
   same-bag i j filter bs ds h hs =
       let b : Same (getD bs 0 []) (getD ds 0 []) = each-at [] [] (same-refl []) hs 0 in
       record { sums = λ w. sum-keep w (E .test j) (getD bs 0 []) ∙ b .sums _ ∙ sum-ext _ _ (λ r. ap (λ (p : Bool). cond p (w r) 0) (tests j r)) (getD ds 0 []) ∙ sym (sum-keep w (E′ .test j) (getD ds 0 [])) }

@@ -10,12 +10,12 @@ use Rattle.row_order.specs.Lists.{All, Mixes, Same, concat, tab}
 use Rattle.row_order.specs.Packed.{bit}
 use Rattle.row_order.specs.Sorting.{Sorted}
 use Rattle.plan.specs.Forest.{Forest, none, tree, roots}
-use Rattle.plan.specs.Op.{On, Op, source, filter, projection, union, repartition, coalesce, sortOp, mergeOp, globalLimit, localLimit, sortMergeJoin, hashJoin, outputRequirement, partialSort, Plan}
+use Rattle.plan.specs.Op.{On, SourceInfo, Op, source, filter, projection, union, repartition, coalesce, sortOp, mergeOp, globalLimit, localLimit, sortMergeJoin, hashJoin, outputRequirement, partialSort, Plan}
 use Rattle.plan.specs.Numbers.{code}
 use Rattle.plan.specs.declared.JoinType.{JoinType}
 use Rattle.plan.specs.declared.Fetch.{Fetch}
 use Rattle.plan.specs.declared.Fetch.the-variants.{Unlimited, AtMost}
-use Rattle.semantics.specs.Facts.{Facts, keepsOrder, smjKept, hashKept, byRight, at0, facts}
+use Rattle.semantics.specs.Facts.{Facts, keepsOrder, smjKept, hashKept, byRight, at0, at1, facts, knownOrder}
 use Rattle.semantics.specs.Properties.{Cut, cuts}
 use Rattle.semantics.specs.Joins.{keep, Joined}
 
@@ -57,18 +57,11 @@ pub record OneStream (P : List Row → Type 0) (out : Streams) : Type 0 where
 abbrev pub proj : List ℕ → Row → Row
 proj cols r = map (cell r) cols
 
--- What each of several input streams sends to output stream j; parts: of each input, what it sends to each output
-abbrev pub sentTo : List Streams → ℕ → Streams
-sentTo parts j = map (λ p. getD p j []) parts
-
--- "repartition any split, in the known order on each output stream where it maintains and its inputs are": n output streams;
--- ks: the known order; b: it maintains. Each input stream is split in n parts, so each of its rows goes to one output stream;
--- each output stream is any interleaving of the parts that are sent to it
+-- "repartition any split, in the known order on each output stream where it maintains and its inputs are": n output streams that
+-- together hold the rows of the input streams, each as often (reading 19). ks: the known order; b: it maintains
 pub record Split (n : ℕ) (ks : List Key) (b : Bool) (ins out : Streams) : Type 0 where
-  pub parts : List Streams
-  pub sizes : All (λ p. length p ≡ n) parts
-  pub taken : Each Mixes parts ins
-  pub mixed : Each Mixes (tab n (sentTo parts)) out
+  pub count : length out ≡ n
+  pub same : Same (concat out) (concat ins)
   pub sorted : b ≡ true → All (Sorted ks) ins → All (Sorted ks) out
 
 -- "any ordered permutation"
@@ -118,18 +111,18 @@ in1 css = getD css 1 []
 
 -- What a node, number i among the sources and j among the filters, may make of its children's streams before it cuts them
 abbrev pub Made : Env → ℕ → ℕ → Op → List Facts → List Streams → Streams → Type 0
-Made E i j (source w n s ks u) fs css out = out ≡ tab n (E .rows i)
+Made E i j (source s) fs css out = out ≡ tab (s .streams) (E .rows i)
 Made E i j filter fs css out = out ≡ map (keep (E .test j)) (in0 css)
 Made E i j (projection cols) fs css out = out ≡ map (map (proj cols)) (in0 css)
 Made E i j union fs css out = out ≡ concat css
-Made E i j (repartition p n h ks) fs css out = Split n (at0 fs .order) (keepsOrder p (at0 fs)) (in0 css) out
+Made E i j (repartition p n h ks) fs css out = Split n (knownOrder (at0 fs)) (keepsOrder p (at0 fs)) (in0 css) out
 Made E i j (coalesce f) fs css out = OneStream (Mixes (in0 css)) out
 Made E i j (sortOp p ks f) fs css out = Sorting p ks (in0 css) out
 Made E i j (mergeOp ks f) fs css out = OneStream (MergeOf ks (in0 css)) out
 Made E i j (globalLimit s f note) fs css out = OneStream (Mixes (in0 css)) out
 Made E i j (localLimit f note) fs css out = out ≡ in0 css
-Made E i j (sortMergeJoin t on) fs css out = Each (Joined t (smjKept t) on (at0 fs .width)) (likeNumbered t (in0 css) (in1 css)) out
-Made E i j (hashJoin t on) fs css out = Each (Joined t (hashKept t) on (at0 fs .width)) (map (withAll (concat (in0 css))) (in1 css)) out
+Made E i j (sortMergeJoin t on) fs css out = Each (Joined t (smjKept t) on (at0 fs .width) (at1 fs .width)) (likeNumbered t (in0 css) (in1 css)) out
+Made E i j (hashJoin t on) fs css out = Each (Joined t (hashKept t) on (at0 fs .width) (at1 fs .width)) (map (withAll (concat (in0 css))) (in1 css)) out
 Made E i j (outputRequirement ks d f) fs css out = out ≡ in0 css
 Made E i j (partialSort p ks n f) fs css out = Sorting p ks (in0 css) out
 
@@ -159,9 +152,9 @@ pub data Run (E : Env) : ℕ → ℕ → Plan → Forest Streams → Type 0 wher
 
 -- ---- sources
 
--- P of a source's streams, declared constants and declared keys; nothing of any other kind
-abbrev pub AtSource : (ℕ → ℕ → List Key → Type 0) → Op → Type 0
-AtSource P (source w n s ks u) = P n s ks
+-- P of what a source declares; nothing of any other kind
+abbrev pub AtSource : (SourceInfo → Type 0) → Op → Type 0
+AtSource P (source s) = P s
 AtSource P filter = Unit {0}
 AtSource P (projection cols) = Unit {0}
 AtSource P union = Unit {0}
@@ -177,7 +170,7 @@ AtSource P (outputRequirement ks d f) = Unit {0}
 AtSource P (partialSort p ks n f) = Unit {0}
 
 -- P of every source, and of its number in node order
-abbrev pub EachSource : (ℕ → ℕ → ℕ → List Key → Type 0) → ℕ → Plan → Type 0
+abbrev pub EachSource : (ℕ → SourceInfo → Type 0) → ℕ → Plan → Type 0
 EachSource P i none = Unit {0}
 EachSource P i (tree o c r) = AtSource (P i) o × EachSource P (nextS o i) c × EachSource P (past nextS c (nextS o i)) r
 
@@ -188,8 +181,8 @@ pub record Declared (s : ℕ) (ks : List Key) (out : Streams) : Type 0 where
   pub sorted : All (Sorted ks) out
 
 -- The rows of source i keep what it declares
-abbrev pub KeepsDeclared : Env → ℕ → ℕ → ℕ → List Key → Type 0
-KeepsDeclared E i n s ks = Declared s ks (tab n (E .rows i))
+abbrev pub KeepsDeclared : Env → ℕ → SourceInfo → Type 0
+KeepsDeclared E i s = Declared (s .constants) (s .keys) (tab (s .streams) (E .rows i))
 
 abbrev pub SourceOK : Env → ℕ → Op → Type 0
 SourceOK E i o = AtSource (KeepsDeclared E i) o
@@ -198,9 +191,17 @@ SourceOK E i o = AtSource (KeepsDeclared E i) o
 abbrev pub Sources : Env → ℕ → Plan → Type 0
 Sources E i f = EachSource (KeepsDeclared E) i f
 
+-- Every row of several streams is w columns wide
+abbrev pub Wide : ℕ → Streams → Type 0
+Wide w ss = All (All (λ r. length r ≡ w)) ss
+
+-- The rows of source i are as wide as it is
+abbrev pub WideSource : Env → ℕ → SourceInfo → Type 0
+WideSource E i s = Wide (s .width) (tab (s .streams) (E .rows i))
+
 -- Source i has the same rows, each as often, over all its streams
-abbrev pub SameSource : Env → Env → ℕ → ℕ → ℕ → List Key → Type 0
-SameSource E E′ i n s ks = Same (concat (tab n (E .rows i))) (concat (tab n (E′ .rows i)))
+abbrev pub SameSource : Env → Env → ℕ → SourceInfo → Type 0
+SameSource E E′ i s = Same (concat (tab (s .streams) (E .rows i))) (concat (tab (s .streams) (E′ .rows i)))
 
 -- "Two runs of a tree before and after a rewrite have the same rows for each source and the same test for each filter, both
 -- counted in node order; all else may differ." So how a source's rows are spread over its streams, and their order there, may

@@ -44,7 +44,7 @@ module _ (fs : List Facts) (hs : All Some fs) where
   only e = nth-some fs hs 0 (omega (arith, eqb-true (length fs) 1 e))
 
   op-some : (o : Op) → fieldsOk o ≡ true → childrenOk o (length fs) ≡ true → 1 ≤ factsOp o fs .streams
-  op-some (source w n s ks u) e k = leb-true 1 n (search (and-left, and-right))
+  op-some (source s) e k = leb-true 1 (s .streams) (search (and-left, and-right))
   op-some filter e k = only k
   op-some (projection cols) e k = only k
   op-some union e k = union-some fs hs (let l = leb-true 2 (length fs) (search and-left) in omega arith)
@@ -92,7 +92,7 @@ side-few true m n l h k = omega arith
 side-few false m n l h k = omega arith
 
 op-few : (o : Op) (fs : List Facts) → fieldsOk o ≡ true → factsOp o fs .streams ≤ 64 + total fs
-op-few (source w n s ks u) fs e = let h = leb-true n 64 (search (and-left, and-right)) in omega arith
+op-few (source s) fs e = let h = leb-true (s .streams) 64 (search (and-left, and-right)) in omega arith
 op-few filter fs e = omega (arith, nth-few fs 0)
 op-few (projection cols) fs e = omega (arith, nth-few fs 0)
 op-few union fs e = omega (arith, union-few fs)

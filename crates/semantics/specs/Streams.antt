@@ -6,7 +6,7 @@ use Prim.Native.Nat.{ℕ, zero, suc}
 use lib.ListN.{length, getD, take, drop}
 use Rattle.row_order.specs.Iso.{Row, Key}
 use Rattle.row_order.specs.Order.{le}
-use Rattle.row_order.specs.Lists.{All, all-nil, all-cons, all-map, all-zip, Pw, pw-nil, pw-cons, pw-map, tab}
+use Rattle.row_order.specs.Lists.{concat, All, all-nil, all-cons, all-map, all-zip, all-left, all-right, Pw, pw-nil, pw-cons, pw-map, tab}
 use Rattle.row_order.specs.Sorting.{Rel, Sorted}
 use Rattle.semantics.specs.Joins.{keep}
 use Rattle.semantics.specs.Runs.{Streams, Each, each-nil, each-cons}
@@ -65,9 +65,10 @@ pub all-tab : {A : Type 0} {P : A → Type 0} (n : ℕ) (f : ℕ → A) → ((k 
 all-tab zero f h = all-nil
 all-tab (suc n) f h = all-cons (h zero) (all-tab n (λ k. f (suc k)) (λ k. h (suc k)))
 
-pub each-tab : {A B : Type 0} {R : A → B → Type 0} (n : ℕ) (f : ℕ → A) (g : ℕ → B) → ((k : ℕ) → R (f k) (g k)) → Each R (tab n f) (tab n g)
-each-tab zero f g h = each-nil
-each-tab (suc n) f g h = each-cons (h zero) (each-tab n (λ k. f (suc k)) (λ k. g (suc k)) (λ k. h (suc k)))
+-- what holds of all rows of several streams holds on each
+pub concat-each : {A : Type 0} {P : A → Type 0} (ss : List (List A)) → All P (concat ss) → All (All P) ss
+concat-each [] ps = all-nil
+concat-each (s ∷ ss) ps = all-cons (all-left s (concat ss) ps) (concat-each ss (all-right s (concat ss) ps))
 
 -- ---- cuts
 pub all-take : {A : Type 0} {P : A → Type 0} (n : ℕ) {l : List A} → All P l → All P (take n l)

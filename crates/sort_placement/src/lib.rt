@@ -1,4 +1,6 @@
 // The C exports, on numbers and byte slices. Working memory is a local array, of a size by the file's blocks.
+use plan_context::kept;
+use plan_context::settling::settle_all;
 ghost use mathlib.Core.Path.{_≡_};
 ghost use Prim.Native.Nat.{_*_, _≤_};
 ghost use lib.ListN.{length};
@@ -6,18 +8,20 @@ ghost use Rattle.plan.specs.Numbers.{numberOf};
 ghost use Rattle.plan_format.specs.Blocks.{blockCount};
 ghost use Rattle.plan_format.specs.Reading.{refusalOf};
 ghost use Rattle.plan_codec.specs.Reading.{reading};
+ghost use Rattle.plan_arena.specs.Answers.{blockSlots};
 ghost use Rattle.sort_placement.specs.Answers.{checkAnswer, copyRefusal, copied};
 
 // The order check of a plan file in the memory m.
 fn check_in(plan: &[u8], passes: &mut u32, m: &mut [u8]) -> u32
-    requires { ⌜ 1344 * blockCount (now plan) ≤ length (now m) ⌝ }
+    requires { ⌜ blockSlots * blockCount (now plan) ≤ length (now m) ⌝ }
     ensures { λ r. ⌜ (r ≡ numberOf (refusalOf (now (plan .entry)))) × (now (passes .exit) ≡ checkAnswer (reading (now (plan .entry))) (now (passes .entry))) ⌝ }
 {
     let a = plan_arena::read(plan, m);
     let x = a.refusal;
     let n = plan::number(x);
     if n == 0 {
-        let answer = order_check::passes(m, a.used, a.root);
+        settle_all(m, a.used);
+        let answer = kept::passes(m, a.root);
         *passes = answer as u32;
     }
     n
@@ -50,7 +54,7 @@ pub extern "C" fn check_order(plan: &[u8], passes: &mut u32) -> u32
 
 // A plan file read into the memory m, and written from it.
 fn copy_in(plan: &[u8], out: &mut [u8], m: &mut [u8]) -> u32
-    requires { ⌜ 1344 * blockCount (now plan) ≤ length (now m) ⌝ }
+    requires { ⌜ blockSlots * blockCount (now plan) ≤ length (now m) ⌝ }
     ensures { λ r. ⌜ (r ≡ numberOf (copyRefusal (now (plan .entry)) (now (out .entry)))) × (now (out .exit) ≡ copied (now (plan .entry)) (now (out .entry))) ⌝ }
 {
     let a = plan_arena::read(plan, m);

@@ -1,36 +1,42 @@
 -- What the calls answer, as equations; and that the answer to a well-formed plan is well formed again.
 use mathlib.Core.Path.{_≡_, refl, sym, ap, ap₂, _∙_, subst}
-use mathlib.Core.Bool.{Bool, true, false, cond, not, _&&_}
+use mathlib.Core.Bool.{Bool, true, false, cond, not, _&&_, _||_}
 use mathlib.Core.List.{List, [], _∷_, _++_}
+use mathlib.Core.Logic.{_↔_}
 use Prim.Native.Nat.{ℕ, suc, _+_, _-_, _≤_}
 use native.Mathlib.Omega.{arith}
-use borrow.Author.Tests.{eqb-true, eq-eqb, leb-true, le-leb, ltb-false}
+use borrow.Author.Tests.{eqb-true, eq-eqb, leb-true, le-leb}
 use lib.ListN.{length}
 use Rattle.row_order.specs.Order.{no-bool}
-use Rattle.row_order.specs.Lists.{All, all-append, all-cons, all-nil}
 use Rattle.plan.specs.Forest.{Forest, none, roots, size, tree}
 use Rattle.plan.specs.Op.{Plan}
 use Rattle.plan.specs.WellFormed.{every, wellFormed}
-use Rattle.plan.specs.declared.Refusal.{Refusal}
 use Rattle.plan.specs.declared.Refusal.the-variants.{ConstantSort, HasPartialSort, TooManyNodes}
-use Rattle.semantics.specs.Facts.{isNil}
-use Rattle.semantics.specs.Bools.{and-left, and-right}
-use Rattle.semantics.specs.Fits.{fits}
-use Rattle.walks.specs.Marks.{Marked, over, rebuild, sizeT, strip, transformUp, Tree}
+use Rattle.semantics.specs.Bools.{and-left, and-right, or-false}
+use Rattle.walks.specs.Marks.{Marked, rebuild, sizeT, strip, transformUp, Tree}
 use Rattle.walks.specs.EnsureSorting.{ensureSorting}
 use Rattle.walks.specs.ParallelizeSorts.{parallelizeSorts}
 use Rattle.walks.specs.OrderPreserving.{replaceWithOrderPreservingVariants, Settings}
 use Rattle.walks.specs.PushdownSorts.{atRoot, carryOut, Decision, push, pushdownSorts, pushdownSortsHelper, Visit}
-use Rattle.walks.specs.Counted.{afterwards, Answer, answered, answerOf, answerTo, constantSort, Counted, counted, countUp, ensured, hasPartialSort, one, overflows, parallelized, preserved, pushed, refused, stopped, tooMany}
-use Rattle.walks.specs.Terms.{answerDown, answerFirst, answerUp, firstOf, Live, reached, sizesUp, small, ifSo}
-use Rattle.walks.specs.ListFacts.{every-append}
+use Rattle.walks.specs.Counted.{afterwards, Answer, answered, answerOf, answerTo, constantSort, Counted, counted, countUp, ensured, hasPartialSort, one, parallelized, preserved, pushed, refused, stopped, tooMany}
+use Rattle.walks.specs.Terms.{answerDown, answerUp, hasConstantSort, Live, reaches, sizesDown, sizesUp, small}
+use Rattle.walks.specs.ListFacts.{every-append, every-same}
 use Rattle.walks.specs.Trees.{count, Fit, Ok, ok-fit, ok-of, ok-to}
 use Rattle.walks.specs.KeptRows.{ensure-plan, SamePlan}
 use Rattle.walks.specs.OrderPreservingKept.{preserve-plan}
 use Rattle.walks.specs.ParallelizeKept.{parallelize-plan}
 use Rattle.walks.specs.PushKept.{helper-fair}
 use Rattle.walks.specs.PushOk.{push-plan}
-use Rattle.walks.specs.CountedWalks.{carryOut-size, count-down, count-up, one-le, one-visited}
+use Rattle.walks.specs.CountedWalks.{carryOut-size, count-by, count-down, count-up, decided, not-many, one-le, one-visited}
+
+-- ---- what an answer is
+abbrev pub isAnswer : Answer → Bool
+isAnswer (refused e) = false
+isAnswer (answered g) = true
+
+abbrev pub planOr : Plan → Answer → Plan
+planOr d (refused e) = d
+planOr d (answered g) = g
 
 -- ---- the calls
 answer-cond : (b : Bool) (d : Forest Marked) (n : ℕ) → answerOf (cond b (counted d n) (stopped TooManyNodes)) ≡ cond b (answered (strip d)) (refused TooManyNodes)
@@ -53,33 +59,48 @@ preserved-is s f = up-is (replaceWithOrderPreservingVariants s) f
 
 pub pushed-is : (f : Plan) → Fit f → pushed f ≡ answerDown f
 pushed-is f h =
-    ap (λ (w : Counted (Forest Marked)). cond (hasPartialSort f) (refused HasPartialSort) (answerOf w)) (count-down 0 (λ i. atRoot) f (size f) h (omega arith))
-    ∙ ap (λ (w : Answer). cond (hasPartialSort f) (refused HasPartialSort) w) (go (reached 0 (λ i. atRoot) f) (pushdownSorts (λ i. atRoot) f) (0 + size (pushdownSorts (λ i. atRoot) f)))
+    ap (λ (w : Counted (Forest Marked)). cond (hasPartialSort f) (refused HasPartialSort) (answerOf w)) (sym (count-by (λ i. atRoot) (size f) f) ∙ count-down tooMany 0 (λ i. atRoot) f (size f) h (omega arith))
+    ∙ ap (λ (w : Answer). cond (hasPartialSort f) (refused HasPartialSort) w)
+    (go (every (λ n. not (tooMany n)) sizes) (hasConstantSort f) (0 + size (pushdownSorts (λ i. atRoot) f)) ∙ ap answers (every-same (λ n. not (tooMany n)) small not-many sizes))
   where
-    go : (es : List Refusal) (d : Forest Marked) (n : ℕ) → answerOf (firstOf es (counted d n)) ≡ answerFirst es (answered (strip d))
-    go [] d n = refl
-    go (e ∷ es) d n = refl
+    sizes : List ℕ
+    sizes = sizesDown 0 (λ i. atRoot) f
 
--- After ensuring, pushing reaches no refusal but 23
-pub live-reached : (a : ℕ) (q : ℕ → Visit) (f : Plan) → Live f → All (λ e. e ≡ TooManyNodes) (reached a q f)
-live-reached a q none h = all-nil
-live-reached a q (tree o c r) h =
-    let D : Decision = pushdownSortsHelper (q 0) o c in
-    all-append (subst (λ (b : Bool). All (λ e. e ≡ TooManyNodes) (ifSo b ConstantSort)) (sym (h .0)) all-nil)
-    (all-append (too-many (overflows D (a + size (tree o c r)))) (all-append (live-reached _ (D .reqs) c (h .1)) (live-reached _ (λ i. q (suc i)) r (h .2))))
+    answers : Bool → Answer
+    answers x = cond x (cond (hasConstantSort f) (refused ConstantSort) (answered (push f))) (refused TooManyNodes)
+
+    go : (x y : Bool) (n : ℕ) → answerOf (decided x y (counted (pushdownSorts (λ i. atRoot) f) n)) ≡ cond x (cond y (refused ConstantSort) (answered (push f))) (refused TooManyNodes)
+    go true true n = refl
+    go true false n = refl
+    go false y n = refl
+
+-- 25: "pushing meets a sort whose keys are all constant", and no step before it left more than 126 nodes
+pub pushed-25 : (f : Plan) → Fit f →
+    (pushed f ≡ refused ConstantSort) ↔ ((hasPartialSort f ≡ false) × (hasConstantSort f ≡ true) × (every small (sizesDown 0 (λ i. atRoot) f) ≡ true))
+pushed-25 f h = (
+  λ e. go (hasPartialSort f) (every small (sizesDown 0 (λ i. atRoot) f)) (hasConstantSort f) (sym (pushed-is f h) ∙ e),
+  λ p. pushed-is f h ∙ first-of (p .0) (p .2) (p .1),
+)
   where
-    too-many : (b : Bool) → All (λ e. e ≡ TooManyNodes) (ifSo b TooManyNodes)
-    too-many true = all-cons refl all-nil
-    too-many false = all-nil
+    answers : Bool → Bool → Bool → Answer
+    answers a x y = cond a (refused HasPartialSort) (cond x (cond y (refused ConstantSort) (answered (push f))) (refused TooManyNodes))
 
--- ---- what an answer is
-abbrev pub isAnswer : Answer → Bool
-isAnswer (refused e) = false
-isAnswer (answered g) = true
+    first-of : {a x y : Bool} → a ≡ false → x ≡ true → y ≡ true → answers a x y ≡ refused ConstantSort
+    first-of {y = y} p q r = ap₂ (λ (a x : Bool). answers a x y) p q ∙ ap (answers false true) r
 
-abbrev pub planOr : Plan → Answer → Plan
-planOr d (refused e) = d
-planOr d (answered g) = g
+    go : (a x y : Bool) → answers a x y ≡ refused ConstantSort → (a ≡ false) × (y ≡ true) × (x ≡ true)
+    go true x y e = let bad : _≡_ {A = ℕ} 0 1 = cc in absurd (omega arith)
+    go false true true e = (refl, refl, refl)
+    go false true false e = no-bool (sym (ap isAnswer e))
+    go false false y e = let bad : _≡_ {A = ℕ} 0 1 = cc in absurd (omega arith)
+
+-- Where no sort has all-constant keys, 25 does not come
+pub live-constant : (f : Plan) → Live f → hasConstantSort f ≡ false
+live-constant none h = refl
+live-constant (tree o c r) h = ap₂ _||_ (h .0) (ap₂ _||_ (live-constant c (h .1)) (live-constant r (h .2)))
+
+pub live-pushed : (f : Plan) → Fit f → Live f → ¬ (pushed f ≡ refused ConstantSort)
+live-pushed f h l e = no-bool (sym (live-constant f l) ∙ pushed-25 f h .0 e .1)
 
 pub up-answers : (step : Tree → Tree) (f g : Plan) → answerUp step f ≡ answered g → (every small (sizesUp step 0 f) ≡ true) × (g ≡ strip (transformUp step f))
 up-answers step f g = go (hasPartialSort f) (every small (sizesUp step 0 f)) refl
@@ -96,13 +117,14 @@ up-whole step f g = go (hasPartialSort f)
     go true e = no-bool (ap isAnswer e)
     go false e = refl
 
-pub down-answers : (f g : Plan) → answerDown f ≡ answered g → (reached 0 (λ i. atRoot) f ≡ []) × (g ≡ push f)
-down-answers f g = go (hasPartialSort f) (reached 0 (λ i. atRoot) f) refl
+pub down-answers : (f g : Plan) → answerDown f ≡ answered g → (every small (sizesDown 0 (λ i. atRoot) f) ≡ true) × (g ≡ push f) × (hasConstantSort f ≡ false)
+down-answers f g = go (hasPartialSort f) (every small (sizesDown 0 (λ i. atRoot) f)) (hasConstantSort f)
   where
-    go : (a : Bool) (es : List Refusal) → reached 0 (λ i. atRoot) f ≡ es → cond a (refused HasPartialSort) (answerFirst es (answered (push f))) ≡ answered g → (reached 0 (λ i. atRoot) f ≡ []) × (g ≡ push f)
-    go true es q e = no-bool (ap isAnswer e)
-    go false [] q e = (q, sym (ap (planOr g) e))
-    go false (x ∷ es) q e = no-bool (ap isAnswer e)
+    go : (a x y : Bool) → cond a (refused HasPartialSort) (cond x (cond y (refused ConstantSort) (answered (push f))) (refused TooManyNodes)) ≡ answered g → (x ≡ true) × (g ≡ push f) × (y ≡ false)
+    go true x y e = no-bool (ap isAnswer e)
+    go false true true e = no-bool (ap isAnswer e)
+    go false true false e = (refl, sym (ap (planOr g) e), refl)
+    go false false y e = no-bool (ap isAnswer e)
 
 -- ---- well formed again
 strip-size : (c : Forest Marked) → size (strip c) ≡ size c
@@ -145,44 +167,38 @@ pub preserved-well : (s : Settings) (f g : Plan) → wellFormed f ≡ true → p
 preserved-well s f g e h = up-well (replaceWithOrderPreservingVariants s) f g (preserve-plan s f (well-fit f e)) e (sym (preserved-is s f) ∙ h)
 
 -- Where pushing reaches no refusal, a plan of at most 126 nodes stays one
-none-left : {A : Type 0} (l m : List A) → l ++ m ≡ [] → l ≡ []
-none-left [] m e = refl
-none-left (x ∷ l) m e = no-bool (ap isNil e)
-
-none-right : {A : Type 0} (l m : List A) → l ++ m ≡ [] → m ≡ []
-none-right [] m e = e
-none-right (x ∷ l) m e = no-bool (ap isNil e)
-
-push-size : (a : ℕ) (q : ℕ → Visit) (f : Plan) → Fit f → a + size f ≤ 126 → reached a q f ≡ [] → a + size (pushdownSorts q f) ≤ 126
-push-size a q none h l e = l
-push-size a q (tree o c r) h l e =
+push-size : (a : ℕ) (q : ℕ → Visit) (f : Plan) → Fit f → a + size f ≤ 126 → every small (sizesDown a q f) ≡ true → hasConstantSort f ≡ false → a + size (pushdownSorts q f) ≤ 126
+push-size a q none h l e k = l
+push-size a q (tree o c r) h l e k =
     let D : Decision = pushdownSortsHelper (q 0) o c in
     let d : Forest Marked = pushdownSorts (D .reqs) c in
     let t : Tree = carryOut D d in
     let b : ℕ = (a + size r) + (suc (length (D .tops)) - one (D .gone)) in
-    let below : List Refusal = reached b (D .reqs) c in
-    let right : List Refusal = reached (a + sizeT t) (λ i. q (suc i)) r in
-    let over : List Refusal = ifSo (overflows D (a + size (tree o c r))) TooManyNodes in
-    let e₁ : over ++ (below ++ right) ≡ [] = none-right (ifSo (constantSort o c) ConstantSort) (over ++ (below ++ right)) e in
-    let e₂ : below ++ right ≡ [] = none-right over (below ++ right) e₁ in
-    let now : afterwards D (a + size (tree o c r)) ≤ 126 = fits D (a + size (tree o c r)) (helper-fair (q 0) c o .still) l (none-left over (below ++ right) e₁) in
+    let below : List ℕ = sizesDown b (D .reqs) c in
+    let right : List ℕ = sizesDown (a + sizeT t) (λ i. q (suc i)) r in
+    let here : List ℕ = reaches D (a + size (tree o c r)) in
+    let k₁ = or-false (constantSort o c) (hasConstantSort c || hasConstantSort r) k in
+    let k₂ = or-false (hasConstantSort c) (hasConstantSort r) (k₁ .1) in
+    let all : every small (here ++ (below ++ right)) ≡ true = ap₂ (λ (x y : Bool). every small (cond x [] (here ++ (below ++ cond y [] right)))) (sym (k₁ .0)) (sym (k₂ .0)) ∙ e in
+    let e₁ : every small here && every small (below ++ right) ≡ true = sym (every-append small here (below ++ right)) ∙ all in
+    let e₂ : every small below && every small right ≡ true = sym (every-append small below right) ∙ and-right (every small here) (every small (below ++ right)) e₁ in
+    let now : afterwards D (a + size (tree o c r)) ≤ 126 = few D (a + size (tree o c r)) (helper-fair (q 0) c o .still) l (and-left (every small here) (every small (below ++ right)) e₁) in
     let z : sizeT t + one (D .gone) ≡ suc (length (D .tops) + size d) = carryOut-size D d (one-visited (q 0) o c (h .0) (h .1)) in
-    let i : b + size d ≤ 126 = push-size b (D .reqs) c (h .1) (omega (arith, one-le (D .gone), now)) (none-left below right e₂) in
-    let j : (a + sizeT t) + size (pushdownSorts (λ i. q (suc i)) r) ≤ 126 = push-size (a + sizeT t) (λ i. q (suc i)) r (h .2) (omega (arith, one-le (D .gone), i, z)) (none-right below right e₂) in
+    let i : b + size d ≤ 126 = push-size b (D .reqs) c (h .1) (omega (arith, one-le (D .gone), now)) (and-left (every small below) (every small right) e₂) (k₂ .0) in
+    let j : (a + sizeT t) + size (pushdownSorts (λ i. q (suc i)) r) ≤ 126 = push-size (a + sizeT t) (λ i. q (suc i)) r (h .2) (omega (arith, one-le (D .gone), i, z)) (and-right (every small below) (every small right) e₂) (k₂ .1) in
     omega (arith, j)
   where
-    fits : (D : Decision) (n : ℕ) → (D .quiet ≡ true → length (D .tops) ≡ 0) → n ≤ 126 → ifSo (overflows D n) TooManyNodes ≡ [] → afterwards D n ≤ 126
-    fits D n s l e = go (D .quiet) refl (tooMany (afterwards D n + D .peak)) refl e
+    few : (D : Decision) (n : ℕ) → (D .quiet ≡ true → length (D .tops) ≡ 0) → n ≤ 126 → every small (reaches D n) ≡ true → afterwards D n ≤ 126
+    few D n s l = go (D .quiet) refl
       where
-        go : (x : Bool) → D .quiet ≡ x → (y : Bool) → tooMany (afterwards D n + D .peak) ≡ y → ifSo (not x && y) TooManyNodes ≡ [] → afterwards D n ≤ 126
-        go true u y v w = omega (arith, s u)
-        go false u true v w = no-bool (ap isNil w)
-        go false u false v w = omega (arith, ltb-false 126 (afterwards D n + D .peak) v)
+        go : (x : Bool) → D .quiet ≡ x → every small (cond x [] ((afterwards D n + D .peak) ∷ [])) ≡ true → afterwards D n ≤ 126
+        go true u w = omega (arith, s u)
+        go false u w = omega (arith, leb-true (afterwards D n + D .peak) 126 (and-left (small (afterwards D n + D .peak)) true w))
 
 pub pushed-well : (f g : Plan) → wellFormed f ≡ true → pushed f ≡ answered g → wellFormed g ≡ true
 pushed-well f g e h =
     let p = down-answers f g (sym (pushed-is f (well-fit f e)) ∙ h) in
     let s : SamePlan false f (push f) = push-plan f (well-fit f e) in
     let n : size f ≤ 126 = leb-true (size f) 126 (search (and-left, and-right)) in
-    let l : 0 + size (pushdownSorts (λ i. atRoot) f) ≤ 126 = push-size 0 (λ i. atRoot) f (well-fit f e) (omega arith) (p .0) in
+    let l : 0 + size (pushdownSorts (λ i. atRoot) f) ≤ 126 = push-size 0 (λ i. atRoot) f (well-fit f e) (omega arith) (p .0) (p .2) in
     subst (λ (x : Plan). wellFormed x ≡ true) (sym (p .1)) (well-formed (push f) (s .number ∙ well-root f e) (omega (arith, l, strip-size (pushdownSorts (λ i. atRoot) f))) (s .ok (well-ok f e)))

@@ -54,7 +54,7 @@ join-blank RightSemi on F G H K e f = f
 join-blank RightAnti on F G H K e f = f
 
 pub op-blank : (o : Op) (fs gs : List Facts) → map blank fs ≡ map blank gs → blank (factsOp o fs) ≡ blank (factsOp o gs)
-op-blank (source w n s ks u) fs gs e = refl
+op-blank (source s) fs gs e = refl
 op-blank filter fs gs e = blank-at fs gs 0 e
 op-blank (projection cols) fs gs e = ap (λ (B : Facts). blank (projFacts B cols)) (blank-at fs gs 0 e)
 op-blank union fs gs e = sym (union-of fs) ∙ ap (λ (l : List Facts). blank (unionFacts l)) e ∙ union-of gs
@@ -71,7 +71,7 @@ op-blank (partialSort p ks n f) fs gs e = blank-at fs gs 0 e
 
 -- Kinds 5 to 10 have their child's
 pub ease-blank : (o : Op) (fs : List Facts) → easing o ≡ true → blank (factsOp o fs) ≡ blank (at0 fs)
-ease-blank (source w n s ks u) fs e = no-bool e
+ease-blank (source s) fs e = no-bool e
 ease-blank filter fs e = refl
 ease-blank (projection cols) fs e = no-bool e
 ease-blank union fs e = no-bool e

@@ -1,8 +1,7 @@
 -- The walks as they are called: 21 for a tree with a partial sort, then 23 and 25 as reached; for partial sorting 20 and 22.
 -- These are definitions.
 use mathlib.Core.Bool.{Bool, true, false, cond, not, _&&_, _||_}
-use mathlib.Core.List.{List, [], _∷_}
-use Prim.Native.Nat.{ℕ, zero, suc, _+_, _-_}
+use Prim.Native.Nat.{ℕ, suc, _+_, _-_}
 use lib.Dec.{eqb, ltb}
 use lib.ListN.{length}
 use Rattle.plan.specs.Forest.{Forest, none, tree, size}
@@ -10,7 +9,7 @@ use Rattle.plan.specs.Op.{Op, Plan}
 use Rattle.plan.specs.Numbers.{code}
 use Rattle.plan.specs.declared.Refusal.{Refusal}
 use Rattle.plan.specs.declared.Refusal.the-variants.{NoSuchNode, HasPartialSort, AllKeysMet, TooManyNodes, ConstantSort}
-use Rattle.semantics.specs.Facts.{isNil, factsOp, facts}
+use Rattle.semantics.specs.Facts.{isNil, factsOp, facts, knownOrder}
 use Rattle.walks.specs.Marks.{Marked, Tree, strip, plant, sizeT, rebuild}
 use Rattle.walks.specs.Utils.{isSort}
 use Rattle.walks.specs.EnsureSorting.{ensureSorting}
@@ -52,7 +51,8 @@ countUp step n none = counted none n
 countUp step n (tree o c r) =
     bind (countUp step n c) (λ d m. stepped step o d m (λ t k. bind (countUp step k r) (λ s l. counted (plant t s) l)))
 
--- ---- parents before children: one call of the helper with its calls to itself is a step (reading 4)
+-- ---- parents before children: one call of the helper with its calls to itself is a step (reading 4). The decisions of PushdownSorts say how many
+-- nodes a visit's steps reach; that these are the Rust's steps is proved: PushedIsLiteral
 
 abbrev pub one : Bool → ℕ
 one true = 1
@@ -60,7 +60,7 @@ one false = 0
 
 -- 25: "pushing meets a sort whose keys are all constant"
 abbrev pub constantSort : Op → Plan → Bool
-constantSort o c = isSort o && isNil (factsOp o (facts c) .order)
+constantSort o c = isSort o && isNil (knownOrder (factsOp o (facts c)))
 
 -- The nodes of the plan after a decision, n before it
 abbrev pub afterwards : Decision → ℕ → ℕ

@@ -22,8 +22,9 @@ use Rattle.walks.specs.EnsureSorting.{afterLoop, connectedEach, ensure, 
 use Rattle.walks.specs.Trees.{Arity, arity, count, Fit, FitsA, FitT}
 use Rattle.walks.specs.Keeps.{remark-same, shape-ind}
 use Rattle.walks.specs.EnsureKept.{ensure-kept, strip-connected, strip-unmark}
-use Rattle.walks.specs.OrderMet.{fresh-nf, met-nf, prefix-refl, wants-in, wants-remark}
-use Rattle.walks.specs.Removal.{BareT, Checked, CheckedT, connected-good, connected-kids, connected-marks, fact-canon, good-plant, kid-good, known-connected, known-count, MarkOK, MarksOK, unmark-kids, unmark-marks, updateChild-good}
+use Rattle.walks.specs.OrderMet.{fresh-same, met-nf, prefix-refl, wants-in, wants-remark}
+use Rattle.walks.specs.ConstantSorts.{fact-canon}
+use Rattle.walks.specs.Removal.{BareT, Checked, CheckedT, connected-good, connected-kids, connected-marks, good-plant, kid-good, known-connected, known-count, MarkOK, MarksOK, unmark-kids, unmark-marks, updateChild-good}
 
 -- ---- a sort on top meets the wish
 newSort-bare : (p : Bool) (ks : List Key) (f : Fetch) (t : Tree) → CheckedT t → BareT (cover (newSort p ks f) t)
@@ -37,7 +38,7 @@ addSort-met w f t = go (freshKeys (fact t) [] w) refl
     F = fact t
 
     same-nf : nf F [] (freshKeys F [] w) ≡ nf F [] w
-    same-nf = fresh-nf F (fact-canon t) [] [] w (λ c e. no-bool e)
+    same-nf = fresh-same F (fact-canon t) w
 
     go : (ks : List Key) → freshKeys F [] w ≡ ks → met (fact (cover (newSort (ltb 1 (F .streams)) ks f) t)) w ≡ true
     go [] e = ap (λ (l : List Key). prefixb l (F .order)) (sym same-nf ∙ ap (nf F []) e)

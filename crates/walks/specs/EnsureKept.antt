@@ -1,4 +1,4 @@
--- Ensuring keeps the skeleton with the old limits, the child counts, 01's rules, and that nothing is cut off.
+-- Ensuring keeps the skeleton with the old limits, the child counts, 01's rules, that nothing is cut off, and that no sort has all-constant keys.
 use mathlib.Core.Path.{_≡_, refl, sym, ap, ap₂, subst}
 use mathlib.Core.Bool.{Bool, true, false, cond, not, _&&_, _||_}
 use mathlib.Core.List.{List, [], _∷_, map}
@@ -25,7 +25,7 @@ use Rattle.walks.specs.Skeleton.{added-over, added-refl}
 use Rattle.walks.specs.Trees.{arity, count, Fit, FitsA, FitT, OkT, PureT}
 use Rattle.walks.specs.Keys.{fresh-keys, keys-of, KeysFit, keysOk}
 use Rattle.walks.specs.NewNodes.{coalesce-ok, fetch-ok, global-ok, local-ok, merge-ok, narrowT, node-fetch, nth-width, order-fits, over-of, wanted-fits, wantsFit}
-use Rattle.walks.specs.Keeps.{all-kept-none, all-kept-refl, all-kept-strip, all-kept-when, Keeps, KeepsAll, kept-cond, kept-first, kept-limit, kept-mark, kept-newSort, kept-node, kept-over, kept-plant, kept-rebuild, kept-refl, kept-trans, kept-under, kept-when, like-refl, op-fetch, pure-fetch, remark-like, shape-ind, uncut-fetch, walk-kept}
+use Rattle.walks.specs.Keeps.{all-kept-none, all-kept-refl, all-kept-strip, all-kept-when, Keeps, KeepsAll, kept-cond, kept-first, kept-limit, kept-mark, kept-node, kept-over, kept-plant, kept-rebuild, kept-refl, kept-sortAbove, kept-trans, kept-under, kept-when, like-refl, op-fetch, pure-fetch, remark-like, shape-ind, uncut-fetch, walk-kept}
 
 -- ---- marks
 pub strip-connected : (c : Forest Marked) → strip (connectedEach c) ≡ strip c
@@ -59,9 +59,9 @@ module _ {b h : Bool} where
 
   -- ---- removing
   gather-over : (ks : List Key) (f : Fetch) (t : Tree) → FitT t → (PureT t → isAll f ≡ true) → (OkT t → KeysFit (fact t .width) ks × (fetchOk f ≡ true)) → Keeps true b h t (over (gatherOp ks f) false t)
-  gather-over [] f t g q r = kept-over (coalesce Unlimited) false refl (λ i p. refl) (λ i v w. coalesce-ok Unlimited (fact t .width ∷ []) refl (refl, narrowT t w)) (kept-refl t g)
+  gather-over [] f t g q r = kept-over (coalesce Unlimited) false refl (λ i p. refl) (λ i v w. coalesce-ok Unlimited (fact t .width ∷ []) refl (refl, narrowT t w)) refl (kept-refl t g)
   gather-over (k ∷ ks) f t g q r =
-      kept-over (mergeOp (k ∷ ks) f) false refl (λ i p. uncut-fetch f (q p)) (λ i v w. let s = r w in merge-ok k ks f (fact t .width ∷ []) (s .0) (s .1) (refl, narrowT t w)) (kept-refl t g)
+      kept-over (mergeOp (k ∷ ks) f) false refl (λ i p. uncut-fetch f (q p)) (λ i v w. let s = r w in merge-ok k ks f (fact t .width ∷ []) (s .0) (s .1) (refl, narrowT t w)) refl (kept-refl t g)
 
   gather-kept : {t u : Tree} (s : Bool) → Keeps true b h t u → Keeps true b h t (gather s u)
   gather-kept {u = u} s k =
@@ -126,15 +126,15 @@ module _ {b h : Bool} where
       note v = subst (λ (F : Facts). KeysFit (F .width) (fact t .order)) (sym (k .base)) (order-fits t v)
 
       go : (y : Bool) → Keeps true b h t (over (cond y (globalLimit 0 (AtMost n) (fact t .order)) (localLimit (AtMost n) (fact t .order))) false u)
-      go true = kept-limit _ false refl refl (λ i q. q .0) (λ i v w. global-ok n (fact t .order) (fact u .width ∷ []) (note v) (node-fetch (sortOp p ks (AtMost n)) (map (λ F. F .width) (known c)) (v .0)) (refl, narrowT u w)) k
-      go false = kept-limit _ false refl refl (λ i q. q .0) (λ i v w. local-ok n (fact t .order) (fact u .width ∷ []) (note v) (node-fetch (sortOp p ks (AtMost n)) (map (λ F. F .width) (known c)) (v .0)) (refl, narrowT u w)) k
+      go true = kept-limit _ false refl refl (λ i q. q .0) (λ i v w. global-ok n (fact t .order) (fact u .width ∷ []) (note v) (node-fetch (sortOp p ks (AtMost n)) (map (λ F. F .width) (known c)) (v .0)) (refl, narrowT u w)) refl k
+      go false = kept-limit _ false refl refl (λ i q. q .0) (λ i v w. local-ok n (fact t .order) (fact u .width ∷ []) (note v) (node-fetch (sortOp p ks (AtMost n)) (map (λ F. F .width) (known c)) (v .0)) (refl, narrowT u w)) refl k
 
   immediate-kept : (p : Bool) (ks : List Key) (f : Fetch) (x : Bool) (c : Forest Marked) → FitT (node (sortOp p ks f) x c) → Keeps true b h (node (sortOp p ks f) x c) (immediate p ks f (node (sortOp p ks f) x c) (kid0 (node (sortOp p ks f) x c) c))
   immediate-kept p ks f x c g =
       let t : Tree = node (sortOp p ks f) x c in
       let u : Tree = setMark false (kid0 t c) in
       let k : Keeps true b h t u = kept-mark false (kept-first t refl g) in
-      kept-cond (not p && ltb 1 (fact (kid0 t c) .streams)) (kept-over (mergeOp ks f) false refl (λ i q. q .0) (λ i v w. merged-ok p ks f x c g v) k) (limited-kept p ks f x c g)
+      kept-cond (not p && ltb 1 (fact (kid0 t c) .streams)) (kept-over (mergeOp ks f) false refl (λ i q. q .0) (λ i v w. merged-ok p ks f x c g v) refl k) (limited-kept p ks f x c g)
     where
       -- the sort's own keys, over its own child
       merged-ok : (p : Bool) (ks : List Key) (f : Fetch) (x : Bool) (c : Forest Marked) → FitT (node (sortOp p ks f) x c) → OkT (node (sortOp p ks f) x c) → nodeOk (mergeOp ks f) (fact (kid0 (node (sortOp p ks f) x c) c) .width ∷ []) ≡ true
@@ -147,7 +147,7 @@ ensureChild-kept : (w : List Key) (b s : Bool) (f : Fetch) (t : Tree) → FitT t
 ensureChild-kept [] b s f t g = kept-cond (isNil (fact t .order) || not b) (updateChild-kept s t g) (kept-refl t g)
 ensureChild-kept (k ∷ w) b s f t g =
     kept-cond (met (fact t) (k ∷ w)) (kept-refl t g)
-    (kept-connected true (kept-newSort (ltb 1 (fact u .streams)) (freshKeys (fact u) [] (k ∷ w)) f (λ e p. e) new below))
+    (kept-connected true (kept-sortAbove (k ∷ w) f (λ e p. e) new below))
   where
     u : Tree
     u = cond (isNil (fact t .order)) t (updateChildToRemoveUnnecessarySort s t)
@@ -207,6 +207,7 @@ module _ {b h : Bool} where
         ok = λ e p. (local-ok n (fact t .order) ws (subst (λ (w : ℕ). KeysFit w (fact t .order)) (sym (nth-width (known c) 0)) (order-fits t p)) (node-fetch (mergeOp ks (AtMost n)) ws (p .0)) (over-of (mergeOp ks (AtMost n)) ws refl (p .0)), p .1);
         bones = added-over _ refl refl (added-refl (skel (strip c)));
         base = refl;
+        live = λ p. (refl, p .1);
       }
     where
       t : Tree

@@ -2,7 +2,7 @@
 -- update_child_to_remove_unnecessary_sort, analyze_immediate_sort_removal, ensure_sorting. These are definitions.
 use mathlib.Core.Bool.{Bool, true, false, cond, not, _&&_, _||_}
 use mathlib.Core.List.{List, [], _∷_}
-use Prim.Native.Nat.{ℕ, zero, suc}
+use Prim.Native.Nat.{ℕ, suc}
 use lib.Dec.{eqb, ltb, leb}
 use lib.ListN.{length}
 use Rattle.row_order.specs.Iso.{Key}
@@ -10,7 +10,7 @@ use Rattle.plan.specs.Forest.{Forest, none, tree, roots}
 use Rattle.plan.specs.Op.{Op, coalesce, mergeOp, globalLimit, localLimit, Plan}
 use Rattle.plan.specs.declared.Fetch.{Fetch}
 use Rattle.plan.specs.declared.Fetch.the-variants.{Unlimited, AtMost}
-use Rattle.semantics.specs.Facts.{Facts, met, isNil, at0}
+use Rattle.semantics.specs.Facts.{met, isNil, at0, knownOrder}
 use Rattle.semantics.specs.Properties.{wanted, singles, maintains, isLimit, remark}
 use Rattle.walks.specs.Marks.{Marked, Tree, strip, known, at, node, plant, over, opT, fact, fetchT, setMark, kid0, unmark, anyMark, anyBelow, Shape, aSort, aMerge, aRepartition, aCoalesce, another, shape, rebuild, transformUp}
 use Rattle.walks.specs.Utils.{isSort, isSortPreservingMerge, addSortAbove}
@@ -42,7 +42,7 @@ gatherOp (k ∷ ks) f = mergeOp (k ∷ ks) f
 
 -- s: a single stream is required
 abbrev pub gather : Bool → Tree → Tree
-gather s t = cond (s && ltb 1 (fact t .streams)) (updateSortCtxChildrenData false (over (gatherOp (fact t .order) (fetchT t)) false t)) t
+gather s t = cond (s && ltb 1 (fact t .streams)) (updateSortCtxChildrenData false (over (gatherOp (knownOrder (fact t)) (fetchT t)) false t)) t
 
 -- "Replace with variants that do not preserve order."
 abbrev pub loosen : Shape → Tree → Tree
@@ -88,12 +88,15 @@ updateChildToRemoveUnnecessarySort s t = setMark false (cond (t .top .mark) (rem
 
 -- ---- analyze_immediate_sort_removal: of a sort t over c, whose known order c meets (met of no order holds)
 
--- "If the sort has a fetch, we need to add a limit": 01's trap, a sort's fetch is not lost along with the sort. A limit's note is
--- in normal form (reading 7)
+-- The note of a new limit in the place of t: its known order, in normal form (reading 7)
+abbrev pub limitNote : Tree → List Key
+limitNote t = knownOrder (fact t)
+
+-- "If the sort has a fetch, we need to add a limit": 01's trap, a sort's fetch is not lost along with the sort
 abbrev pub limited : Fetch → Tree → Tree → Tree
 limited Unlimited t c = node (opT c) false (unmark (c .kids))
 limited (AtMost n) t c =
-    over (cond (eqb (fact t .streams) 1) (globalLimit 0 (AtMost n) (fact t .order)) (localLimit (AtMost n) (fact t .order))) false (setMark false c)
+    over (cond (eqb (fact t .streams) 1) (globalLimit 0 (AtMost n) (limitNote t)) (localLimit (AtMost n) (limitNote t))) false (setMark false c)
 
 -- "Replace the sort with a sort-preserving merge": 01's trap, of the sort's own keys and not of the known order
 abbrev pub immediate : Bool → List Key → Fetch → Tree → Tree → Tree
@@ -104,10 +107,10 @@ immediate p ks f t c = cond (not p && ltb 1 (fact c .streams)) (over (mergeOp ks
 -- w: the required order, none if empty; b: the node maintains this child's order (asked before its children change, reading 9);
 -- s: it requires a single stream; f: the fetch of a new sort
 abbrev pub ensureChild : List Key → Bool → Bool → Fetch → Tree → Tree
-ensureChild [] b s f t = cond (isNil (fact t .order) || not b) (updateChildToRemoveUnnecessarySort s t) t
+ensureChild [] b s f t = cond (isNil (knownOrder (fact t)) || not b) (updateChildToRemoveUnnecessarySort s t) t
 ensureChild (k ∷ w) b s f t =
     cond (met (fact t) (k ∷ w)) t
-    (updateSortCtxChildrenData true (addSortAbove (k ∷ w) f (cond (isNil (fact t .order)) t (updateChildToRemoveUnnecessarySort s t))))
+    (updateSortCtxChildrenData true (addSortAbove (k ∷ w) f (cond (isNil (knownOrder (fact t))) t (updateChildToRemoveUnnecessarySort s t))))
 
 abbrev pub ensureEach : (ℕ → List Key) → (ℕ → Bool) → (ℕ → Bool) → Fetch → Forest Marked → Forest Marked
 ensureEach w b s f none = none
@@ -124,7 +127,7 @@ afterLoop t = rebuild (opT t) false (ensuredKids (opT t) (t .kids))
 -- "This SortPreservingMergeExec is unnecessary because its input has a single partition."
 abbrev pub unmerged : Fetch → Tree → Tree
 unmerged Unlimited t = kid0 t (t .kids)
-unmerged (AtMost n) t = node (localLimit (AtMost n) (fact t .order)) false (t .kids)
+unmerged (AtMost n) t = node (localLimit (AtMost n) (limitNote t)) false (t .kids)
 
 -- ---- ensure_sorting: the step at one node
 
@@ -136,7 +139,7 @@ finish (aCoalesce f) t = updateSortCtxChildrenData false t
 finish another t = updateSortCtxChildrenData false t
 
 abbrev pub ensureBy : Shape → Tree → Tree
-ensureBy (aSort p ks f) t = cond (met (at0 (known (t .kids))) (fact t .order)) (immediate p ks f t (kid0 t (t .kids))) (finish (aSort p ks f) (afterLoop t))
+ensureBy (aSort p ks f) t = cond (met (at0 (known (t .kids))) (knownOrder (fact t))) (immediate p ks f t (kid0 t (t .kids))) (finish (aSort p ks f) (afterLoop t))
 ensureBy (aMerge ks f) t = finish (aMerge ks f) (afterLoop t)
 ensureBy (aRepartition p n h ks) t = finish (aRepartition p n h ks) (afterLoop t)
 ensureBy (aCoalesce f) t = finish (aCoalesce f) (afterLoop t)

@@ -16,7 +16,7 @@ use Rattle.walks.specs.KeptRows.{ease-nextS, ensure-plan, SamePlan, skel
 use Rattle.walks.specs.EnsureCheck.{ensure-passes}
 
 ease-source : (E : Env) (i : ℕ) (o : Op) → easing o ≡ true → SourceOK E i o
-ease-source E i (source w n cs ks unb) e = no-bool e
+ease-source E i (source s) e = no-bool e
 ease-source E i filter e = tt
 ease-source E i (projection cols) e = tt
 ease-source E i union e = tt

@@ -6,7 +6,8 @@ use Prim.Native.Nat.{ℕ, zero, suc, _^_}
 use Rattle.row_order.specs.Iso.{Key}
 use Rattle.row_order.specs.Lists.{tab}
 use Rattle.plan.specs.Forest.{none, size, tree}
-use Rattle.plan.specs.Op.{coalesce, filter, globalLimit, hashJoin, mergeOp, outputRequirement, partialSort, Plan, projection, repartition, sortMergeJoin, sortOp, source}
+use Rattle.plan.specs.Op.{coalesce, filter, globalLimit, hashJoin, mergeOp, outputRequirement, partialSort, Plan, projection, repartition, sortMergeJoin, sortOp}
+use Rattle.plan.specs.Samples.{by, sourceOf, up}
 use Rattle.plan.specs.WellFormed.{width}
 use Rattle.plan.specs.declared.Distribution.the-variants.{Keyed, Single, Unspecified}
 use Rattle.plan.specs.declared.Fetch.the-variants.{AtMost, Unlimited}
@@ -21,7 +22,7 @@ use Rattle.walks.specs.SortPushdown.{exprSourceSide, leftSide, minFetch,
 use Rattle.walks.specs.PushdownSorts.{push}
 use Rattle.walks.specs.Counted.{answered, ensured, parallelized, partiallySorted, preserved, pushed, refused}
 use Rattle.walks.specs.Terms.{_⊕_}
-use Rattle.walks.specs.Samples.{besides, by, endlessSrc, on, settings, src, up}
+use Rattle.walks.specs.Samples.{besides, endlessSrc, on, settings, src}
 
 -- ---- 01, 'Worked on paper', marked *
 abbrev knows : List Key → Facts
@@ -66,7 +67,7 @@ ensure-merge = refl
 
 -- ---- 01, 'Traps'
 -- the immediate merge has the sort's own keys, though column 1 is constant and the known order is [2]
-pub ensure-own-keys : ensured (on (sortOp false (up 2 ∷ up 1 ∷ []) Unlimited) (tree (source 3 2 2 (by 2) false) none none)) ≡ answered (on (mergeOp (up 2 ∷ up 1 ∷ []) Unlimited) (tree (source 3 2 2 (by 2) false) none none))
+pub ensure-own-keys : ensured (on (sortOp false (up 2 ∷ up 1 ∷ []) Unlimited) (tree (sourceOf 3 2 2 (by 2) false) none none)) ≡ answered (on (mergeOp (up 2 ∷ up 1 ∷ []) Unlimited) (tree (sourceOf 3 2 2 (by 2) false) none none))
 ensure-own-keys = refl
 
 -- ---- small trees that tell wrong walks apart
@@ -153,7 +154,7 @@ push-fetch = refl
 
 -- the second try: 13 single [3,1] / hash Inner [0]=[0] / (s1 const {1}, s2)
 abbrev twoSides : Plan → Plan
-twoSides r = on (hashJoin Inner (record { key = up 0; other = 0 } ∷ [])) (tree (source 2 1 2 [] false) none r)
+twoSides r = on (hashJoin Inner (record { key = up 0; other = 0 } ∷ [])) (tree (sourceOf 2 1 2 [] false) none r)
 
 pub push-again : pushed (on (outputRequirement (up 3 ∷ up 1 ∷ []) Single Unlimited) (twoSides (src 2 []))) ≡ answered (on (outputRequirement (up 3 ∷ up 1 ∷ []) Single Unlimited) (on (mergeOp (by 3) Unlimited) (twoSides (on (sortOp true (by 1) Unlimited) (src 2 [])))))
 push-again = refl
@@ -174,7 +175,7 @@ preserve-breaks = (refl, refl)
 -- ---- worth knowing
 -- 25, and the merge whose keys are all constant: 13[0,1] / merge[0] / source, constant 0
 abbrev constant : Plan
-constant = tree (source 2 1 1 [] false) none none
+constant = tree (sourceOf 2 1 1 [] false) none none
 
 pub push-constant : pushed (on (sortOp false (by 0) Unlimited) constant) ≡ refused ConstantSort
 push-constant = refl

@@ -20,7 +20,7 @@ use Rattle.semantics.specs.Bags.{bagOp, bags, SameRows}
 use Rattle.semantics.specs.Rows.{same-rows}
 use Rattle.walks.specs.Marks.{bare, Marked, strip, transformUp}
 use Rattle.walks.specs.EnsureSorting.{ensure, ensureSorting}
-use Rattle.walks.specs.Terms.{_⊕_, Added, blank, clear, easing, prune, skel}
+use Rattle.walks.specs.Terms.{_⊕_, Added, blank, clear, easing, Live, prune, skel}
 use Rattle.walks.specs.Skeleton.{eased}
 use Rattle.walks.specs.Trees.{Arity, clear-pure, count, Fit, FitsA, Ok, Pure, pure-clear, pure-simple}
 use Rattle.walks.specs.Keeps.{ease-one, KeepsAll, strip-bare}
@@ -46,7 +46,7 @@ pub ease-nextF : (o : Op) (i : ℕ) → easing o ≡ true → nextF o i ≡ i
 ease-nextF o i e = ap (λ (b : Bool). cond b (suc i) i) (ease-low o 2 (omega arith) e)
 
 eased-bag : (E : Env) (i j : ℕ) (o : Op) (bs : List (List Row)) → easing o ≡ true → bagOp E i j o bs ≡ getD bs 0 []
-eased-bag E i j (source w n s ks u) bs e = no-bool e
+eased-bag E i j (source s) bs e = no-bool e
 eased-bag E i j filter bs e = no-bool e
 eased-bag E i j (projection cols) bs e = no-bool e
 eased-bag E i j union bs e = no-bool e
@@ -101,6 +101,8 @@ pub record SamePlan (a : Bool) (f g : Plan) : Type 0 where
   pub number : count g ≡ count f
   -- width, constants and classes of each root
   pub bases : map blank (facts g) ≡ map blank (facts f)
+  -- no sort of all-constant keys where there was none
+  pub live : Live f → Live g
 
 pub kept-plan : {a : Bool} (f : Plan) (d : Forest Marked) → KeepsAll a true true (bare f) d → SamePlan a f (strip d)
 kept-plan {a} f d k =
@@ -111,6 +113,7 @@ kept-plan {a} f d k =
       bones = subst (λ (g : Plan). Added a (skel g) (skel (strip d))) (strip-bare f) (k .bones);
       number = k .same ∙ ap (λ (g : Plan). count g) (strip-bare f);
       bases = k .bases ∙ ap (λ (g : Plan). map blank (facts g)) (strip-bare f);
+      live = λ h. k .live (subst Live (sym (strip-bare f)) h);
     }
 
 pub same-plan-rows : {a : Bool} {E E′ : Env} (f g : Plan) {x y : Forest Streams} → SameInputs E E′ f → Fit f → clear f ≡ true → SamePlan a f g → Run E 0 0 f x → Run E′ 0 0 g y → Each SameRows (roots x) (roots y)

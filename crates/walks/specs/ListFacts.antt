@@ -1,5 +1,5 @@
 -- Facts on lists.
-use mathlib.Core.Path.{_≡_, refl, ap, _∙_}
+use mathlib.Core.Path.{_≡_, refl, ap, ap₂, _∙_}
 use mathlib.Core.Bool.{Bool, true, false, _&&_}
 use mathlib.Core.List.{List, [], _∷_, _++_, map}
 use Prim.Native.Nat.{ℕ, zero, suc}
@@ -16,6 +16,10 @@ pub all-nth : {A : Type 0} {P : A → Type 0} (d : A) {l : List A} → P d → A
 all-nth d p all-nil n = p
 all-nth d p (all-cons h hs) zero = h
 all-nth d p (all-cons h hs) (suc n) = all-nth d p hs n
+
+pub every-same : {A : Type 0} (p q : A → Bool) → ((x : A) → p x ≡ q x) → (l : List A) → every p l ≡ every q l
+every-same p q h [] = refl
+every-same p q h (x ∷ l) = ap₂ _&&_ (h x) (every-same p q h l)
 
 pub every-append : {A : Type 0} (p : A → Bool) (l m : List A) → every p (l ++ m) ≡ every p l && every p m
 every-append p [] m = refl

@@ -1,5 +1,5 @@
 -- Marked trees, and the walk that goes children before parents. These are definitions.
-use mathlib.Core.Bool.{Bool, true, false, cond, not, _&&_, _||_}
+use mathlib.Core.Bool.{Bool, false, _||_}
 use mathlib.Core.List.{List, [], _∷_}
 use Prim.Native.Nat.{ℕ, zero, suc}
 use Rattle.row_order.specs.Iso.{Key}
@@ -9,66 +9,83 @@ use Rattle.plan.specs.declared.Fetch.{Fetch}
 use Rattle.semantics.specs.Facts.{Facts, factsOp, facts}
 use Rattle.semantics.specs.Properties.{rebuilt, fetchOp, fetches}
 
--- ---- trees with a mark on each node: the Rust's PlanContext<bool>, whose marks are never in the plan
+-- ---- trees with a mark on each node: the Rust's PlanContext<T>, whose data (here `mark`) are never in the plan
 
-pub record Marked : Type 0 where
+-- A node, and its data
+pub record Noted (T : Type 0) : Type 0 where
   pub op : Op
-  pub mark : Bool
+  pub mark : T
 
--- A tree: its top node, and the forest of its children
-pub record Tree : Type 0 where
-  pub top : Marked
-  pub kids : Forest Marked
+-- A tree: its top node, and the forest of its children. A context's plan has its child contexts' plans for children wherever the text
+-- reads it, so the node alone is held
+pub record PlanContext (T : Type 0) : Type 0 where
+  pub top : Noted T
+  pub kids : Forest (Noted T)
+
+-- Three walks mark each node or not
+abbrev pub Marked : Type 0
+Marked = Noted Bool
+
+abbrev pub Tree : Type 0
+Tree = PlanContext Bool
 
 -- The plan, without the marks
-abbrev pub strip : Forest Marked → Plan
+abbrev pub strip : {T : Type 0} → Forest (Noted T) → Plan
 strip c = mapF (λ m. m .op) c
+
+-- The same mark on each node
+abbrev pub marked : {T : Type 0} → T → Plan → Forest (Noted T)
+marked x f = mapF (λ o. record { op = o; mark = x }) f
 
 -- 01, 'The four walks': "marks first false"
 abbrev pub bare : Plan → Forest Marked
-bare f = mapF (λ o. record { op = o; mark = false }) f
+bare f = marked false f
 
 -- The facts of each root
-abbrev pub known : Forest Marked → List Facts
+abbrev pub known : {T : Type 0} → Forest (Noted T) → List Facts
 known c = facts (strip c)
 
-abbrev pub at : Marked → Forest Marked → Tree
+abbrev pub at : {T : Type 0} → Noted T → Forest (Noted T) → PlanContext T
 at m c = record { top = m; kids = c }
 
-abbrev pub node : Op → Bool → Forest Marked → Tree
-node o b c = record { top = record { op = o; mark = b }; kids = c }
+abbrev pub node : {T : Type 0} → Op → T → Forest (Noted T) → PlanContext T
+node o x c = record { top = record { op = o; mark = x }; kids = c }
 
 -- A tree before its siblings
-abbrev pub plant : Tree → Forest Marked → Forest Marked
+abbrev pub plant : {T : Type 0} → PlanContext T → Forest (Noted T) → Forest (Noted T)
 plant t r = tree (t .top) (t .kids) r
 
 -- A node over one tree
-abbrev pub over : Op → Bool → Tree → Tree
-over o b t = node o b (plant t none)
+abbrev pub over : {T : Type 0} → Op → T → PlanContext T → PlanContext T
+over o x t = node o x (plant t none)
 
--- New nodes over a tree, the outermost first; a new node's mark is false
+-- New nodes over a tree, the outermost first, each with the mark x
+abbrev pub coverWith : {T : Type 0} → T → List Op → PlanContext T → PlanContext T
+coverWith x [] t = t
+coverWith x (o ∷ os) t = over o x (coverWith x os t)
+
+-- A new node's mark is false
 abbrev pub cover : List Op → Tree → Tree
-cover [] t = t
-cover (o ∷ os) t = over o false (cover os t)
+cover os t = coverWith false os t
 
-abbrev pub opT : Tree → Op
+abbrev pub opT : {T : Type 0} → PlanContext T → Op
 opT t = t .top .op
 
-abbrev pub fact : Tree → Facts
+abbrev pub fact : {T : Type 0} → PlanContext T → Facts
 fact t = factsOp (opT t) (known (t .kids))
 
 -- The plan's fetch: for a projection its input's (reading 3)
-abbrev pub fetchT : Tree → Fetch
+abbrev pub fetchT : {T : Type 0} → PlanContext T → Fetch
 fetchT t = fetchOp (opT t) (fetches (strip (t .kids)))
 
-abbrev pub sizeT : Tree → ℕ
+abbrev pub sizeT : {T : Type 0} → PlanContext T → ℕ
 sizeT t = suc (size (t .kids))
 
-abbrev pub setMark : Bool → Tree → Tree
-setMark b t = node (opT t) b (t .kids)
+abbrev pub setMark : {T : Type 0} → T → PlanContext T → PlanContext T
+setMark x t = node (opT t) x (t .kids)
 
 -- The first tree (the Rust's children[0]); d if there is none
-abbrev pub kid0 : Tree → Forest Marked → Tree
+abbrev pub kid0 : {T : Type 0} → PlanContext T → Forest (Noted T) → PlanContext T
 kid0 d none = d
 kid0 d (tree m c r) = at m c
 
@@ -102,7 +119,7 @@ pub data Shape : Type 0 where
   another : Shape
 
 abbrev pub shape : Op → Shape
-shape (source w n s ks u) = another
+shape (source s) = another
 shape filter = another
 shape (projection cols) = another
 shape union = another
@@ -119,8 +136,8 @@ shape (partialSort p ks n f) = another
 
 -- ---- rebuilding (reading 1): update_plan_from_children, and a node put back over its walked children
 
-abbrev pub rebuild : Op → Bool → Forest Marked → Tree
-rebuild o b c = node (rebuilt o (known c)) b c
+abbrev pub rebuild : {T : Type 0} → Op → T → Forest (Noted T) → PlanContext T
+rebuild o x c = node (rebuilt o (known c)) x c
 
 -- ---- transform_up: "children before parents, each node once, marks first false"
 

@@ -107,7 +107,7 @@ some-short : {A : Type 0} (l : List A) → some l ≡ true → length l ≤ 8
 some-short l e = leb-true (length l) 8 (search (and-left, and-right))
 
 op-short : (o : Op) (fs : List Facts) → fieldsOk o ≡ true → All Short fs → Short (factsOp o fs)
-op-short (source w n s ks u) fs e hs = nf-short (sourceFacts w n s) ks (few-short ks (search (and-left, and-right)))
+op-short (source s) fs e hs = nf-short (sourceFacts (s .width) (s .streams) (s .constants)) (s .keys) (few-short (s .keys) (search (and-left, and-right)))
 op-short filter fs e hs = all-nth nothing none-short hs 0
 op-short (projection cols) fs e hs = omega (arith, proj-length (at0 fs) cols (at0 fs .order), all-nth nothing none-short hs 0)
 op-short union fs e hs = union-short fs hs
@@ -142,7 +142,7 @@ order-fits t h = all-head (orders-fit (tree (opT t) (strip (t .kids)) none) (h .
 
 -- ---- fetches are four bytes
 op-fetch-ok : (o : Op) → fieldsOk o ≡ true → fetchOk (cuts o .fetch) ≡ true
-op-fetch-ok (source w n s ks u) e = refl
+op-fetch-ok (source s) e = refl
 op-fetch-ok filter e = refl
 op-fetch-ok (projection cols) e = refl
 op-fetch-ok union e = refl
@@ -208,7 +208,7 @@ global-ok m note ws h e n = local-ok m note ws h e n
 
 -- A kind of one child has one of at most 32 columns
 pub over-of : (o : Op) (ws : List ℕ) → easing o ≡ true → nodeOk o ws ≡ true → Over ws
-over-of (source w n s ks u) ws e h = no-bool e
+over-of (source s) ws e h = no-bool e
 over-of filter ws e h = no-bool e
 over-of (projection cols) ws e h = no-bool e
 over-of union ws e h = no-bool e
@@ -292,7 +292,7 @@ two-children : (fs : List Facts) → eqb (length (map (λ F. F .width) fs)) 2 �
 two-children fs e = sym (map-length (λ F. F .width) fs) ∙ eqb-true (length (map (λ F. F .width) fs)) 2 e
 
 pub wanted-fits : (o : Op) (fs : List Facts) → nodeOk o (map (λ F. F .width) fs) ≡ true → wantsFit (wanted o) fs ≡ true
-wanted-fits (source w n s ks u) fs e = nothing-wanted fs
+wanted-fits (source s) fs e = nothing-wanted fs
 wanted-fits filter fs e = nothing-wanted fs
 wanted-fits (projection cols) fs e = nothing-wanted fs
 wanted-fits union fs e = nothing-wanted fs

@@ -54,7 +54,7 @@ FineT t = t .top .mark ≡ true → Stays (opT t) (known (t .kids)) × Fine (t .
 
 -- ---- rebuilding changes no facts
 pub rebuilt-facts : (o : Op) (fs : List Facts) → factsOp (rebuilt o fs) fs ≡ factsOp o fs
-rebuilt-facts (source w n s ks u) fs = refl
+rebuilt-facts (source s) fs = refl
 rebuilt-facts filter fs = refl
 rebuilt-facts (projection cols) fs = refl
 rebuilt-facts union fs = refl
@@ -74,6 +74,28 @@ rebuilt-facts (sortMergeJoin t on) fs = refl
 rebuilt-facts (hashJoin t on) fs = refl
 rebuilt-facts (outputRequirement ks d f) fs = refl
 rebuilt-facts (partialSort p ks n f) fs = refl
+
+-- and what is rebuilt stays
+pub rebuilt-twice : (o : Op) (fs : List Facts) → rebuilt (rebuilt o fs) fs ≡ rebuilt o fs
+rebuilt-twice (source s) fs = refl
+rebuilt-twice filter fs = refl
+rebuilt-twice (projection cols) fs = refl
+rebuilt-twice union fs = refl
+rebuilt-twice (repartition p n h ks) fs = ap (λ (b : Bool). repartition b n h ks) (same p (not (isNil (at0 fs .order)) && ltb 1 (at0 fs .streams)))
+  where
+    same : (a x : Bool) → (a && x) && x ≡ a && x
+    same true true = refl
+    same true false = refl
+    same false x = refl
+rebuilt-twice (coalesce f) fs = refl
+rebuilt-twice (sortOp p ks f) fs = refl
+rebuilt-twice (mergeOp ks f) fs = refl
+rebuilt-twice (globalLimit s f note) fs = refl
+rebuilt-twice (localLimit f note) fs = refl
+rebuilt-twice (sortMergeJoin t on) fs = refl
+rebuilt-twice (hashJoin t on) fs = refl
+rebuilt-twice (outputRequirement ks d f) fs = refl
+rebuilt-twice (partialSort p ks n f) fs = refl
 
 -- ---- a subplan opened
 pub record Opened (c d : Forest Marked) : Type 0 where
@@ -98,7 +120,7 @@ skip-pass o d (tree m c r) h e = go (samePartitioning o (m .op)) (skip-pass o (a
     go false ih = first-pass m c r e
 
 coalesce-facts : (o : Op) (fs : List Facts) → eqb (code o) 6 ≡ true → (factsOp o fs .streams ≡ 1) × (factsOp o fs .order ≡ [])
-coalesce-facts (source w n s ks u) fs e = no-bool e
+coalesce-facts (source s) fs e = no-bool e
 coalesce-facts filter fs e = no-bool e
 coalesce-facts (projection cols) fs e = no-bool e
 coalesce-facts union fs e = no-bool e

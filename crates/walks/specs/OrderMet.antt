@@ -35,8 +35,16 @@ pub met-own : (F : Facts) → Canon F → met F (F .order) ≡ true
 met-own F h = ap (λ (l : List Key). prefixb l (F .order)) (normal-nf (isC F) (cl F) (h .normal)) ∙ prefix-refl (F .order)
 
 -- to meet a list is to meet its normal form
+pub nf-twice : (F : Facts) → Canon F → (ks : List Key) → nf F [] (nf F [] ks) ≡ nf F [] ks
+nf-twice F h ks = nf-idem (isC F) (cl F) (h .classes .idem) [] ks
+
 pub met-nf : (F : Facts) (ks : List Key) → Canon F → met F (nf F [] ks) ≡ met F ks
-met-nf F ks h = ap (λ (l : List Key). prefixb l (F .order)) (nf-idem (isC F) (cl F) (h .classes .idem) [] ks)
+met-nf F ks h = ap (λ (l : List Key). prefixb l (F .order)) (nf-twice F h ks)
+
+-- what is no prefix is not empty
+pub prefix-some : (l q : List Key) → prefixb l q ≡ false → isNil l ≡ false
+prefix-some [] q e = e
+prefix-some (k ∷ l) q e = refl
 
 -- constants and later repeats drop out of a normal form
 module _ (F : Facts) (hF : Canon F) where
@@ -86,6 +94,16 @@ module _ (F : Facts) (hF : Canon F) where
           ap (λ (x : Bool). cond x (nf F low (freshKeys F (k .col ∷ raw) ks)) (k′ ∷ nf F (c ∷ low) (freshKeys F (k .col ∷ raw) ks))) q
           ∙ ap (λ (l : List Key). k′ ∷ l) (ih (seen-more (k .col) raw (c ∷ low) (λ x m. or-right (eqb (cl F x) c) (member (cl F x) low) (h x m)) (ap (λ (x : Bool). x || member c low) (eq-eqb c c refl))))
 
+pub fresh-same : (F : Facts) → Canon F → (ks : List Key) → nf F [] (freshKeys F [] ks) ≡ nf F [] ks
+fresh-same F h ks = fresh-nf F h [] [] ks (λ c e. no-bool e)
+
+pub fresh-some : (F : Facts) → Canon F → (ks : List Key) → isNil (nf F [] ks) ≡ false → isNil (freshKeys F [] ks) ≡ false
+fresh-some F h ks e = go (freshKeys F [] ks) (fresh-same F h ks)
+  where
+    go : (l : List Key) → nf F [] l ≡ nf F [] ks → isNil l ≡ false
+    go [] q = ap isNil q ∙ e
+    go (k ∷ l) q = refl
+
 -- ---- wishes
 pub nowish-met : (w : Wish) (fs : List Facts) → isNil (wantedOf w 0) ≡ true → every (λ a. met (getD fs (a .child) nothing) (a .keys)) (asksOf w) ≡ true
 nowish-met noWish fs e = refl
@@ -100,7 +118,7 @@ keys-nil [] e = refl
 keys-nil (k ∷ on) e = no-bool e
 
 pub nil-zero : (o : Op) (n i : ℕ) → FitsA (arity o) n → i < n → isNil (wanted o i) ≡ true → isNil (wanted o 0) ≡ true
-nil-zero (source w m s ks u) n i f l e = refl
+nil-zero (source s) n i f l e = refl
 nil-zero filter n i f l e = refl
 nil-zero (projection cols) n i f l e = refl
 nil-zero union n i f l e = refl
@@ -124,7 +142,7 @@ abbrev pub Granted : Op → List Facts → Type 0
 Granted o fs = (i : ℕ) → i < length fs → met (getD fs i nothing) (wanted o i) ≡ true
 
 pub wants-in : (o : Op) (fs : List Facts) → FitsA (arity o) (length fs) → Granted o fs → wants o fs ≡ true
-wants-in (source w n cs ks unb) fs f h = refl
+wants-in (source s) fs f h = refl
 wants-in filter fs f h = refl
 wants-in (projection cols) fs f h = refl
 wants-in union fs f h = refl

@@ -1,7 +1,7 @@
 -- replace_with_order_preserving_variants.rs. These are definitions.
 use mathlib.Core.Bool.{Bool, true, false, cond, not, _&&_, _||_}
-use mathlib.Core.List.{List, [], _∷_}
-use Prim.Native.Nat.{ℕ, zero, suc}
+use mathlib.Core.List.{List}
+use Prim.Native.Nat.{ℕ, suc}
 use lib.ListN.{getD}
 use Rattle.row_order.specs.Iso.{Key}
 use Rattle.plan.specs.Forest.{Forest, none, tree, roots}
@@ -9,7 +9,7 @@ use Rattle.plan.specs.Op.{Op, repartition, coalesce, mergeOp, Plan}
 use Rattle.plan.specs.WellFormed.{someFetch}
 use Rattle.plan.specs.declared.Fetch.{Fetch}
 use Rattle.plan.specs.declared.Fetch.the-variants.{Unlimited, AtMost}
-use Rattle.semantics.specs.Facts.{Facts, met, isNil, keepsOrder, nothing, at0}
+use Rattle.semantics.specs.Facts.{Facts, met, isNil, keepsOrder, nothing, at0, knownOrder}
 use Rattle.semantics.specs.Properties.{wanted, maintains, cuts, anyOf, endless, isFinal}
 use Rattle.walks.specs.Marks.{Marked, Tree, strip, known, at, node, plant, opT, fact, kid0, unmark, anyMark, headMark, Shape, aSort, aMerge, aRepartition, aCoalesce, another, shape, rebuild, transformUp}
 use Rattle.walks.specs.Utils.{isSortPreservingMerge, isCoalescePartitions, isRepartition}
@@ -30,7 +30,7 @@ inspected o c = masked (inspectChild o (known c)) c
 
 -- "We either have a RepartitionExec or a CoalescePartitionsExec and they lose their input ordering, so initiate connection"
 abbrev pub initiates : Op → List Facts → Bool
-initiates o fs = (isRepartition o && not (maintains o fs 0)) || (isCoalescePartitions o && not (isNil (at0 fs .order)))
+initiates o fs = (isRepartition o && not (maintains o fs 0)) || (isCoalescePartitions o && not (isNil (knownOrder (at0 fs))))
 
 -- The mark of a node o over children c whose marks are cut
 abbrev pub carries : Op → Forest Marked → Bool
@@ -54,7 +54,7 @@ markFirst b (tree m c r) = tree (record { op = m .op; mark = b }) c r
 -- "replace it with a SortPreservingMergeExec if appropriate": of the child's known order, in normal form (reading 7)
 abbrev pub mergeOver : Bool → Fetch → Marked → Forest Marked → Tree
 mergeOver spm f m d =
-    cond (spm && not (isNil (at0 (known d) .order))) (node (mergeOp (at0 (known d) .order) f) false (markFirst true d)) (rebuild (m .op) false d)
+    cond (spm && not (isNil (knownOrder (at0 (known d))))) (node (mergeOp (knownOrder (at0 (known d))) f) false (markFirst true d)) (rebuild (m .op) false d)
 
 -- "A fetched coalesce selects rows in arrival order": it stays, and nothing below it is entered
 abbrev pub preserveCoalesce : Fetch → Bool → Fetch → Marked → Forest Marked → Forest Marked → Tree
@@ -122,7 +122,7 @@ alternatePlan s ks f t c =
 -- Rust puts plan_with_order_breaking_variants of the alternative into the context's children and never into the plan, and the
 -- sort above cuts every later path to that context; so that result is not used here either
 abbrev pub accepted : Tree → Tree → Tree
-accepted t a = cond (met (fact a) (fact t .order)) (node (opT a) (a .top .mark) (unmark (a .kids))) t
+accepted t a = cond (met (fact a) (knownOrder (fact t))) (node (opT a) (a .top .mark) (unmark (a .kids))) t
 
 abbrev pub replaceBy : Shape → Settings → Tree → Tree
 replaceBy (aSort p ks f) s t = cond (headMark (t .kids)) (accepted t (alternatePlan s ks f t (kid0 t (t .kids)))) t

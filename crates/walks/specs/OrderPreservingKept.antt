@@ -1,4 +1,5 @@
--- The order-preserving walk keeps the skeleton with its limits, the child counts, 01's rules, and that nothing is cut off.
+-- The order-preserving walk keeps the skeleton with its limits, the child counts, 01's rules, that nothing is cut off, and that no sort has
+-- all-constant keys.
 use mathlib.Core.Path.{_≡_, refl, sym, ap, ap₂, _∙_, subst}
 use mathlib.Core.Bool.{Bool, true, false, cond, not, _&&_, _||_}
 use mathlib.Core.List.{List, [], _∷_, map}
@@ -58,7 +59,7 @@ preserveBy-kept spr spm f x c d =
     shape-ind (Preserved spr spm f x c d)
     (λ p ks g h i k. kept-rebuild (sortOp p ks g) x false c d h k)
     (λ ks g h i k. kept-rebuild (mergeOp ks g) x false c d h k)
-    (λ p n q ks h i k. kept-cond (not (keepsOrder p (at0 (known c))) && spr) (kept-swap (repartition p n q ks) (rebuilt (repartition true n q ks) (known (markFirst true d))) x false c (markFirst true d) refl refl (λ e u. refl) (λ e u v. u) h (first-kept true k)) (kept-rebuild (repartition p n q ks) x false c d h k))
+    (λ p n q ks h i k. kept-cond (not (keepsOrder p (at0 (known c))) && spr) (kept-swap (repartition p n q ks) (rebuilt (repartition true n q ks) (known (markFirst true d))) x false c (markFirst true d) refl refl refl (λ e u. refl) (λ e u v. u) h (first-kept true k)) (kept-rebuild (repartition p n q ks) x false c d h k))
     (λ g h i k. coalesced g h i k)
     (λ o e h i k. subst (λ (s : Shape). Keeps false (isAll f) (fetchOk f) (node o x c) (preserveBy s spr spm f (record { op = o; mark = x }) c d)) (sym e) (kept-rebuild o x false c d h k))
   where
@@ -70,7 +71,7 @@ preserveBy-kept spr spm f x c d =
 
     merged : count (strip c) ≡ 1 → KeepsAll false (isAll f) (fetchOk f) c d → (ks : List Key) → at0 (known d) .order ≡ ks → (y : Bool) → Keeps false (isAll f) (fetchOk f) (node (coalesce Unlimited) x c) (cond (y && not (isNil ks)) (node (mergeOp ks f) false e) (rebuild (coalesce Unlimited) false d))
     merged h k (j ∷ ks) q true =
-        kept-swap (coalesce Unlimited) (mergeOp (j ∷ ks) f) x false c e refl refl (λ i u. uncut-fetch f i) (λ i n v. merge-for Unlimited f j ks e (same-order ∙ q) i n v) h (first-kept true k)
+        kept-swap (coalesce Unlimited) (mergeOp (j ∷ ks) f) x false c e refl refl refl (λ i u. uncut-fetch f i) (λ i n v. merge-for Unlimited f j ks e (same-order ∙ q) i n v) h (first-kept true k)
     merged h k (j ∷ ks) q false = kept-rebuild (coalesce Unlimited) x false c d h k
     merged h k [] q true = kept-rebuild (coalesce Unlimited) x false c d h k
     merged h k [] q false = kept-rebuild (coalesce Unlimited) x false c d h k
@@ -127,8 +128,8 @@ breakBy-kept : {b h : Bool} (x : Bool) (c d : Forest Marked) (o : Op) → Broken
 breakBy-kept {b} {h} x c d =
     shape-ind (Broken b h x c d)
     (λ p ks f g k. kept-rebuild (sortOp p ks f) x false c d g k)
-    (λ ks f g k. kept-swap (mergeOp ks f) (coalesce f) x false c (markFirst false d) refl refl (λ e u. u) (λ e u v. coalesce-ok f (map (λ F. F .width) (known (markFirst false d))) (node-fetch (mergeOp ks f) (map (λ F. F .width) (known (markFirst false d))) u) (over-of (mergeOp ks f) (map (λ F. F .width) (known (markFirst false d))) refl u)) g (first-kept false k))
-    (λ p n q ks g k. kept-cond (keepsOrder p (at0 (known c))) (kept-swap (repartition p n q ks) (repartition false n q ks) x false c (markFirst false d) refl refl (λ e u. refl) (λ e u v. u) g (first-kept false k)) (kept-rebuild (repartition p n q ks) x false c d g k))
+    (λ ks f g k. kept-swap (mergeOp ks f) (coalesce f) x false c (markFirst false d) refl refl refl (λ e u. u) (λ e u v. coalesce-ok f (map (λ F. F .width) (known (markFirst false d))) (node-fetch (mergeOp ks f) (map (λ F. F .width) (known (markFirst false d))) u) (over-of (mergeOp ks f) (map (λ F. F .width) (known (markFirst false d))) refl u)) g (first-kept false k))
+    (λ p n q ks g k. kept-cond (keepsOrder p (at0 (known c))) (kept-swap (repartition p n q ks) (repartition false n q ks) x false c (markFirst false d) refl refl refl (λ e u. refl) (λ e u v. u) g (first-kept false k)) (kept-rebuild (repartition p n q ks) x false c d g k))
     (λ f g k. kept-rebuild (coalesce f) x false c d g k)
     (λ o e g k. subst (λ (s : Shape). Keeps false b h (node o x c) (breakBy s (record { op = o; mark = x }) c d)) (sym e) (kept-rebuild o x false c d g k))
 

@@ -1,11 +1,11 @@
--- Parallelizing keeps the skeleton with its limits, the child counts, 01's rules, and that nothing is cut off.
+-- Parallelizing keeps the skeleton with its limits, the child counts, 01's rules, that nothing is cut off, and that no sort has all-constant keys.
 use mathlib.Core.Path.{_≡_, refl, sym, ap, ap₂, _∙_, subst}
 use mathlib.Core.Bool.{Bool, true, false, cond, not, _&&_}
 use mathlib.Core.List.{List, [], _∷_, map}
 use Prim.Native.Nat.{ℕ, suc}
 use native.Mathlib.Omega.{arith}
 use borrow.Author.Tests.{eqb-true, le-leb}
-use lib.Dec.{ltb, leb}
+use lib.Dec.{leb}
 use lib.ListN.{length}
 use Rattle.row_order.specs.Iso.{Key}
 use Rattle.row_order.specs.Order.{no-bool}
@@ -28,7 +28,7 @@ use Rattle.walks.specs.Base.{ease-blank}
 use Rattle.walks.specs.Trees.{Arity, arity, count, Fit, FitsA, FitT, OkT, PureT}
 use Rattle.walks.specs.Keys.{fresh-keys, keys-of, KeysFit}
 use Rattle.walks.specs.NewNodes.{coalesce-ok, narrowT, node-fetch}
-use Rattle.walks.specs.Keeps.{all-kept-none, all-kept-refl, Keeps, KeepsAll, kept-cond, kept-first, kept-kid, kept-mark, kept-newSort, kept-over, kept-plant, kept-rebuild, kept-refl, kept-trans, op-fetch, pass-one, remark-same, shape-ind, uncut-fetch, walk-kept}
+use Rattle.walks.specs.Keeps.{all-kept-none, all-kept-refl, Keeps, KeepsAll, kept-cond, kept-first, kept-kid, kept-mark, kept-over, kept-plant, kept-rebuild, kept-refl, kept-sortAbove, kept-trans, op-fetch, pass-one, remark-same, shape-ind, uncut-fetch, walk-kept}
 use Rattle.walks.specs.KeptRows.{kept-plan, same-plan-rows, SamePlan}
 
 -- What has a partitioning is a repartition
@@ -40,7 +40,7 @@ part-pass o p e = go (partitioning (shape o)) p e
     no (parted n h ks) = refl
 
     go : (a : Partitioning) (q : Op) → eqPartitioning a (partitioning (shape q)) ≡ true → passing q ≡ true
-    go a (source w n s ks u) e = no-bool (sym (no a) ∙ e)
+    go a (source s) e = no-bool (sym (no a) ∙ e)
     go a filter e = no-bool (sym (no a) ∙ e)
     go a (projection cols) e = no-bool (sym (no a) ∙ e)
     go a union e = no-bool (sym (no a) ∙ e)
@@ -131,7 +131,7 @@ own-width t e g = go (t .kids) (subst (λ (z : Arity). FitsA z (count (strip (t 
     go (tree m c (tree j d r)) n = absurd (omega arith)
 
 cascade-kept : {b h : Bool} (ks : List Key) (f : Fetch) (t : Tree) → Sorts ks f t → FitT t → Keeps false b h t (cascade ks f t)
-cascade-kept {b} {h} ks f t s g = kept-cond (leb (fact t .streams) 1) (kept-over (mergeOp ks f) false refl (λ i q. uncut-fetch f (s .uncut q)) (λ i v w. subst (λ (x : ℕ). nodeOk (mergeOp ks f) (x ∷ []) ≡ true) (sym (ap (λ (F : Facts). F .width) (sorted .base))) (own v)) sorted) (kept-refl t g)
+cascade-kept {b} {h} ks f t s g = kept-cond (leb (fact t .streams) 1) (kept-over (mergeOp ks f) false refl (λ i q. uncut-fetch f (s .uncut q)) (λ i v w. subst (λ (x : ℕ). nodeOk (mergeOp ks f) (x ∷ []) ≡ true) (sym (ap (λ (F : Facts). F .width) (sorted .base))) (own v)) refl sorted) (kept-refl t g)
   where
     k : Keeps false b h t (freed t)
     k = freed-kept t (s .pass) g
@@ -149,7 +149,7 @@ cascade-kept {b} {h} ks f t s g = kept-cond (leb (fact t .streams) 1) (kept-over
     new v = let p = given (fact t .width) (own v) in (fresh-keys (fact (freed t)) (fact (freed t) .width) ks (subst (λ (F : Facts). KeysFit (F .width) ks) (sym (k .base)) (p .0)), p .1)
 
     sorted : Keeps false b h t (addSortAboveWithCheck ks f (freed t))
-    sorted = kept-cond (met (fact (freed t)) ks) k (kept-newSort (ltb 1 (fact (freed t) .streams)) (freshKeys (fact (freed t)) [] ks) f (λ i q. s .uncut q) (λ i v w. new v) k)
+    sorted = kept-cond (met (fact (freed t)) ks) k (kept-sortAbove ks f (λ i q. s .uncut q) (λ i v w. new v) k)
 
 abbrev Parallel : Bool → Bool → Bool → Forest Marked → Op → Type 0
 Parallel b h x c o = FitT (node o x c) → Keeps false b h (node o x c) (parallelBy (shape o) (node o x c))
@@ -160,7 +160,7 @@ parallelBy-kept {b} {h} x c =
     (λ p ks f g. cascade-kept ks f (node (sortOp p ks f) x c) (record { pass = refl; uncut = λ q. op-fetch (sortOp p ks f) (q .0); fits = λ v. v .0 }) g)
     (λ ks f g. cascade-kept ks f (node (mergeOp ks f) x c) (record { pass = refl; uncut = λ q. op-fetch (mergeOp ks f) (q .0); fits = λ v. v .0 }) g)
     (λ p n q ks g. kept-refl (node (repartition p n q ks) x c) g)
-    (λ f g. kept-over (coalesce f) false refl (λ i q. q .0) (λ i v w. coalesce-ok f (fact (freed (node (coalesce f) x c)) .width ∷ []) (node-fetch (coalesce f) (map (λ F. F .width) (known c)) (v .0)) (refl, narrowT (freed (node (coalesce f) x c)) w)) (freed-kept (node (coalesce f) x c) refl g))
+    (λ f g. kept-over (coalesce f) false refl (λ i q. q .0) (λ i v w. coalesce-ok f (fact (freed (node (coalesce f) x c)) .width ∷ []) (node-fetch (coalesce f) (map (λ F. F .width) (known c)) (v .0)) (refl, narrowT (freed (node (coalesce f) x c)) w)) refl (freed-kept (node (coalesce f) x c) refl g))
     (λ o e g. subst (λ (z : Shape). Keeps false b h (node o x c) (parallelBy z (node o x c))) (sym e) (kept-refl (node o x c) g))
 
 pub parallelizeSorts-kept : {b h : Bool} (t : Tree) → FitT t → Keeps false b h t (parallelizeSorts t)

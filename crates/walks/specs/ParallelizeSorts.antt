@@ -1,8 +1,8 @@
 -- enforce_sorting/mod.rs, parallelizing: update_coalesce_ctx_children, remove_bottleneck_in_subplan, get_sort_exprs,
 -- parallelize_sorts. These are definitions.
 use mathlib.Core.Bool.{Bool, true, false, cond, not, _&&_, _||_, Bool·beq}
-use mathlib.Core.List.{List, [], _∷_}
-use Prim.Native.Nat.{ℕ, zero, suc}
+use mathlib.Core.List.{List}
+use Prim.Native.Nat.{ℕ, suc}
 use lib.Dec.{eqb, leb}
 use lib.ListN.{length}
 use Rattle.row_order.specs.Iso.{Key}
@@ -10,7 +10,7 @@ use Rattle.plan.specs.Forest.{Forest, none, tree, roots}
 use Rattle.plan.specs.Op.{Op, coalesce, mergeOp, Plan}
 use Rattle.plan.specs.WellFormed.{someFetch}
 use Rattle.plan.specs.declared.Fetch.{Fetch}
-use Rattle.semantics.specs.Facts.{Facts, prefixb, isNil, at0}
+use Rattle.semantics.specs.Facts.{prefixb, isNil, at0}
 use Rattle.semantics.specs.Properties.{singles, cuts}
 use Rattle.walks.specs.Marks.{Marked, Tree, strip, known, at, plant, over, opT, fact, setMark, kid0, headMark, Shape, aSort, aMerge, aRepartition, aCoalesce, another, shape, rebuild, transformUp}
 use Rattle.walks.specs.Utils.{isCoalescePartitions, addSortAboveWithCheck}

@@ -1,11 +1,11 @@
 -- enforce_sorting/mod.rs, replace_with_partial_sort: it works on one node. These are definitions.
-use mathlib.Core.Bool.{Bool, true, false, cond}
+use mathlib.Core.Bool.{Bool, cond}
 use mathlib.Core.List.{List, [], _∷_, _++_}
 use Prim.Native.Nat.{ℕ, zero, suc, _-_}
 use lib.Dec.{eqb, ltb}
 use lib.ListN.{length}
 use Rattle.row_order.specs.Iso.{Key}
-use Rattle.plan.specs.Forest.{Forest, none, tree, size}
+use Rattle.plan.specs.Forest.{none, tree, size}
 use Rattle.plan.specs.Op.{Op, sortOp, partialSort, Plan}
 use Rattle.plan.specs.declared.Fetch.{Fetch}
 use Rattle.semantics.specs.Facts.{Facts, met, facts, at0}

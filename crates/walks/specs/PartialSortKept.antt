@@ -1,7 +1,7 @@
 -- Partial sorting changes one record: every node's facts stay, the order check still passes, and the answer is well formed again.
 use mathlib.Core.Path.{_≡_, refl, sym, ap, ap₂, _∙_, subst}
 use mathlib.Core.Bool.{Bool, true, false, cond, _&&_}
-use mathlib.Core.List.{List, [], _∷_, _++_, map}
+use mathlib.Core.List.{List, [], _∷_, _++_, append-assoc, map}
 use Prim.Native.Nat.{ℕ, zero, suc, _+_, _-_, _≤_, _<_}
 use native.Mathlib.Omega.{arith}
 use borrow.Author.Tests.{eq-eqb, ltb-true, le-leb, lt-ltb, ltb-false}
@@ -78,10 +78,6 @@ set-kept (suc n) p (tree o c r) h = go (ltb n (size c)) (λ i. set-kept n p c i)
     go false k l i = set-right o c r (setNode (n - size c) p r) (l i)
 
 -- ---- the met prefix
-append-assoc : (l m n : List Key) → (l ++ m) ++ n ≡ l ++ (m ++ n)
-append-assoc [] m n = refl
-append-assoc (k ∷ l) m n = ap (λ (x : List Key). k ∷ x) (append-assoc l m n)
-
 prefix-le : (F : Facts) (done ks : List Key) → commonPrefixLength F done ks ≤ length ks
 prefix-le F done [] = omega arith
 prefix-le F done (k ∷ ks) = go (met F (done ++ (k ∷ []))) (prefix-le F (done ++ (k ∷ [])) ks)
@@ -103,7 +99,7 @@ prefix-met F done (k ∷ ks) n e = go (met F more) refl n (commonPrefixLength F 
     go false t n m ih q = absurd (omega arith)
 
 -- ---- what a sort becomes
-abbrev isBecome : Replaced → Bool
+abbrev pub isBecome : Replaced → Bool
 isBecome pastTheEnd = false
 isBecome (becomes o) = true
 

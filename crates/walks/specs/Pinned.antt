@@ -1,33 +1,31 @@
--- Small trees, by computation, that pin each branch of the walks: where a definition went another way there, one of these would fail.
+-- Small plans, by computation: refusals, ensuring, parallelizing, order-preserving and partial sorting; pushing is in PinnedPush. Each pins a
+-- branch: where the definition went another way there, it would fail; 'not:' names the wrong definition that a plan tells from the right one.
+-- Beyond what the theorems say, these plans alone settle which tree these walks answer, and no further than they go: a definition that
+-- differs on none of them and keeps the theorems would not be refused here.
 use mathlib.Core.Path.{_≡_, refl}
 use mathlib.Core.Bool.{Bool, true, false}
-use mathlib.Core.List.{List, [], _∷_}
+use mathlib.Core.List.{[], _∷_}
 use Prim.Native.Nat.{ℕ}
 use Rattle.row_order.specs.Iso.{Key}
 use Rattle.plan.specs.Forest.{none, size, tree}
-use Rattle.plan.specs.Op.{coalesce, filter, hashJoin, localLimit, mergeOp, outputRequirement, partialSort, Plan, projection, repartition, sortMergeJoin, sortOp, source}
+use Rattle.plan.specs.Op.{coalesce, filter, hashJoin, localLimit, mergeOp, Op, outputRequirement, partialSort, Plan, projection, repartition, sortOp}
+use Rattle.plan.specs.Samples.{by, sourceOf, up}
 use Rattle.plan.specs.WellFormed.{wellFormed}
 use Rattle.plan.specs.declared.Distribution.the-variants.{Single, Unspecified}
 use Rattle.plan.specs.declared.Fetch.{Fetch}
 use Rattle.plan.specs.declared.Fetch.the-variants.{AtMost, Unlimited}
-use Rattle.plan.specs.declared.JoinType.{JoinType}
-use Rattle.plan.specs.declared.JoinType.the-variants.{Inner, Right}
-use Rattle.plan.specs.declared.Refusal.the-variants.{HasPartialSort, TooManyNodes}
-use Rattle.walks.specs.PushdownSorts.{push}
+use Rattle.plan.specs.declared.JoinType.the-variants.{LeftSemi}
+use Rattle.plan.specs.declared.Refusal.the-variants.{AllKeysMet, HasPartialSort, TooManyNodes}
 use Rattle.walks.specs.Counted.{answered, ensured, parallelized, partiallySorted, preserved, pushed, refused}
 use Rattle.walks.specs.Terms.{_⊕_, clear}
-use Rattle.walks.specs.Samples.{besides, by, endlessSrc, filtered, on, settings, src, up}
+use Rattle.walks.specs.Samples.{besides, byTwo, endlessSrc, filtered, on, output, pair, settings, single, sort, sortEach, src, stack}
 
--- a sort by column c; the preserving one, of each stream
-abbrev sort : ℕ → Plan → Plan
-sort c f = on (sortOp false (by c) Unlimited) f
+-- column c descending; nulls first
+abbrev falling : ℕ → Key
+falling c = record { col = c; desc = true; first = false }
 
-abbrev sortEach : ℕ → Plan → Plan
-sortEach c f = on (sortOp true (by c) Unlimited) f
-
--- kind 13: rows in the order ks
-abbrev output : List Key → Plan → Plan
-output ks f = on (outputRequirement ks Unspecified Unlimited) f
+abbrev nullsFirst : ℕ → Key
+nullsFirst c = record { col = c; desc = false; first = true }
 
 -- ---- the refusals
 -- 126 nodes are not too many
@@ -58,7 +56,7 @@ most-after = (refl, refl, refl, refl, refl)
 
 -- 21 wherever the partial sort stands
 abbrev withPartial : Plan
-withPartial = besides (src 1 []) (on filter (on (partialSort false (up 0 ∷ up 1 ∷ []) 1 Unlimited) (src 1 (by 0))))
+withPartial = besides (src 1 []) (on filter (on (partialSort false (byTwo 0 1) 1 Unlimited) (src 1 (by 0))))
 
 pub has-partial :
     (ensured withPartial ≡ refused HasPartialSort)
@@ -68,20 +66,15 @@ pub has-partial :
     × (partiallySorted 2 withPartial ≡ answered withPartial)
 has-partial = (refl, refl, refl, refl, refl)
 
--- 23 in pushing: a merge and a sort come in one step, though the sort goes again in the next
-abbrev peaked : ℕ → Plan
-peaked n = on (outputRequirement (up 3 ∷ up 1 ∷ []) Single Unlimited) (on (hashJoin Inner (record { key = up 0; other = 0 } ∷ [])) (filtered n (tree (source 2 1 2 [] false) none none) ⊕ sortEach 0 (src 2 (by 0))))
-
-pub push-peak : (size (peaked 120) ≡ 125) × (size (push (peaked 120)) ≡ 126) × (pushed (peaked 120) ≡ refused TooManyNodes) × (pushed (peaked 119) ≡ answered (push (peaked 119)))
-push-peak = (refl, refl, refl, refl)
-
 -- ---- ensuring
 -- no sort where the order is met
 pub ensure-met : ensured (output (by 0) (src 1 (by 0))) ≡ answered (output (by 0) (src 1 (by 0)))
 ensure-met = refl
 
 -- kind 13's fetch is the new sort's
-pub ensure-output-fetch : ensured (on (outputRequirement (by 0) Unspecified (AtMost 3)) (src 1 [])) ≡ answered (on (outputRequirement (by 0) Unspecified (AtMost 3)) (on (sortOp false (by 0) (AtMost 3)) (src 1 [])))
+pub ensure-output-fetch :
+    ensured (on (outputRequirement (by 0) Unspecified (AtMost 3)) (src 1 []))
+    ≡ answered (on (outputRequirement (by 0) Unspecified (AtMost 3)) (on (sortOp false (by 0) (AtMost 3)) (src 1 [])))
 ensure-output-fetch = refl
 
 -- a merge over one stream and a preserving sort that is met leave their fetch as a local limit
@@ -93,16 +86,59 @@ ensure-sort-fetch = refl
 
 -- 01's trap, any maintained input with any connected child: the union's first child is connected, its second maintained
 abbrev crossed : Plan
-crossed = besides (on (sortOp false (up 0 ∷ up 1 ∷ []) (AtMost 3)) (src 1 [])) (src 1 (by 0))
+crossed = besides (on (sortOp false (byTwo 0 1) (AtMost 3)) (src 1 [])) (src 1 (by 0))
 
 pub ensure-crossed : ensured (sort 1 crossed) ≡ answered (sort 1 (on (mergeOp (by 0) Unlimited) crossed))
 ensure-crossed = refl
 
+-- round robin of two streams, with the preserve mark p
+abbrev roundRobin : Bool → Op
+roundRobin p = repartition p 2 false []
+
+-- both output columns carry column 0
+abbrev doubled : Op
+doubled = projection (0 ∷ 0 ∷ [])
+
+-- not: where no order is known, the coalesce that is put in takes the plan's fetch, as a merge does
+pub ensure-coalesce-unfetched :
+    ensured (stack (sortOp false (by 1) (AtMost 2) ∷ doubled ∷ sortOp true (byTwo 1 0) (AtMost 2) ∷ []) (pair 2 (by 1) 0))
+    ≡ answered (stack (sortOp false (by 1) (AtMost 2) ∷ coalesce Unlimited ∷ doubled ∷ sortOp true (byTwo 1 0) (AtMost 2) ∷ []) (pair 2 (by 1) 0))
+ensure-coalesce-unfetched = refl
+
+-- not: a repartition keeps its preserve mark where sorts are removed
+pub ensure-mark-loosened :
+    ensured (stack (single (byTwo 0 1) ∷ roundRobin true ∷ sortOp true (by 1) (AtMost 2) ∷ []) (pair 2 [] 0))
+    ≡ answered (stack (single (byTwo 0 1) ∷ sortOp false (byTwo 0 1) Unlimited ∷ coalesce Unlimited ∷ roundRobin false ∷ [])
+    (on (sortOp true (by 1) (AtMost 2)) (pair 2 [] 0)))
+ensure-mark-loosened = refl
+
+-- not: a limit carries the connection to a sort
+pub ensure-limit-unconnected :
+    ensured (stack (sortOp true (byTwo 1 0) (AtMost 2) ∷ mergeOp (by 0) (AtMost 2) ∷ []) (pair 1 [] 0))
+    ≡ answered (stack (sortOp true (byTwo 1 0) (AtMost 2) ∷ localLimit (AtMost 2) (by 0) ∷ sortOp false (by 0) Unlimited ∷ []) (pair 1 [] 0))
+ensure-limit-unconnected = refl
+
+-- not: a child that knows no order is stripped of its sorts before its own sort comes
+pub ensure-unordered-kept :
+    ensured (stack (single (by 0) ∷ doubled ∷ sortOp false (byTwo 1 0) Unlimited ∷ []) (pair 2 (by 1) 0))
+    ≡ answered (stack (single (by 0) ∷ sortOp false (by 0) Unlimited ∷ doubled ∷ sortOp false (byTwo 1 0) Unlimited ∷ []) (pair 2 (by 1) 0))
+ensure-unordered-kept = refl
+
+-- not: where no order is wanted, a child that knows none keeps its sorts
+pub ensure-unordered-stripped :
+    ensured (stack (repartition false 2 true (by 0) ∷ doubled ∷ sortOp true (by 1) Unlimited ∷ []) (pair 1 (by 0) 0))
+    ≡ answered (stack (repartition false 2 true (by 0) ∷ doubled ∷ []) (pair 1 (by 0) 0))
+ensure-unordered-stripped = refl
+
 -- ---- parallelizing
-pub parallelize-merge : parallelized (on (mergeOp (by 0) Unlimited) (on (coalesce Unlimited) (src 2 []))) ≡ answered (on (mergeOp (by 0) Unlimited) (sortEach 0 (src 2 [])))
+pub parallelize-merge :
+    parallelized (on (mergeOp (by 0) Unlimited) (on (coalesce Unlimited) (src 2 [])))
+    ≡ answered (on (mergeOp (by 0) Unlimited) (sortEach 0 (src 2 [])))
 parallelize-merge = refl
 
-pub parallelize-coalesce : parallelized (on (coalesce Unlimited) (on filter (on (coalesce Unlimited) (src 2 [])))) ≡ answered (on (coalesce Unlimited) (on filter (src 2 [])))
+pub parallelize-coalesce :
+    parallelized (on (coalesce Unlimited) (on filter (on (coalesce Unlimited) (src 2 []))))
+    ≡ answered (on (coalesce Unlimited) (on filter (src 2 [])))
 parallelize-coalesce = refl
 
 -- a fetched coalesce is no bottleneck
@@ -124,6 +160,50 @@ pub parallelize-hashed :
     × (parallelized (sort 2 (hashed 0 (on (coalesce Unlimited) (hashed 0 (hashed 0 (src 2 [])))))) ≡ answered (parted (hashed 0 (src 2 []))))
 parallelize-hashed = (refl, refl, refl, refl)
 
+-- not: the sort under the new merge comes though its input meets its keys
+pub parallelize-checked : parallelized (sort 1 (on (coalesce Unlimited) (pair 2 (by 1) 1))) ≡ answered (on (mergeOp (by 1) Unlimited) (pair 2 (by 1) 1))
+parallelize-checked = refl
+
+-- not: the coalesce that is put back has no fetch
+pub parallelize-coalesce-fetched :
+    parallelized (stack (coalesce (AtMost 2) ∷ coalesce Unlimited ∷ []) (pair 2 [] 0))
+    ≡ answered (on (coalesce (AtMost 2)) (pair 2 [] 0))
+parallelize-coalesce-fetched = refl
+
+-- not: sorts of several streams are taken apart too
+abbrev sortedEach : Plan
+sortedEach = sortEach 1 (stack (roundRobin false ∷ coalesce Unlimited ∷ []) (pair 2 [] 1))
+
+pub parallelize-one-stream : parallelized sortedEach ≡ answered sortedEach
+parallelize-one-stream = refl
+
+-- not: a bottleneck goes where a single stream is wanted, below a child that has one (the first), as the first child (the second)
+abbrev semiJoin : Plan → Plan → Plan
+semiJoin f g = on (hashJoin LeftSemi (record { key = up 0; other = 0 } ∷ [])) (f ⊕ g)
+
+abbrev gathering : Plan
+gathering =
+    semiJoin (stack (repartition false 2 true (by 0) ∷ coalesce Unlimited ∷ roundRobin false ∷ []) (pair 2 [] 3))
+    (on (coalesce Unlimited) (tree (sourceOf 2 2 0 (up 1 ∷ nullsFirst 0 ∷ []) true) none none))
+
+abbrev collecting : Plan
+collecting = semiJoin (on (coalesce Unlimited) (pair 2 [] 2)) (on (coalesce Unlimited) (pair 2 (nullsFirst 0 ∷ []) 3))
+
+abbrev topThree : Plan → Plan
+topThree f = on (sortOp false (by 0) (AtMost 3)) f
+
+pub parallelize-single-kept :
+    (parallelized (on (sortOp false (byTwo 1 0) (AtMost 3)) gathering) ≡ answered (on (mergeOp (byTwo 1 0) (AtMost 3)) gathering))
+    × (parallelized (topThree collecting) ≡ answered (on (mergeOp (by 0) (AtMost 3)) (topThree collecting)))
+parallelize-single-kept = (refl, refl)
+
+-- not: a node that wants a single stream carries the connection
+abbrev unlinked : Plan
+unlinked = stack (sortOp true (by 0) (AtMost 2) ∷ outputRequirement [] Single Unlimited ∷ coalesce Unlimited ∷ []) (pair 2 (by 0) 0)
+
+pub parallelize-unlinked : parallelized unlinked ≡ answered unlinked
+parallelize-unlinked = refl
+
 -- ---- order-preserving
 -- a repartition's mark comes where spr is better, existing orders are preferred, or the rows do not end
 abbrev spread : Bool → Plan → Plan
@@ -143,55 +223,52 @@ preserve-endless = refl
 
 -- a fetched coalesce carries no connection, so that even a sort by a constant stays over it; one without a fetch does
 abbrev constantSorted : Fetch → Plan
-constantSorted f = sort 0 (on (coalesce f) (tree (source 3 2 1 (by 1) false) none none))
+constantSorted f = sort 0 (on (coalesce f) (tree (sourceOf 3 2 1 (by 1) false) none none))
 
 pub preserve-fetched : preserved (settings false false false) (constantSorted (AtMost 3)) ≡ answered (constantSorted (AtMost 3))
 preserve-fetched = refl
 
-pub preserve-unfetched : preserved (settings false false false) (constantSorted Unlimited) ≡ answered (on (coalesce Unlimited) (tree (source 3 2 1 (by 1) false) none none))
+pub preserve-unfetched :
+    preserved (settings false false false) (constantSorted Unlimited)
+    ≡ answered (on (coalesce Unlimited) (tree (sourceOf 3 2 1 (by 1) false) none none))
 preserve-unfetched = refl
+
+-- not: variants are used over unbounded rows though the sort is not final; its child, the merge, meets its keys
+abbrev unfinished : Bool → Bool → Plan
+unfinished p q =
+    stack (mergeOp (falling 0 ∷ []) (AtMost 3) ∷ repartition p 2 true (by 1) ∷ [])
+    (stack (outputRequirement (falling 1 ∷ up 0 ∷ []) Unspecified (AtMost 3) ∷ roundRobin q ∷ coalesce Unlimited ∷ [])
+    (tree (sourceOf 2 3 0 (record { col = 1; desc = true; first = true } ∷ []) true) none none))
+
+pub preserve-unfinished :
+    preserved (settings false false false) (on (sortOp false (falling 0 ∷ []) (AtMost 3)) (unfinished true true))
+    ≡ answered (unfinished false false)
+preserve-unfinished = refl
+
+-- not: the path goes on below a sort, which maintains nothing: by an inspect_child that is always true, or without the cut
+abbrev cutOff : Plan
+cutOff = stack (sortOp true (by 1) Unlimited ∷ sortOp false (byTwo 1 0) Unlimited ∷ roundRobin false ∷ []) (pair 2 [] 1)
+
+pub preserve-cut : preserved (settings false false false) cutOff ≡ answered cutOff
+preserve-cut = refl
 
 -- ---- partial sorting
 -- mark, keys and fetch stay
-pub partial-whole : partiallySorted 1 (on filter (on (sortOp true (up 2 ∷ up 1 ∷ []) (AtMost 7)) (endlessSrc 1 (by 2)))) ≡ answered (on filter (on (partialSort true (up 2 ∷ up 1 ∷ []) 1 (AtMost 7)) (endlessSrc 1 (by 2))))
+pub partial-whole :
+    partiallySorted 1 (on filter (on (sortOp true (byTwo 2 1) (AtMost 7)) (endlessSrc 1 (by 2))))
+    ≡ answered (on filter (on (partialSort true (byTwo 2 1) 1 (AtMost 7)) (endlessSrc 1 (by 2))))
 partial-whole = refl
 
-pub partial-bounded : partiallySorted 0 (on (sortOp false (up 2 ∷ up 1 ∷ []) Unlimited) (src 1 (by 2))) ≡ answered (on (sortOp false (up 2 ∷ up 1 ∷ []) Unlimited) (src 1 (by 2)))
+pub partial-bounded :
+    partiallySorted 0 (on (sortOp false (byTwo 2 1) Unlimited) (src 1 (by 2)))
+    ≡ answered (on (sortOp false (byTwo 2 1) Unlimited) (src 1 (by 2)))
 partial-bounded = refl
 
--- ---- pushing
-pub push-union : pushed (output (by 0) (besides (src 1 []) (src 1 []))) ≡ answered (output (by 0) (besides (sort 0 (src 1 [])) (sort 0 (src 1 []))))
-push-union = refl
-
-pub push-remapped : pushed (output (by 0) (on (projection (1 ∷ 0 ∷ [])) (src 1 []))) ≡ answered (output (by 0) (on (projection (1 ∷ 0 ∷ [])) (sort 1 (src 1 []))))
-push-remapped = refl
-
--- no sort goes past a filter; of two fetches the least stays; a fetch does not go past a union
-pub push-blocked : pushed (on (sortOp false (by 0) (AtMost 3)) (on filter (src 1 []))) ≡ answered (on (sortOp false (by 0) (AtMost 3)) (on filter (src 1 [])))
-push-blocked = refl
-
-pub push-least-fetch : pushed (on (sortOp false (by 0) (AtMost 3)) (on (sortOp false (by 0) (AtMost 5)) (src 1 []))) ≡ answered (on (sortOp false (by 0) (AtMost 3)) (src 1 []))
-push-least-fetch = refl
-
-pub push-union-fetch : pushed (on (sortOp false (by 0) (AtMost 3)) (besides (src 1 []) (src 1 []))) ≡ answered (on (mergeOp (by 0) (AtMost 3)) (on (sortOp true (by 0) (AtMost 3)) (besides (src 1 []) (src 1 []))))
-push-union-fetch = refl
-
--- a node of one stream hands down no distribution: no second merge below this one
-pub push-one-stream : pushed (on (outputRequirement (up 0 ∷ up 1 ∷ []) Single Unlimited) (on (mergeOp (by 0) Unlimited) (src 2 (by 0)))) ≡ answered (on (outputRequirement (up 0 ∷ up 1 ∷ []) Single Unlimited) (on (mergeOp (by 0) Unlimited) (on (sortOp true (up 0 ∷ up 1 ∷ []) Unlimited) (src 2 (by 0)))))
-push-one-stream = refl
-
--- past a sort-merge join to the side whose order it keeps, in that side's columns; the other side keeps the join's own requirement
-abbrev joined : JoinType → Plan → Plan → Plan
-joined t f g = on (sortMergeJoin t (record { key = up 0; other = 0 } ∷ [])) (f ⊕ g)
-
-abbrev sortTwo : Plan → Plan
-sortTwo f = on (sortOp false (up 0 ∷ up 1 ∷ []) Unlimited) f
-
-pub push-merge-join :
-    (pushed (output (up 0 ∷ up 1 ∷ []) (joined Inner (src 1 []) (src 1 []))) ≡ answered (output (up 0 ∷ up 1 ∷ []) (joined Inner (sortTwo (src 1 [])) (sort 0 (src 1 [])))))
-    × (pushed (output (up 3 ∷ up 4 ∷ []) (joined Right (src 1 []) (src 1 []))) ≡ answered (output (up 3 ∷ up 4 ∷ []) (joined Right (sort 0 (src 1 [])) (sortTwo (src 1 [])))))
-    × (pushed (output (by 1) (joined Inner (src 1 []) (src 1 []))) ≡ answered (output (by 1) (sort 1 (joined Inner (src 1 []) (src 1 [])))))
-push-merge-join = (refl, refl, refl)
+-- not: each key is met by itself; here all three are met together, though [2] alone is not
+pub partial-keys-together :
+    partiallySorted 0 (on (sortOp false (up 0 ∷ up 1 ∷ up 2 ∷ []) Unlimited) (tree (sourceOf 3 1 2 (byTwo 0 2) true) none none))
+    ≡ refused AllKeysMet
+partial-keys-together = refl
 
 -- ---- the theorem on rows is of some tree
 pub clear-some : clear (sort 0 (on (coalesce Unlimited) (on filter (src 2 [])))) ≡ true

@@ -1,4 +1,4 @@
--- Pushing keeps the skeleton with its limits, the child counts, and that nothing is cut off.
+-- Pushing keeps the skeleton with its limits, the child counts, that nothing is cut off, and that no sort has all-constant keys.
 use mathlib.Core.Path.{_≡_, refl, sym, subst}
 use mathlib.Core.Bool.{Bool, true, false, cond, _||_}
 use mathlib.Core.List.{List, [], _∷_, _++_}
@@ -17,31 +17,37 @@ use Rattle.plan.specs.declared.Fetch.the-variants.{AtMost, Unlimited}
 use Rattle.semantics.specs.Facts.{at0, compatible, Facts, facts, factsOp, isNil, met, nf}
 use Rattle.semantics.specs.Properties.{fetches, fetchOp, freshKeys, rebuilt}
 use Rattle.semantics.specs.Bags.{isAll}
-use Rattle.walks.specs.Marks.{bare, cover, kid0, Marked, node, rebuild, Shape, strip, Tree}
+use Rattle.semantics.specs.JoinCanon.{canon, op-canon}
+use Rattle.walks.specs.Marks.{bare, cover, fact, kid0, known, Marked, node, rebuild, Shape, strip, Tree}
 use Rattle.walks.specs.Utils.{needsMerge, newMerge, newSort, sortAbove, sortAboveWithDistribution}
 use Rattle.walks.specs.SortPushdown.{goes, minFetch, Pushed, stop}
 use Rattle.walks.specs.PushdownSorts.{afterMerge, afterTry, assignInitialRequirements, belowTops, carryOut, covered, decideBy, decideNode, decideSort, Decision, mergeAdded, nodeAsked, pushDown, pushdownSorts, pushdownSortsHelper, removed, replaced, satisfied, sortAdded, sortAsked, sortDiffers, sortOrdering, sortReplaced, sortReplacedTwice, sortUnasked, sortUnnecessary, stays, triedAgain, unasked, unsatisfied, Visit, withOwnDistribution}
-use Rattle.walks.specs.Terms.{clearOp, passing}
+use Rattle.walks.specs.Terms.{blank, clearOp, passing}
 use Rattle.walks.specs.ListFacts.{all-nth}
+use Rattle.walks.specs.ConstantSorts.{Alive, alive-blank, fresh-alive, WholeClasses}
 use Rattle.walks.specs.Trees.{arity, count, Fit, FitsA, Pure, PureT}
 use Rattle.walks.specs.Keeps.{all-kept-none, fetch-op, Keeps, KeepsAll, kept-first, kept-node, kept-over, kept-plant, kept-trans, Like, like-refl, like-trans, op-fetch, pure-fetches, remark-like, shape-ind, strip-bare, uncut-fetch}
 
--- ---- what a decision may be: what comes on top, and what goes, is of kinds 5 to 8; the node stays but for a preserve mark
-pub record Fair (o : Op) (D : Decision) : Type 0 where
-  pub tops : All (λ p. passing p ≡ true) (D .tops)
+-- ---- what a decision may be: what comes on top, and what goes, is of kinds 5 to 8, and no new sort's keys are all constant; the node
+-- stays but for a preserve mark. fs: the facts of its children
+abbrev Top : Facts → Op → Type 0
+Top F p = (passing p ≡ true) × Alive F p
+
+pub record Fair (o : Op) (fs : List Facts) (D : Decision) : Type 0 where
+  pub tops : All (Top (factsOp o fs)) (D .tops)
   pub gone : D .gone ≡ true → passing (D .op) ≡ true
   pub like : Like o (D .op)
   -- where no step ends, nothing is added
   pub still : D .quiet ≡ true → length (D .tops) ≡ 0
 
-fair-cond : {o : Op} (x : Bool) (D E : Decision) → Fair o D → Fair o E → Fair o (cond x D E)
+fair-cond : {o : Op} {fs : List Facts} (x : Bool) (D E : Decision) → Fair o fs D → Fair o fs E → Fair o fs (cond x D E)
 fair-cond true D E h k = h
 fair-cond false D E h k = k
 
-stays-fair : {o p : Op} (g : ℕ → Visit) → Like o p → Fair o (stays p g)
+stays-fair : {o p : Op} {fs : List Facts} (g : ℕ → Visit) → Like o p → Fair o fs (stays p g)
 stays-fair g l = record { tops = all-nil; gone = λ e. no-bool e; like = l; still = λ e. no-bool e }
 
-covered-fair : {o p : Op} (ts : List Op) (n : ℕ) (g : ℕ → Visit) → All (λ x. passing x ≡ true) ts → Like o p → Fair o (covered ts n p g)
+covered-fair : {o p : Op} {fs : List Facts} (ts : List Op) (n : ℕ) (g : ℕ → Visit) → All (Top (factsOp o fs)) ts → Like o p → Fair o fs (covered ts n p g)
 covered-fair ts n g h l = record { tops = h; gone = λ e. no-bool e; like = l; still = λ e. no-bool e }
 
 -- The new nodes
@@ -63,37 +69,42 @@ above-all {P} F ks f d h = go (needsMerge F d)
     go true = all-append (newMerge-all (freshKeys F [] ks) f (λ k l e. h k l e .0)) sorts
     go false = sorts
 
-above-pass : (F : Facts) (ks : List Key) (f : Fetch) (d : Distribution) → All (λ p. passing p ≡ true) (sortAboveWithDistribution F ks f d)
-above-pass F ks f d = above-all F ks f d (λ k l e. (refl, refl))
+-- Over a node with facts F, which has the constants and classes of G
+above-top : (F G : Facts) → WholeClasses F → blank F ≡ blank G → (ks : List Key) (f : Fetch) (d : Distribution) → All (Top G) (sortAboveWithDistribution F ks f d)
+above-top F G h q ks f d = above-all F ks f d (λ k l e. ((refl, refl), (refl, alive-blank F G (sortOp (ltb 1 (F .streams)) (k ∷ l) f) q (fresh-alive F h (ltb 1 (F .streams)) f ks k l e))))
 
-merge-pass : (ks : List Key) (f : Fetch) → All (λ p. passing p ≡ true) (newMerge ks f)
-merge-pass ks f = newMerge-all ks f (λ k l e. refl)
+merge-top : (G : Facts) (ks : List Key) (f : Fetch) → All (Top G) (newMerge ks f)
+merge-top G ks f = newMerge-all ks f (λ k l e. (refl, refl))
 
-after-fair : {o p : Op} (u : Pushed) (q : Visit) (c : Plan) → Like o p → Fair o (afterMerge u q p c)
-after-fair {p = p} stop q c l =
+whole : (o : Op) (c : Plan) → WholeClasses (factsOp o (facts c))
+whole o c = op-canon o (facts c) (canon c) .classes .const
+
+after-fair : {o p : Op} (u : Pushed) (q : Visit) (c : Plan) → Like o p → Fair o (facts c) (afterMerge u q p c)
+after-fair {o} {p} stop q c l =
     let F : Facts = factsOp p (facts c) in
+    let G : Facts = factsOp o (facts c) in
     let new : List Key = freshKeys F [] (q .req .order) in
-    covered-fair (newMerge new (q .req .fetch) ++ sortAboveWithDistribution F (nf F [] new) (q .req .fetch) Unspecified) 0 (withOwnDistribution p) (all-append (merge-pass new (q .req .fetch)) (above-pass F (nf F [] new) (q .req .fetch) Unspecified)) l
-after-fair {p = p} (goes ks) q c l =
-    covered-fair (newMerge (freshKeys (factsOp p (facts c)) [] (q .req .order)) (q .req .fetch)) 1 _ (merge-pass (freshKeys (factsOp p (facts c)) [] (q .req .order)) (q .req .fetch)) l
+    covered-fair (newMerge new (q .req .fetch) ++ sortAboveWithDistribution F (nf F [] new) (q .req .fetch) Unspecified) 0 (withOwnDistribution p) (all-append (merge-top G new (q .req .fetch)) (above-top F G (whole p c) (l .base (facts c)) (nf F [] new) (q .req .fetch) Unspecified)) l
+after-fair {o} {p} (goes ks) q c l =
+    covered-fair (newMerge (freshKeys (factsOp p (facts c)) [] (q .req .order)) (q .req .fetch)) _ _ (merge-top (factsOp o (facts c)) (freshKeys (factsOp p (facts c)) [] (q .req .order)) (q .req .fetch)) l
 
-try-fair : {o : Op} (u : Pushed) (q : Visit) (p : Op) (c : Plan) → Like o p → Fair o (afterTry u q p c)
+try-fair : {o : Op} (u : Pushed) (q : Visit) (p : Op) (c : Plan) → Like o p → Fair o (facts c) (afterTry u q p c)
 try-fair (goes ks) q p c l = stays-fair _ l
-try-fair stop q p c l =
+try-fair {o} stop q p c l =
     fair-cond (needsMerge (factsOp p (facts c)) (q .req .dist)) (mergeAdded q p c) (sortAdded q p c) (after-fair (triedAgain q p c) q c (like-trans l (remark-like _ p)))
-    (covered-fair (sortAboveWithDistribution (factsOp p (facts c)) (q .req .order) (q .req .fetch) (q .req .dist)) 0 (withOwnDistribution p) (above-pass (factsOp p (facts c)) (q .req .order) (q .req .fetch) (q .req .dist)) l)
+    (covered-fair (sortAboveWithDistribution (factsOp p (facts c)) (q .req .order) (q .req .fetch) (q .req .dist)) 0 (withOwnDistribution p) (above-top (factsOp p (facts c)) (factsOp o (facts c)) (whole p c) (l .base (facts c)) (q .req .order) (q .req .fetch) (q .req .dist)) l)
 
-node-fair : {o : Op} (q : Visit) (p : Op) (c : Plan) → Like o p → Fair o (decideNode q p c)
+node-fair : {o : Op} (q : Visit) (p : Op) (c : Plan) → Like o p → Fair o (facts c) (decideNode q p c)
 node-fair q p c l =
     fair-cond (isNil (q .req .order)) (unasked q p c) (nodeAsked q p c) (stays-fair _ l) (fair-cond (met (factsOp p (facts c)) (q .req .order)) (satisfied q p c) (unsatisfied q p c) (stays-fair _ l) (try-fair (pushDown (q .req .order) q p c) q p c l))
 
-removed-fair : (o : Op) (q : Visit) → passing o ≡ true → Fair o (removed o q)
+removed-fair : {fs : List Facts} (o : Op) (q : Visit) → passing o ≡ true → Fair o fs (removed o q)
 removed-fair o q e = record { tops = all-nil; gone = λ _. e; like = like-refl o; still = λ _. refl }
 
-replaced-fair : (ts : List Op) (o : Op) (q : Visit) → passing o ≡ true → All (λ x. passing x ≡ true) ts → Fair o (replaced ts o q)
+replaced-fair : {fs : List Facts} (ts : List Op) (o : Op) (q : Visit) → passing o ≡ true → All (Top (factsOp o fs)) ts → Fair o fs (replaced ts o q)
 replaced-fair ts o q e h = record { tops = h; gone = λ _. e; like = like-refl o; still = λ i. no-bool i }
 
-sort-fair : (p : Bool) (ks : List Key) (f : Fetch) (q : Visit) (c : Plan) → Fair (sortOp p ks f) (decideSort p ks f q c)
+sort-fair : (p : Bool) (ks : List Key) (f : Fetch) (q : Visit) (c : Plan) → Fair (sortOp p ks f) (facts c) (decideSort p ks f q c)
 sort-fair p ks f q c =
     let F : Facts = factsOp (sortOp p ks f) (facts c) in
     let C : Facts = at0 (facts c) in
@@ -101,28 +112,30 @@ sort-fair p ks f q c =
     fair-cond (isNil (q .req .order)) (sortUnasked p ks f q c) (sortAsked p ks f q c) (removed-fair (sortOp p ks f) _ refl)
     (fair-cond (met F (q .req .order) || compatible F (q .req .order) (F .order)) (sortUnnecessary p ks f q c) (sortDiffers p ks f q c) (removed-fair (sortOp p ks f) _ refl)
     (fair-cond (needsMerge C (q .req .dist)) (sortReplacedTwice p ks f q c) (sortReplaced p ks f q c)
-    (replaced-fair (newMerge new (q .req .fetch) ++ sortAboveWithDistribution C (sortOrdering p ks f c) f Unspecified) (sortOp p ks f) _ refl (all-append (merge-pass new (q .req .fetch)) (above-pass C (sortOrdering p ks f c) f Unspecified)))
-    (replaced-fair (sortAboveWithDistribution C (q .req .order) (q .req .fetch) (q .req .dist)) (sortOp p ks f) _ refl (above-pass C (q .req .order) (q .req .fetch) (q .req .dist)))))
+    (replaced-fair (newMerge new (q .req .fetch) ++ sortAboveWithDistribution C (sortOrdering p ks f c) f Unspecified) (sortOp p ks f) _ refl (all-append (merge-top F new (q .req .fetch)) (above-top C F (whole (sortOp p ks f) c) refl (sortOrdering p ks f c) f Unspecified)))
+    (replaced-fair (sortAboveWithDistribution C (q .req .order) (q .req .fetch) (q .req .dist)) (sortOp p ks f) _ refl (above-top C F (whole (sortOp p ks f) c) refl (q .req .order) (q .req .fetch) (q .req .dist)))))
 
 touch-like : (x : Bool) (o : Op) (fs : List Facts) → Like o (cond x (rebuilt o fs) o)
 touch-like true o fs = remark-like _ o
 touch-like false o fs = like-refl o
 
-pub helper-fair : (q : Visit) (c : Plan) (o : Op) → Fair o (pushdownSortsHelper q o c)
+pub helper-fair : (q : Visit) (c : Plan) (o : Op) → Fair o (facts c) (pushdownSortsHelper q o c)
 helper-fair q c =
-    shape-ind (λ o. Fair o (pushdownSortsHelper q o c))
+    shape-ind (λ o. Fair o (facts c) (pushdownSortsHelper q o c))
     (λ p ks f. sort-fair p ks f q c)
     (λ ks f. node-fair q _ c (touch-like (q .touch) (mergeOp ks f) (facts c)))
     (λ p n h ks. node-fair q _ c (touch-like (q .touch) (repartition p n h ks) (facts c)))
     (λ f. node-fair q _ c (touch-like (q .touch) (coalesce f) (facts c)))
-    (λ o e. subst (λ (s : Shape). Fair o (decideBy s q (cond (q .touch) (rebuilt o (facts c)) o) c)) (sym e) (node-fair q _ c (touch-like (q .touch) o (facts c))))
+    (λ o e. subst (λ (s : Shape). Fair o (facts c) (decideBy s q (cond (q .touch) (rebuilt o (facts c)) o) c)) (sym e) (node-fair q _ c (touch-like (q .touch) o (facts c))))
 
-cover-kept : (ts : List Op) (t u : Tree) → All (λ p. passing p ≡ true) ts → Keeps false false false t u → Keeps false false false t (cover ts u)
+cover-kept : (ts : List Op) (t u : Tree) → All (Top (fact t)) ts → Keeps false false false t u → Keeps false false false t (cover ts u)
 cover-kept [] t u hs k = k
-cover-kept (o ∷ os) t u (all-cons h hs) k = kept-over o false h (λ e p. no-bool e) (λ e p v. no-bool e) (cover-kept os t u hs k)
+cover-kept (o ∷ os) t u (all-cons h hs) k =
+    let i : Keeps false false false t (cover os u) = cover-kept os t u hs k in
+    kept-over o false (h .0) (λ e p. no-bool e) (λ e p v. no-bool e) (alive-blank (fact t) (fact (cover os u)) o (sym (i .base)) (h .1)) i
 
 -- Below the new nodes
-pub below-kept : (o : Op) (D : Decision) (c d : Forest Marked) → Fair o D → FitsA (arity o) (count (strip c)) → KeepsAll false false false c d → Keeps false false false (node o false c) (belowTops D d)
+pub below-kept : (o : Op) (D : Decision) (c d : Forest Marked) → Fair o (known c) D → FitsA (arity o) (count (strip c)) → KeepsAll false false false c d → Keeps false false false (node o false c) (belowTops D d)
 below-kept o D c d h f k = go (D .gone) refl
   where
     i : Keeps false false false (node o false c) (node (D .op) false d)
@@ -132,14 +145,18 @@ below-kept o D c d h f k = go (D .gone) refl
     go true e = kept-trans i (kept-first (node (D .op) false d) (h .gone e) (i .fit))
     go false e = kept-node o _ false false c d (like-trans (h .like) (remark-like _ (D .op))) f k
 
-carryOut-kept : (o : Op) (D : Decision) (c d : Forest Marked) → Fair o D → FitsA (arity o) (count (strip c)) → KeepsAll false false false c d → Keeps false false false (node o false c) (carryOut D d)
+carryOut-kept : (o : Op) (D : Decision) (c d : Forest Marked) → Fair o (known c) D → FitsA (arity o) (count (strip c)) → KeepsAll false false false c d → Keeps false false false (node o false c) (carryOut D d)
 carryOut-kept o D c d h f k = cover-kept (D .tops) (node o false c) (belowTops D d) (h .tops) (below-kept o D c d h f k)
+
+-- Over children without marks
+pub bare-fair : (q : Visit) (c : Plan) (o : Op) → Fair o (known (bare c)) (pushdownSortsHelper q o c)
+bare-fair q c o = subst (λ (g : Plan). Fair o (facts g) (pushdownSortsHelper q o c)) (sym (strip-bare c)) (helper-fair q c o)
 
 pub push-kept : (q : ℕ → Visit) (f : Plan) → Fit f → KeepsAll false false false (bare f) (pushdownSorts q f)
 push-kept q none h = all-kept-none
 push-kept q (tree o c r) h =
     let D : Decision = pushdownSortsHelper (q 0) o c in
-    kept-plant (carryOut-kept o D (bare c) (pushdownSorts (D .reqs) c) (helper-fair (q 0) c o) (subst (λ (g : Plan). FitsA (arity o) (count g)) (sym (strip-bare c)) (h .0)) (push-kept (D .reqs) c (h .1)))
+    kept-plant (carryOut-kept o D (bare c) (pushdownSorts (D .reqs) c) (bare-fair (q 0) c o) (subst (λ (g : Plan). FitsA (arity o) (count g)) (sym (strip-bare c)) (h .0)) (push-kept (D .reqs) c (h .1)))
     (push-kept (λ i. q (suc i)) r (h .2))
 
 -- ---- nothing is cut off: by the new nodes, by the node, and by the fetches required of the children

@@ -8,7 +8,7 @@ use borrow.Author.Tests.{ltb-true, lt-ltb}
 use lib.Dec.{ltb, leb}
 use lib.ListN.{length, getD}
 use Rattle.row_order.specs.Iso.{Key}
-use Rattle.row_order.specs.Lists.{All, all-append, all-cons, all-head, all-nil}
+use Rattle.row_order.specs.Lists.{All, all-append, all-cons, all-head, all-map, all-nil}
 use Rattle.plan.specs.Forest.{Forest, none, roots, tree}
 use Rattle.plan.specs.Op.{coalesce, mergeOp, Op, Plan, repartition, sortOp}
 use Rattle.plan.specs.WellFormed.{fetchOk, nodeOk}
@@ -28,7 +28,7 @@ use Rattle.walks.specs.Utils.{needsMerge, newMerge, sortAboveWithDistrib
 use Rattle.walks.specs.SortPushdown.{goes, minFetch, Pushed, stop}
 use Rattle.walks.specs.PushdownSorts.{afterMerge, afterTry, assignInitialRequirements, atRoot, belowSort, belowTops, childCount, decideBy, decideNode, decideSort, Decision, effectiveDist, handDown, mergeAdded, nodeAsked, push, pushDown, pushdownSorts, pushdownSortsHelper, satisfied, sortAdded, sortAsked, sortDiffers, sortOrdering, sortReplaced, sortReplacedTwice, sortUnasked, sortUnnecessary, stays, triedAgain, unasked, unsatisfied, Visit, withOwnDistribution}
 use Rattle.walks.specs.Counted.{one}
-use Rattle.walks.specs.Terms.{Added, blank, clear, passing, skel}
+use Rattle.walks.specs.Terms.{Added, blank, clear, Live, passing, skel}
 use Rattle.walks.specs.ListFacts.{all-nth}
 use Rattle.walks.specs.Skeleton.{pass-ease}
 use Rattle.walks.specs.Base.{blank-widths, ease-blank}
@@ -37,7 +37,7 @@ use Rattle.walks.specs.Keys.{fresh-keys, KeysFit, nf-keys, no-keys}
 use Rattle.walks.specs.NewNodes.{fetches-ok, fetchOp-ok, merge-ok, narrow, node-fetch, one-child, orders-fit, sort-ok, wanted-fits}
 use Rattle.walks.specs.Keeps.{Keeps, KeepsAll, Like, remark-like, shape-ind, strip-bare}
 use Rattle.walks.specs.KeptRows.{same-plan-rows, SamePlan}
-use Rattle.walks.specs.PushKept.{above-all, below-kept, Fair, helper-fair, newMerge-all, push-kept, push-pure}
+use Rattle.walks.specs.PushKept.{above-all, bare-fair, below-kept, Fair, helper-fair, newMerge-all, push-kept, push-pure}
 use Rattle.walks.specs.PushedKeys.{pushed-fits, PushedFits, wants-at}
 
 -- ---- what a node of w columns is visited with fits it
@@ -229,16 +229,16 @@ push-ok q none g h = tt
 push-ok q (tree o c r) g h =
     let D : Decision = pushdownSortsHelper (q 0) o c in
     let F : Fitted o c D = helper-fitted (q 0) c (h .1) o (h .0) (g 0 (omega arith)) in
-    let fair : Fair o D = helper-fair (q 0) c o in
+    let fair : Fair o (facts c) D = helper-fair (q 0) c o in
     let d : Forest Marked = pushdownSorts (D .reqs) c in
     let fc : Fit c = ok-fit c (h .1) in
     let k : KeepsAll false false false (bare c) d = push-kept (D .reqs) c fc in
     let fo : FitsA (arity o) (count (strip (bare c))) = subst (λ (x : Plan). FitsA (arity o) (count x)) (sym (strip-bare c)) (ok-fit (tree o c r) h .0) in
-    let below : Keeps false false false (node o false (bare c)) (belowTops D d) = below-kept o D (bare c) d fair fo k in
+    let below : Keeps false false false (node o false (bare c)) (belowTops D d) = below-kept o D (bare c) d (bare-fair (q 0) c o) fo k in
     let ih : Ok (strip d) = push-ok (D .reqs) c (F .reqs) (h .1) in
     let ws : map (λ G. G .width) (known d) ≡ map (λ G. G .width) (facts c) = blank-widths (known d) (facts c) (k .bases ∙ ap (λ (x : Plan). map blank (facts x)) (strip-bare c)) in
     let w : fact (belowTops D d) .width ≡ factsOp o (facts c) .width = ap (λ (G : Facts). G .width) (below .base) ∙ ap (λ (x : Plan). factsOp o (facts x) .width) (strip-bare c) in
-    let v = cover-ok (factsOp o (facts c) .width) (D .tops) (belowTops D d) w (fair .tops) (F .tops) (go (D .gone) (D .op) d ih (subst (λ (l : List ℕ). nodeOk (D .op) l ≡ true) (sym ws) (fair .like .ok (map (λ G. G .width) (facts c)) (h .0)))) in
+    let v = cover-ok (factsOp o (facts c) .width) (D .tops) (belowTops D d) w (all-map (λ p h. h .0) (fair .tops)) (F .tops) (go (D .gone) (D .op) d ih (subst (λ (l : List ℕ). nodeOk (D .op) l ≡ true) (sym ws) (fair .like .ok (map (λ G. G .width) (facts c)) (h .0)))) in
     (v .0 .0, v .0 .1, push-ok (λ i. q (suc i)) r (λ i l. g (suc i) (omega arith)) (h .2))
   where
     go : (x : Bool) (p : Op) (d : Forest Marked) → Ok (strip d) → nodeOk p (map (λ G. G .width) (known d)) ≡ true → OkT (cond x (kid0 (node p false d) d) (rebuild p false d))
@@ -259,6 +259,7 @@ push-plan f h =
       bones = subst (λ (g : Plan). Added false (skel g) (skel (push f))) (strip-bare f) (k .bones);
       number = k .same ∙ ap (λ (g : Plan). count g) (strip-bare f);
       bases = k .bases ∙ ap (λ (g : Plan). map blank (facts g)) (strip-bare f);
+      live = λ v. k .live (subst Live (sym (strip-bare f)) v);
     }
 
 pub push-rows : {E E′ : Env} (f : Plan) {x y : Forest Streams} → SameInputs E E′ f → Fit f → clear f ≡ true → Run E 0 0 f x → Run E′ 0 0 (push f) y → Each SameRows (roots x) (roots y)

@@ -1,9 +1,8 @@
--- sort_pushdown.rs, second part: assign_initial_requirements, pushdown_sorts_helper, pushdown_sorts. Parents first, as a structural
--- recursion (reading 8): the helper's decision at a node says which nodes come on top, whether the node (a sort) goes, and what is
--- required of its children; the visits of the nodes that a step adds, two at most, are written out in it. These are definitions.
--- Writing them out is the Rust's transform_down because: a node that is visited with an order has children that still hold the
--- default; the visit of the node under a new sort, which requires no order of it, changes nothing but its children's distributions;
--- and where a merge and a sort take a sort's place, the new sort's order differs again from the one below, so that its visit decides alike.
+-- sort_pushdown.rs, second part, as a structural recursion, parents first: assign_initial_requirements, pushdown_sorts_helper, pushdown_sorts
+-- (reading 8). The helper's decision at a node says which nodes come on top, whether the node (a sort) goes, and what is required of its
+-- children; the visits of the nodes that a step adds, two at most, are written out in it. These are definitions.
+-- That this is the Rust's transform_down is proved: PushdownSortsLiteral has the Rust's own form, and `accepted-is-literal` (PushedIsLiteral) says
+-- that the two answer the same, 23 and 25 included. So `peak` and `quiet`, by which Counted counts a visit's steps, need not be believed.
 use mathlib.Core.Bool.{Bool, true, false, cond, _||_}
 use mathlib.Core.List.{List, [], _++_}
 use Prim.Native.Nat.{ℕ, suc}
@@ -16,10 +15,10 @@ use Rattle.plan.specs.declared.Distribution.{Distribution}
 use Rattle.plan.specs.declared.Distribution.the-variants.{Unspecified}
 use Rattle.plan.specs.declared.Fetch.{Fetch}
 use Rattle.plan.specs.declared.Fetch.the-variants.{Unlimited}
-use Rattle.semantics.specs.Facts.{at0, compatible, Facts, facts, factsOp, isNil, met, nf}
+use Rattle.semantics.specs.Facts.{at0, compatible, Facts, facts, factsOp, isNil, met, nf, knownOrder}
 use Rattle.semantics.specs.Properties.{distOf, fetches, fetchOp, freshKeys, rebuilt, sortDist, wanted}
 use Rattle.walks.specs.Marks.{aCoalesce, aMerge, another, aRepartition, aSort, cover, kid0, Marked, node, plant, rebuild, Shape, shape, strip, Tree}
-use Rattle.walks.specs.Utils.{needsMerge, newMerge, sortAboveWithDistribution}
+use Rattle.walks.specs.Utils.{mergeAbove, needsMerge, sortAboveWithDistribution}
 use Rattle.walks.specs.SortPushdown.{defaultRequirements, goes, minFetch, ParentRequirements, pushdownRequirementToChildren, Pushed, stop, strongerDistribution}
 
 -- ---- what a node is visited with
@@ -60,7 +59,8 @@ effectiveDist F d = cond (eqb (F .streams) 1) Unspecified d
 -- ---- a decision
 
 -- tops: the new nodes, outermost first. gone: the node goes. op: the node, if it stays. reqs: what its children are visited with.
--- peak: how many nodes more than the decision leaves its steps reach on the way. quiet: no step ends here, for the helper calls itself
+-- For the proof that the steps are the Rust's, peak: how many nodes more than the decision leaves they reach on the way; quiet: no step ends
+-- here, for the helper calls itself
 pub record Decision : Type 0 where
   pub tops : List Op
   pub gone : Bool
@@ -81,36 +81,43 @@ removed o q = record { tops = []; gone = true; op = o; reqs = λ i. q; peak = 0;
 abbrev pub replaced : List Op → Op → Visit → Decision
 replaced ts o q = record { tops = ts; gone = true; op = o; reqs = λ i. q; peak = 0; quiet = false }
 
+-- The order of a new sort, of an order ks over facts F, as the visit of the sort reads it: in normal form (reading 7)
+abbrev pub newOrdering : Facts → List Key → List Key
+newOrdering F ks = nf F [] (freshKeys F [] ks)
+
 -- ---- pushdown_sorts_helper at a sort p ks f over c, visited with q
 
 -- sort_ordering: in normal form (reading 7)
 abbrev pub sortOrdering : Bool → List Key → Fetch → Plan → List Key
-sortOrdering p ks f c = factsOp (sortOp p ks f) (facts c) .order
+sortOrdering p ks f c = knownOrder (factsOp (sortOp p ks f) (facts c))
 
 -- No order is required: "just propagate the stricter fetch and ordering requirements". Its child's distribution stays: of the root's
 -- child what assign_initial_requirements gave it, else none
 abbrev pub sortUnasked : Bool → List Key → Fetch → Visit → Plan → Decision
 sortUnasked p ks f q c =
-    removed (sortOp p ks f) (belowSort (record { order = sortOrdering p ks f c; fetch = minFetch f (q .req .fetch); dist = cond (q .root) (sortDist p) Unspecified }))
+    removed (sortOp p ks f)
+    (belowSort (record { order = sortOrdering p ks f c; fetch = minFetch f (q .req .fetch); dist = cond (q .root) (sortDist p) Unspecified }))
 
 -- "Sort was unnecessary, just propagate the stricter fetch and ordering requirements. Reset distribution to Unspecified"
 abbrev pub sortUnnecessary : Bool → List Key → Fetch → Visit → Plan → Decision
 sortUnnecessary p ks f q c =
     let own : List Key = sortOrdering p ks f c in
-    removed (sortOp p ks f) (belowSort (record { order = cond (compatible (at0 (facts c)) own (q .req .order)) own (q .req .order); fetch = minFetch f (q .req .fetch); dist = Unspecified }))
+    let stricter : List Key = cond (compatible (at0 (facts c)) own (q .req .order)) own (q .req .order) in
+    removed (sortOp p ks f) (belowSort (record { order = stricter; fetch = minFetch f (q .req .fetch); dist = Unspecified }))
 
 -- "The sort was imposing a different ordering": a sort of the required order in its place, and the old order goes on
 abbrev pub sortReplaced : Bool → List Key → Fetch → Visit → Plan → Decision
 sortReplaced p ks f q c =
-    replaced (sortAboveWithDistribution (at0 (facts c)) (q .req .order) (q .req .fetch) (q .req .dist)) (sortOp p ks f) (belowSort (record { order = sortOrdering p ks f c; fetch = f; dist = Unspecified }))
+    replaced (sortAboveWithDistribution (at0 (facts c)) (q .req .order) (q .req .fetch) (q .req .dist)) (sortOp p ks f)
+    (belowSort (record { order = sortOrdering p ks f c; fetch = f; dist = Unspecified }))
 
 -- The same where a merge comes too: `children[0]` is the new sort there (reading 8). Its visit finds another order required again,
 -- the old one: it puts a sort of that in its place, and its own order goes on
 abbrev pub sortReplacedTwice : Bool → List Key → Fetch → Visit → Plan → Decision
 sortReplacedTwice p ks f q c =
     let C : Facts = at0 (facts c) in
-    let new : List Key = freshKeys C [] (q .req .order) in
-    replaced (newMerge new (q .req .fetch) ++ sortAboveWithDistribution C (sortOrdering p ks f c) f Unspecified) (sortOp p ks f) (belowSort (record { order = nf C [] new; fetch = q .req .fetch; dist = Unspecified }))
+    replaced (mergeAbove C (q .req .order) (q .req .fetch) ++ sortAboveWithDistribution C (sortOrdering p ks f c) f Unspecified) (sortOp p ks f)
+    (belowSort (record { order = newOrdering C (q .req .order); fetch = q .req .fetch; dist = Unspecified }))
 
 abbrev pub sortDiffers : Bool → List Key → Fetch → Visit → Plan → Decision
 sortDiffers p ks f q c = cond (needsMerge (at0 (facts c)) (q .req .dist)) (sortReplacedTwice p ks f q c) (sortReplaced p ks f q c)
@@ -119,7 +126,7 @@ sortDiffers p ks f q c = cond (needsMerge (at0 (facts c)) (q .req .dist)) (sortR
 abbrev pub sortAsked : Bool → List Key → Fetch → Visit → Plan → Decision
 sortAsked p ks f q c =
     let F : Facts = factsOp (sortOp p ks f) (facts c) in
-    cond (met F (q .req .order) || compatible F (q .req .order) (F .order)) (sortUnnecessary p ks f q c) (sortDiffers p ks f q c)
+    cond (met F (q .req .order) || compatible F (q .req .order) (knownOrder F)) (sortUnnecessary p ks f q c) (sortDiffers p ks f q c)
 
 abbrev pub decideSort : Bool → List Key → Fetch → Visit → Plan → Decision
 decideSort p ks f q c = cond (isNil (q .req .order)) (sortUnasked p ks f q c) (sortAsked p ks f q c)
@@ -149,14 +156,15 @@ sortAdded q o c = covered (sortAboveWithDistribution (factsOp o (facts c)) (q .r
 -- distribution" (reading 8): u is what that try gives
 abbrev pub afterMerge : Pushed → Visit → Op → Plan → Decision
 afterMerge (goes ks) q o c =
-    covered (newMerge (freshKeys (factsOp o (facts c)) [] (q .req .order)) (q .req .fetch)) 1 o (handDown ks (minFetch (fetchOp o (fetches c)) (q .req .fetch)) Unspecified o)
+    covered (mergeAbove (factsOp o (facts c)) (q .req .order) (q .req .fetch)) 1 o
+    (handDown ks (minFetch (fetchOp o (fetches c)) (q .req .fetch)) Unspecified o)
 afterMerge stop q o c =
     let F : Facts = factsOp o (facts c) in
-    let new : List Key = freshKeys F [] (q .req .order) in
-    covered (newMerge new (q .req .fetch) ++ sortAboveWithDistribution F (nf F [] new) (q .req .fetch) Unspecified) 0 o (withOwnDistribution o)
+    covered (mergeAbove F (q .req .order) (q .req .fetch) ++ sortAboveWithDistribution F (newOrdering F (q .req .order)) (q .req .fetch) Unspecified) 0 o
+    (withOwnDistribution o)
 
 abbrev pub triedAgain : Visit → Op → Plan → Pushed
-triedAgain q o c = let F : Facts = factsOp o (facts c) in pushDown (nf F [] (freshKeys F [] (q .req .order))) q (rebuilt o (facts c)) c
+triedAgain q o c = pushDown (newOrdering (factsOp o (facts c)) (q .req .order)) q (rebuilt o (facts c)) c
 
 abbrev pub mergeAdded : Visit → Op → Plan → Decision
 mergeAdded q o c = afterMerge (triedAgain q o c) q (rebuilt o (facts c)) c

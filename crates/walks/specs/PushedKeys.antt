@@ -203,7 +203,7 @@ module _ (fs : List Facts) (parent : List Key) where
   Fitting o u = Node o → KeysFit (factsOp o fs .width) parent → PushedFits fs u
 
   kind-fits : (o : Op) → Fitting o (pushByKind o fs parent)
-  kind-fits (source w n s ks u) e h = tt
+  kind-fits (source s) e h = tt
   kind-fits filter e h = tt
   kind-fits (projection cols) e h = project-goes cols e h
   kind-fits union e h = union-goes e h
@@ -233,7 +233,7 @@ module _ (fs : List Facts) (parent : List Key) where
       (goIf-fits fs (isNil (factsOp o fs .order) || compatible (factsOp o fs) parent (factsOp o fs .order)) (λ i. childRequired o parent) (λ _. h)) k
 
   fetch-fits : (o : Op) (own : Fetch) (n : ℕ) → Fitting o (cond (throughFetch o own n fs) (handleFetch o (factsOp o fs) parent) (pushByKind o fs parent))
-  fetch-fits (source w m s ks u) own n e h = no-fetch own _ _ _ refl tt
+  fetch-fits (source s) own n e h = no-fetch own _ _ _ refl tt
   fetch-fits filter own n e h = through filter own n (same-columns (one filter refl e) (at0 fs) refl h) (kind-fits filter e h)
   fetch-fits (projection cols) own n e h = through (projection cols) own n (project-goes cols e h) (kind-fits (projection cols) e h)
   fetch-fits union own n e h = through union own n (union-goes e h) (kind-fits union e h)

@@ -11,7 +11,6 @@ use lib.Dec.{eqb, ltb}
 use lib.ListN.{length}
 use Rattle.row_order.specs.Iso.{Key}
 use Rattle.row_order.specs.Order.{no-bool}
-use Rattle.row_order.specs.Lists.{all-head}
 use Rattle.plan.specs.Forest.{Forest, none, roots, tree}
 use Rattle.plan.specs.Op.{coalesce, filter, globalLimit, hashJoin, localLimit, mergeOp, Op, outputRequirement, partialSort, projection, repartition, sortMergeJoin, sortOp, source, union}
 use Rattle.plan.specs.Numbers.{code}
@@ -22,9 +21,9 @@ use Rattle.semantics.specs.Properties.{isLimit, maintains, singles, wanted, wis
 use Rattle.semantics.specs.Check.{wants}
 use Rattle.semantics.specs.Canonical.{Canon}
 use Rattle.semantics.specs.Bools.{and-left, and-right, or-cases}
-use Rattle.semantics.specs.JoinCanon.{canon}
 use Rattle.walks.specs.Marks.{aCoalesce, aMerge, another, anyBelow, anyMark, aRepartition, aSort, at, fact, fetchT, kid0, known, Marked, node, opT, over, plant, rebuild, setMark, Shape, shape, strip, Tree, unmark}
 use Rattle.walks.specs.EnsureSorting.{connected, connectedEach, dropSort, gather, gatherOp, loosen, removeBy, removeCorrespondingSortFromSubPlan, removeKids, removeTop, resettle, updateChildToRemoveUnnecessarySort, updateSortCtxChildrenData}
+use Rattle.walks.specs.ConstantSorts.{fact-canon}
 use Rattle.walks.specs.Trees.{arity, count, facts-count, Fit, FitsA, FitT}
 use Rattle.walks.specs.Keeps.{shape-ind}
 use Rattle.walks.specs.EnsureKept.{strip-connected}
@@ -126,9 +125,6 @@ remove-count q none = refl
 remove-count q (tree m c r) = ap suc (remove-count (λ i. q (suc i)) r)
 
 -- ---- removing
-pub fact-canon : (t : Tree) → Canon (fact t)
-fact-canon t = all-head (canon (tree (opT t) (strip (t .kids)) none))
-
 gather-wants : (F : Facts) (f : Fetch) → Canon F → wants (gatherOp (F .order) f) (F ∷ []) ≡ true
 gather-wants F f h = go (F .order) refl
   where
@@ -167,7 +163,7 @@ pub other-code : (o : Op) → isOther (shape o) ≡ true → (eqb (code o) 7 ≡
 other-code = shape-ind (λ o. isOther (shape o) ≡ true → (eqb (code o) 7 ≡ false) × (eqb (code o) 8 ≡ false)) (λ p ks f e. no-bool e) (λ ks f e. no-bool e) (λ p n h ks e. (refl, refl)) (λ f e. (refl, refl)) last
   where
     last : (o : Op) → shape o ≡ another → isOther (shape o) ≡ true → (eqb (code o) 7 ≡ false) × (eqb (code o) 8 ≡ false)
-    last (source w n cs ks unb) e h = (refl, refl)
+    last (source s) e h = (refl, refl)
     last filter e h = (refl, refl)
     last (projection cols) e h = (refl, refl)
     last union e h = (refl, refl)

@@ -5,7 +5,7 @@ use mathlib.Core.Bool.{Bool, true, false, cond, not, _&&_, _||_}
 use mathlib.Core.List.{List, [], _∷_, map}
 use Prim.Native.Nat.{ℕ, zero, suc, _+_, _-_, min}
 use lib.Dec.{eqb, ltb, leb}
-use lib.ListN.{length, getD}
+use lib.ListN.{getD}
 use Rattle.row_order.specs.Iso.{Key}
 use Rattle.plan.specs.Op.{Op, source, filter, projection, union, repartition, coalesce, sortOp, mergeOp, globalLimit, localLimit, sortMergeJoin, hashJoin, outputRequirement, partialSort}
 use Rattle.plan.specs.WellFormed.{every, someFetch}
@@ -15,7 +15,7 @@ use Rattle.plan.specs.declared.Distribution.{Distribution}
 use Rattle.plan.specs.declared.Distribution.the-variants.{Unspecified, Single, Keyed}
 use Rattle.plan.specs.declared.Fetch.{Fetch}
 use Rattle.plan.specs.declared.Fetch.the-variants.{Unlimited, AtMost}
-use Rattle.semantics.specs.Facts.{Facts, cl, withColumn, nf, eqKey, prefixb, met, compatible, dropRepeats, ordered, reorder, lowest, isNil, smjKept, joinOrder, at0, at1, factsOp}
+use Rattle.semantics.specs.Facts.{Facts, cl, withColumn, eqKey, met, compatible, dropRepeats, ordered, reorder, lowest, isNil, smjKept, joinOrder, at0, at1, factsOp, knownOrder}
 use Rattle.semantics.specs.Properties.{wanted, maintains, cardinalityEqual, supportsLimitPushdown}
 use Rattle.walks.specs.Marks.{anyBelow}
 
@@ -174,13 +174,13 @@ handleProjectionPushdown cols parent = goes (λ i. remapRequirementThroughProjec
 -- fetch whose keys are all constant lets no order be pushed past it: the Rust panics there."
 
 abbrev pub handleMerge : Facts → List Key → Pushed
-handleMerge F parent = goIf (not (isNil (F .order)) && met (reorder F parent) (F .order)) (λ i. parent)
+handleMerge F parent = goIf (not (isNil (knownOrder F)) && met (reorder F parent) (knownOrder F)) (λ i. parent)
 
 -- ---- pushdown_requirement_to_children
 
 -- The branches by kind. A sort is handled before it comes here, and has an order then
 abbrev pub pushByKind : Op → List Facts → List Key → Pushed
-pushByKind (source w n s ks u) fs parent = stop
+pushByKind (source s) fs parent = stop
 pushByKind filter fs parent = stop
 pushByKind (projection cols) fs parent = handleProjectionPushdown cols parent
 pushByKind union fs parent = goes (λ i. parent)
@@ -199,7 +199,7 @@ pushByKind (partialSort p ks n f) fs parent = stop
 
 -- The requirement in the child's columns: remapped past a projection
 abbrev pub childRequired : Op → List Key → List Key
-childRequired (source w n s ks u) parent = parent
+childRequired (source s) parent = parent
 childRequired filter parent = parent
 childRequired (projection cols) parent = remapRequirementThroughProjection cols parent
 childRequired union parent = parent
@@ -227,7 +227,7 @@ abbrev pub throughFetch : Op → Fetch → ℕ → List Facts → Bool
 throughFetch o own n fs = someFetch own && (supportsLimitPushdown o && allBelow n (maintains o fs))
 
 abbrev pub handleFetch : Op → Facts → List Key → Pushed
-handleFetch o F parent = goIf (isNil (F .order) || compatible F parent (F .order)) (λ i. childRequired o parent)
+handleFetch o F parent = goIf (isNil (knownOrder F) || compatible F parent (knownOrder F)) (λ i. childRequired o parent)
 
 abbrev pub pushdownRequirementToChildren : Op → Fetch → ℕ → List Facts → List Key → Fetch → Pushed
 pushdownRequirementToChildren o own n fs parent f =

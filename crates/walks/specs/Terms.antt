@@ -1,23 +1,26 @@
--- The words that the theorems on the walks are stated in: skeletons, limits added, what cuts nothing off, the sizes after each step, answers.
+-- The words that the theorems on the walks are stated in: skeletons, limits added, what cuts nothing off, sorts of all-constant keys, the sizes after
+-- each step, what partial sorting refuses, answers.
 -- These are definitions.
 use mathlib.Core.Path.{_≡_}
-use mathlib.Core.Bool.{Bool, true, false, cond, not, _&&_}
+use mathlib.Core.Bool.{Bool, true, false, cond, not, _&&_, _||_}
 use mathlib.Core.List.{List, [], _∷_, _++_}
 use Prim.Native.Nat.{ℕ, suc, _+_, _-_}
 use lib.Dec.{leb}
 use lib.ListN.{length}
+use Rattle.row_order.specs.Iso.{Key}
 use Rattle.plan.specs.Forest.{Forest, none, size, tree}
-use Rattle.plan.specs.Op.{Op, Plan}
+use Rattle.plan.specs.Op.{Op, Plan, sortOp}
 use Rattle.plan.specs.Numbers.{code}
 use Rattle.plan.specs.WellFormed.{every, width}
-use Rattle.plan.specs.declared.Refusal.{Refusal}
+use Rattle.plan.specs.declared.Fetch.{Fetch}
 use Rattle.plan.specs.declared.Refusal.the-variants.{ConstantSort, HasPartialSort, TooManyNodes}
-use Rattle.semantics.specs.Facts.{Facts}
-use Rattle.semantics.specs.Properties.{isLimit}
+use Rattle.semantics.specs.Facts.{at0, Facts, facts, met}
+use Rattle.semantics.specs.Properties.{anyOf, endless, isLimit}
 use Rattle.semantics.specs.Bags.{simpleOp}
 use Rattle.walks.specs.Marks.{rebuild, sizeT, strip, transformUp, Tree}
+use Rattle.walks.specs.PartialSort.{fromNode}
 use Rattle.walks.specs.PushdownSorts.{atRoot, carryOut, Decision, push, pushdownSorts, pushdownSortsHelper, Visit}
-use Rattle.walks.specs.Counted.{Answer, answered, constantSort, Counted, hasPartialSort, one, overflows, refused, stopped}
+use Rattle.walks.specs.Counted.{afterwards, Answer, answered, constantSort, hasPartialSort, one, refused}
 
 -- ---- forests one after the other
 infixr 60 _⊕_
@@ -62,10 +65,14 @@ abbrev pub clear : Plan → Bool
 clear none = true
 clear (tree o c r) = clearOp o && (clear c && clear r)
 
--- ---- no sort has all-constant keys
+-- ---- no sort has all-constant keys; some sort has
 abbrev pub Live : Plan → Type 0
 Live none = Unit {0}
 Live (tree o c r) = (constantSort o c ≡ false) × Live c × Live r
+
+abbrev pub hasConstantSort : Plan → Bool
+hasConstantSort none = false
+hasConstantSort (tree o c r) = constantSort o c || (hasConstantSort c || hasConstantSort r)
 
 -- ---- the steps of a walk, children before parents
 -- The nodes of the whole plan after each step of the pure walk: a of them stand elsewhere, and the siblings to the right are still as they were
@@ -80,32 +87,38 @@ abbrev pub small : ℕ → Bool
 small n = leb n 126
 
 -- ---- the steps of pushing, parents before children
--- The refusals that the steps of the pure walk reach, in order: a nodes stand elsewhere
-abbrev pub ifSo : Bool → Refusal → List Refusal
-ifSo true e = e ∷ []
-ifSo false e = []
+-- The nodes of a plan that the steps of a visit reach, n before it: none where no step ends
+abbrev pub reaches : Decision → ℕ → List ℕ
+reaches D n = cond (D .quiet) [] ((afterwards D n + D .peak) ∷ [])
 
-abbrev pub reached : ℕ → (ℕ → Visit) → Plan → List Refusal
-reached a q none = []
-reached a q (tree o c r) =
+-- The nodes of the whole plan that the steps of each visit reach, up to the first sort whose keys are all constant: a of them stand elsewhere
+abbrev pub sizesDown : ℕ → (ℕ → Visit) → Plan → List ℕ
+sizesDown a q none = []
+sizesDown a q (tree o c r) =
     let D : Decision = pushdownSortsHelper (q 0) o c in
-    ifSo (constantSort o c) ConstantSort ++ (ifSo (overflows D (a + size (tree o c r))) TooManyNodes
-    ++ (reached ((a + size r) + (suc (length (D .tops)) - one (D .gone))) (D .reqs) c ++ reached (a + sizeT (carryOut D (pushdownSorts (D .reqs) c))) (λ i. q (suc i)) r))
+    let below : List ℕ = sizesDown ((a + size r) + (suc (length (D .tops)) - one (D .gone))) (D .reqs) c in
+    let right : List ℕ = sizesDown (a + sizeT (carryOut D (pushdownSorts (D .reqs) c))) (λ i. q (suc i)) r in
+    cond (constantSort o c) [] (reaches D (a + size (tree o c r)) ++ (below ++ cond (hasConstantSort c) [] right))
 
--- The first of them refuses
-abbrev pub firstOf : {A : Type 0} → List Refusal → Counted A → Counted A
-firstOf [] w = w
-firstOf (e ∷ es) w = stopped e
+-- ---- partial sorting
+-- 22: node number n is "a sort over an unbounded child that already meets all its keys"
+pub record SortedAlready (n : ℕ) (f : Plan) : Type 0 where
+  pub preserve : Bool
+  pub keys : List Key
+  pub fetch : Fetch
+  pub child : Plan
+  pub right : Plan
+  pub here : fromNode n f ≡ tree (sortOp preserve keys fetch) child right
+  pub unbounded : anyOf (endless child) ≡ true
+  pub meets : met (at0 (facts child)) keys ≡ true
 
 -- ---- answers
 -- What a walk that goes children before parents answers
 abbrev pub answerUp : (Tree → Tree) → Plan → Answer
 answerUp step f = cond (hasPartialSort f) (refused HasPartialSort) (cond (every small (sizesUp step 0 f)) (answered (strip (transformUp step f))) (refused TooManyNodes))
 
--- The first refusal that is reached
-abbrev pub answerFirst : List Refusal → Answer → Answer
-answerFirst [] w = w
-answerFirst (e ∷ es) w = refused e
-
+-- What pushing answers: 23 if a step before the first sort of all-constant keys leaves too many nodes, 25 if there is such a sort
 abbrev pub answerDown : Plan → Answer
-answerDown f = cond (hasPartialSort f) (refused HasPartialSort) (answerFirst (reached 0 (λ i. atRoot) f) (answered (push f)))
+answerDown f =
+    cond (hasPartialSort f) (refused HasPartialSort)
+    (cond (every small (sizesDown 0 (λ i. atRoot) f)) (cond (hasConstantSort f) (refused ConstantSort) (answered (push f))) (refused TooManyNodes))

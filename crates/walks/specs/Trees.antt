@@ -1,7 +1,7 @@
 -- What the theorems ask of trees: accepted child counts, no join, limit or fetch, and 01's rules on every node; as types, for one root too.
 -- The reader's own test is nodesOk of the plan crate: `ok-of`, `ok-to`.
 use mathlib.Core.Path.{_≡_, refl, sym, ap, ap₂, _∙_, subst}
-use mathlib.Core.Bool.{true, not, _&&_}
+use mathlib.Core.Bool.{true, false, not, _&&_}
 use mathlib.Core.List.{List, map}
 use Prim.Native.Nat.{ℕ, suc, _≤_}
 use borrow.Author.Tests.{eqb-true, leb-true}
@@ -15,7 +15,8 @@ use Rattle.semantics.specs.Bools.{and-left, and-right}
 use Rattle.semantics.specs.Bags.{simpleOp, simplePlan}
 use Rattle.semantics.specs.Fits.{facts-widths}
 use Rattle.walks.specs.Marks.{known, opT, strip, Tree}
-use Rattle.walks.specs.Terms.{bone, clear, clearOp, passing, skel}
+use Rattle.walks.specs.Counted.{constantSort}
+use Rattle.walks.specs.Terms.{bone, clear, clearOp, Live, passing, skel}
 use Rattle.walks.specs.ListFacts.{map-length}
 
 -- ---- numbers of children
@@ -23,7 +24,7 @@ pub data Arity : Type 0 where
   noKid oneKid twoKids manyKids : Arity
 
 abbrev pub arity : Op → Arity
-arity (source w n s ks u) = noKid
+arity (source s) = noKid
 arity filter = oneKid
 arity (projection cols) = oneKid
 arity union = manyKids
@@ -92,6 +93,9 @@ PureT t = (clearOp (opT t) ≡ true) × Pure (strip (t .kids))
 abbrev pub OkT : Tree → Type 0
 OkT t = (nodeOk (opT t) (map (λ F. F .width) (known (t .kids))) ≡ true) × Ok (strip (t .kids))
 
+abbrev pub LiveT : Tree → Type 0
+LiveT t = (constantSort (opT t) (strip (t .kids)) ≡ false) × Live (strip (t .kids))
+
 abbrev pub skelT : Tree → Plan
 skelT t = bone passing (opT t) (skel (strip (t .kids)))
 
@@ -100,7 +104,7 @@ between-le : (n : ℕ) → between 2 8 n ≡ true → (2 ≤ n) × (n ≤ 8)
 between-le n e = (leb-true 2 n (search and-left), leb-true n 8 (search and-right))
 
 pub children-fit : (o : Op) (n : ℕ) → childrenOk o n ≡ true → FitsA (arity o) n
-children-fit (source w m s ks u) n e = eqb-true n 0 e
+children-fit (source s) n e = eqb-true n 0 e
 children-fit filter n e = eqb-true n 1 e
 children-fit (projection cols) n e = eqb-true n 1 e
 children-fit union n e = between-le n e

@@ -1,7 +1,6 @@
 -- utils.rs: tests of kinds, and sorts put above a node. These are definitions.
-use mathlib.Core.Bool.{Bool, true, false, cond, not, _&&_, _||_}
+use mathlib.Core.Bool.{Bool, cond, _&&_}
 use mathlib.Core.List.{List, [], _∷_, _++_}
-use Prim.Native.Nat.{ℕ, zero, suc}
 use lib.Dec.{eqb, ltb}
 use Rattle.row_order.specs.Iso.{Key}
 use Rattle.plan.specs.Op.{Op, sortOp, mergeOp}
@@ -10,7 +9,7 @@ use Rattle.plan.specs.declared.Distribution.{Distribution}
 use Rattle.plan.specs.declared.Fetch.{Fetch}
 use Rattle.semantics.specs.Facts.{Facts, met}
 use Rattle.semantics.specs.Properties.{isSingle, freshKeys}
-use Rattle.walks.specs.Marks.{Tree, fact, cover}
+use Rattle.walks.specs.Marks.{cover, coverWith, fact, PlanContext, Tree}
 
 -- ---- is_sort, is_union, is_sort_preserving_merge, is_coalesce_partitions, is_repartition; is_limit is isLimit of Properties.
 -- is_window is not kept: 01 has no windows
@@ -50,12 +49,19 @@ abbrev pub needsMerge : Facts → Distribution → Bool
 needsMerge F d = ltb 1 (F .streams) && isSingle d
 
 -- add_sort_above_with_distribution: there, a merge of the same keys and fetch over the sort
+abbrev pub mergeAbove : Facts → List Key → Fetch → List Op
+mergeAbove F ks f = newMerge (freshKeys F [] ks) f
+
 abbrev pub sortAboveWithDistribution : Facts → List Key → Fetch → Distribution → List Op
-sortAboveWithDistribution F ks f d = cond (needsMerge F d) (newMerge (freshKeys F [] ks) f ++ sortAbove F ks f) (sortAbove F ks f)
+sortAboveWithDistribution F ks f d = cond (needsMerge F d) (mergeAbove F ks f ++ sortAbove F ks f) (sortAbove F ks f)
 
 -- add_sort_above
 abbrev pub addSortAbove : List Key → Fetch → Tree → Tree
 addSortAbove ks f t = cover (sortAbove (fact t) ks f) t
+
+-- add_sort_above_with_distribution; x: the data of the new nodes, T::default()
+abbrev pub addSortAboveWithDistribution : {T : Type 0} → T → List Key → Fetch → Distribution → PlanContext T → PlanContext T
+addSortAboveWithDistribution x ks f d t = coverWith x (sortAboveWithDistribution (fact t) ks f d) t
 
 -- add_sort_above_with_check
 abbrev pub addSortAboveWithCheck : List Key → Fetch → Tree → Tree

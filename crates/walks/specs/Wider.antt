@@ -296,7 +296,7 @@ module _ {fs gs : List Facts} (ws : Each Wider fs gs) (hs : All Some fs) (ks : A
   sort-wider false l f h = absurd (omega arith)
 
   pub op-wider : (o : Op) → Stays o fs → Wider (factsOp o fs) (factsOp o gs)
-  op-wider (source w n s l u) h = wider-refl (factsOp (source w n s l u) fs)
+  op-wider (source s) h = wider-refl (factsOp (source s) fs)
   op-wider filter h = w0
   op-wider (projection cols) h = projected (at0 fs) (at0 gs) w0 cols
   op-wider union h = union-wider ws hs ks

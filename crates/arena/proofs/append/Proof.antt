@@ -1,9 +1,18 @@
 use borrow.Author.Needs.{needs}
+use native.Mathlib.Omega.{arith}
 use mathlib.Core.Path.{_∙_}
 use Prim.Native.Nat.{ℕ}
-use Rattle.arena.specs.Held.{held-put, stored-by, gap}
+use Rattle.arena.specs.Held.{appended-by, gap}
 use Rattle.arena.proofs.append.Statement.{statement}
 use Rattle.arena.proofs.append.Tie as tie
+use Rattle.arena.proofs.append.Reads as reads
+use Rattle.arena.proofs.append.Lts as lts
+use Rattle.arena.proofs.put_numbers.Reads as put-numbers-reads
+use Rattle.arena.proofs.read64.Reads as read64-reads
+use Rattle.scan.proofs.copy.Reads as copy-reads
+
+read64-requires : tie.Need-read64-requires
+read64-requires c κs = search needs
 
 mul-at : tie.Need-mul-at
 mul-at c = search needs
@@ -19,6 +28,9 @@ part-copy-start c = search needs
 
 part-copy-end : tie.Need-part-copy-end
 part-copy-end c = search needs
+
+slice-aggregate-copy : tie.Need-slice-aggregate-copy
+slice-aggregate-copy c = search needs
 
 copy-requires : tie.Need-copy-requires
 copy-requires c κs = search needs
@@ -43,21 +55,22 @@ same-length c = search needs
 
 returns : tie.Need-returns
 returns c =
-    let c₆ = c .before .before .before .before .before .before in let c₁₁ = c₆ .before .before .before .before .before in
-    let s = c₁₁ in let m = s .args .m .now in let u : ℕ = s .args .u in
-    let R = c₆ .copy .last .0 in let K = c .before .before .put-numbers .last .0 in
-    let st = stored-by m u _ _ R K (s .pre) (c₆ .copy .ensures) (c .before .before .put-numbers .ensures) (c .before .before .put-numbers .kept .0 ∙ gap m u _ _ R (s .pre) (c₆ .copy .ensures)) in
-    (held-put m _ u _ st, st .below)
+    let s = c .before .before .before .before .before .before .before .before .before .before .before .before .before in let m = s .args .m .now in let u : ℕ = s .args .u in
+    let w = c .before .before .before .before .before .before in let p = c .before .before .put-numbers in
+    let e = w .copy .ensures ∙ c .before .before .before .before .before .before .before .before .before .read64 .ensures in
+    appended-by m u _ _ (w .copy .last .0) (s .pre) e (p .last .0) (p .ensures .0) (p .kept .0 ∙ gap m u _ _ (w .copy .last .0) (s .pre) e) (p .ensures .1)
 
 pub append-spec : {M : Type 1} → statement M
 append-spec =
     tie.close
     (tie.spec
+    read64-requires
     mul-at
     add-e
     sub-copy
     part-copy-start
     part-copy-end
+    slice-aggregate-copy
     copy-requires
     add-f
     sub-put-numbers

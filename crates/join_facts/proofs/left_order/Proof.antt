@@ -1,6 +1,6 @@
--- `join_facts::left_order` meets its contract: one case for each join type. Assumes nothing.
+-- `join_facts::left_order` meets its contract. Assumes nothing.
 use borrow.Author.Needs.{needs}
-use Rattle.join_facts.specs.Placing.{own-order}
+use mathlib.Core.Path.{refl}
 use Rattle.join_facts.specs.Orders.{left-kept}
 use Rattle.join_facts.proofs.left_order.Statement.{statement}
 use Rattle.join_facts.proofs.left_order.Tie as tie
@@ -42,28 +42,28 @@ no-keys-requires-4 : tie.Need-no-keys-requires-4
 no-keys-requires-4 c κs = search needs
 
 returns : tie.Need-returns
-returns c = let s = c .before .before .before in rw (c .enum-told .given .1) (left-kept (s .args .f) (s .pre .0) (s .pre .1))
+returns c w a = rw (c .enum-told .given .1) (left-kept (c .before .before .args .keys) w (c .before .before .pre) a)
 
 returns-2 : tie.Need-returns-2
-returns-2 c = let s = c .before .before .before in rw (c .enum-told2 .given .1) (left-kept (s .args .f) (s .pre .0) (s .pre .1))
+returns-2 c w a = rw (c .enum-told2 .given .1) (left-kept (c .before .before .args .keys) w (c .before .before .pre) a)
 
 returns-3 : tie.Need-returns-3
-returns-3 c = rw (c .before .enum-told3 .given .1) (c .no-keys .ensures)
+returns-3 c w a = rw (c .before .enum-told3 .given .1) (c .no-keys .ensures .0)
 
 returns-4 : tie.Need-returns-4
-returns-4 c = rw (c .before .enum-told4 .given .1) (c .no-keys2 .ensures)
+returns-4 c w a = rw (c .before .enum-told4 .given .1) (c .no-keys2 .ensures .0)
 
 returns-5 : tie.Need-returns-5
-returns-5 c = let s = c .before .before .before in rw (c .enum-told5 .given .1) (own-order (s .args .f) (s .pre .0))
+returns-5 c w a = rw (c .enum-told5 .given .1) (record { is = refl; few = c .before .before .pre })
 
 returns-6 : tie.Need-returns-6
-returns-6 c = let s = c .before .before .before in rw (c .enum-told6 .given .1) (own-order (s .args .f) (s .pre .0))
+returns-6 c w a = rw (c .enum-told6 .given .1) (record { is = refl; few = c .before .before .pre })
 
 returns-7 : tie.Need-returns-7
-returns-7 c = rw (c .before .enum-told7 .given .1) (c .no-keys3 .ensures)
+returns-7 c w a = rw (c .before .enum-told7 .given .1) (c .no-keys3 .ensures .0)
 
 returns-8 : tie.Need-returns-8
-returns-8 c = rw (c .before .enum-told8 .given .1) (c .no-keys4 .ensures)
+returns-8 c w a = rw (c .before .enum-told8 .given .1) (c .no-keys4 .ensures .0)
 
 pub left-order-spec : {M : Type 1} → statement M
 left-order-spec =

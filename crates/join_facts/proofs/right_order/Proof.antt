@@ -1,6 +1,12 @@
--- `join_facts::right_order` meets its contract: one case for each join type. Assumes nothing.
+-- `join_facts::right_order` meets its contract. Assumes nothing.
 use borrow.Author.Needs.{needs}
-use Rattle.join_facts.specs.Placing.{own-order}
+use native.Mathlib.Omega.{arith}
+use mathlib.Core.Path.{refl, subst}
+use Prim.Native.Nat.{_+_, _≤_}
+use Rattle.row_order.specs.Lists.{All, all-map}
+use Rattle.plan.specs.WellFormed.{joinWidth}
+use Rattle.plan.specs.declared.JoinType.{JoinType}
+use Rattle.key_lists.specs.Keys.{keysOf}
 use Rattle.join_facts.proofs.right_order.Statement.{statement}
 use Rattle.join_facts.proofs.right_order.Tie as tie
 
@@ -8,7 +14,7 @@ enum-told : tie.Need-enum-told
 enum-told c = search needs
 
 moved-order-requires : tie.Need-moved-order-requires
-moved-order-requires c κs = let s = c .before .before .before in let w = s .pre .2 in (s .pre .0, s .pre .1, rw (c .enum-told .given .1) at w)
+moved-order-requires c κs = let s = c .before .before in (s .pre .0, all-map (λ k l. omega arith) (subst (λ (t : JoinType). All (λ k. joinWidth t (s .args .w) (k .col + 1) ≤ 32) (keysOf (s .args .keys))) (c .enum-told .given .1) (s .pre .1)), s .pre .2)
 
 enum-told-2 : tie.Need-enum-told-2
 enum-told-2 c = search needs
@@ -20,7 +26,7 @@ enum-told-3 : tie.Need-enum-told-3
 enum-told-3 c = search needs
 
 moved-order-requires-2 : tie.Need-moved-order-requires-2
-moved-order-requires-2 c κs = let s = c .before .before .before in let w = s .pre .2 in (s .pre .0, s .pre .1, rw (c .enum-told3 .given .1) at w)
+moved-order-requires-2 c κs = let s = c .before .before in (s .pre .0, all-map (λ k l. omega arith) (subst (λ (t : JoinType). All (λ k. joinWidth t (s .args .w) (k .col + 1) ≤ 32) (keysOf (s .args .keys))) (c .enum-told3 .given .1) (s .pre .1)), s .pre .2)
 
 enum-told-4 : tie.Need-enum-told-4
 enum-told-4 c = search needs
@@ -50,25 +56,25 @@ returns : tie.Need-returns
 returns c = rw (c .before .enum-told .given .1) (c .moved-order .ensures)
 
 returns-2 : tie.Need-returns-2
-returns-2 c = rw (c .before .enum-told2 .given .1) (c .no-keys .ensures)
+returns-2 c = rw (c .before .enum-told2 .given .1) (c .no-keys .ensures .0)
 
 returns-3 : tie.Need-returns-3
 returns-3 c = rw (c .before .enum-told3 .given .1) (c .moved-order2 .ensures)
 
 returns-4 : tie.Need-returns-4
-returns-4 c = rw (c .before .enum-told4 .given .1) (c .no-keys2 .ensures)
+returns-4 c = rw (c .before .enum-told4 .given .1) (c .no-keys2 .ensures .0)
 
 returns-5 : tie.Need-returns-5
-returns-5 c = rw (c .before .enum-told5 .given .1) (c .no-keys3 .ensures)
+returns-5 c = rw (c .before .enum-told5 .given .1) (c .no-keys3 .ensures .0)
 
 returns-6 : tie.Need-returns-6
-returns-6 c = rw (c .before .enum-told6 .given .1) (c .no-keys4 .ensures)
+returns-6 c = rw (c .before .enum-told6 .given .1) (c .no-keys4 .ensures .0)
 
 returns-7 : tie.Need-returns-7
-returns-7 c = let s = c .before .before .before in rw (c .enum-told7 .given .1) (own-order (s .args .f) (s .pre .0))
+returns-7 c = rw (c .enum-told7 .given .1) (record { is = refl; few = c .before .before .pre .2 })
 
 returns-8 : tie.Need-returns-8
-returns-8 c = let s = c .before .before .before in rw (c .enum-told8 .given .1) (own-order (s .args .f) (s .pre .0))
+returns-8 c = rw (c .enum-told8 .given .1) (record { is = refl; few = c .before .before .pre .2 })
 
 pub right-order-spec : {M : Type 1} → statement M
 right-order-spec =

@@ -1,14 +1,13 @@
--- `key_lists::drop_repeats` meets its contract: fresh keys where no column is constant. Assumes nothing.
+-- `key_lists::drop_repeats` meets its contract. Assumes nothing.
 use borrow.Author.Needs.{needs}
-use mathlib.Core.Path.{sym, _∙_, ap, fun-ext, subst}
+use mathlib.Core.Path.{ap, sym, _∙_, subst, fun-ext}
 use mathlib.Core.Bool.{Bool}
-use mathlib.Core.List.{List, [], map}
+use mathlib.Core.List.{List, []}
 use Prim.Native.Nat.{ℕ}
 use Rattle.row_order.specs.Iso.{Key}
-use Rattle.row_order.specs.Packed.{keyOf}
 use Rattle.semantics.specs.Facts.{nfBy}
 use Rattle.column_sets.specs.Bits.{bit-none}
-use Rattle.key_lists.specs.Keys.{Keyed}
+use Rattle.key_lists.specs.Keys.{Keyed, keysOf}
 use Rattle.key_lists.specs.Normalising.{repeats-normal}
 use Rattle.key_lists.proofs.drop_repeats.Statement.{statement}
 use Rattle.key_lists.proofs.drop_repeats.Tie as tie
@@ -18,7 +17,7 @@ fresh-keys-requires c κs = search needs
 
 returns : tie.Need-returns
 returns c =
-    let ks = map keyOf (c .before .before .args .keys .now) in
+    let ks = keysOf (c .before .args .k) in
     subst (λ (l : List Key). Keyed l (c .fresh-keys .result)) (ap (λ (f : ℕ → Bool). nfBy f (λ d. d) [] ks) (fun-ext bit-none) ∙ sym (repeats-normal [] ks)) (c .fresh-keys .ensures)
 
 pub drop-repeats-spec : {M : Type 1} → statement M

@@ -1,27 +1,27 @@
--- `key_lists::move_keys` meets its contract: the loop's invariant: the items and what is left, moved, are the whole list moved. The measure is the number of keys left. Assumes nothing.
+-- `key_lists::move_keys` meets its contract. Assumes nothing.
 use borrow.Author.Needs.{needs}
 use native.Mathlib.Omega.{arith}
-use mathlib.Core.Path.{_≡_, refl, _∙_, ap, ap₂, subst, subst⁻¹}
+use mathlib.Core.Path.{_≡_, ap, _∙_, subst, subst⁻¹}
 use mathlib.Core.List.{map}
-use Prim.Native.Nat.{_+_, _-_, _≤_}
+use Prim.Native.Nat.{_+_, _-_, _/_, _≤_}
 use lib.IntN.{ℤ, pos, natAbs, _+ℤ_}
-use lib.ListN.{length, getD}
 use mir.Syntax.{w64}
 use mir.Val.{toZ, ofZ}
 use mir.ValLaws.{toZ-ofZ}
 use Rattle.row_order.specs.Packed.{keyOf}
+use Rattle.row_order.specs.Lists.{All}
 use Rattle.semantics.specs.Facts.{withColumn}
-use Rattle.key_lists.specs.Keys.{Keyed, InRange, Movable, movedBy}
+use Rattle.key_lists.specs.Keys.{keysIn, keysOf, Keyed, InRange, Movable, movedBy}
+use Rattle.key_lists.specs.Lists.{Building, begun, no-length, rebuilt, grown, built, map-next, map-end, first-of, rest-of}
 use Rattle.key_lists.specs.Offsets.{column-below}
-use Rattle.key_lists.specs.Lists.{rest, map-next, map-end, key-at, Building, rebuilt, grown, built}
 use Rattle.key_lists.proofs.move_keys.Statement.{statement}
 use Rattle.key_lists.proofs.move_keys.Tie as tie
 
 abbrev Inv-loop : tie.InvT-loop
-Inv-loop keys by items₀ i₀ items i = (i ≤ length keys) × Building (map (movedBy (toZ w64 by)) (map keyOf keys)) items i (map (movedBy (toZ w64 by)) (rest keys i))
+Inv-loop by out₀ rest₀ left₀ out rest left = (out .len + left ≤ 8) × All (Movable (toZ w64 by)) (keysIn left rest) × Building (map (movedBy (toZ w64 by)) (keysIn left₀ rest₀)) out (map (movedBy (toZ w64 by)) (keysIn left rest))
 
 abbrev μ-loop : tie.MeasureT-loop
-μ-loop keys by items₀ i₀ items i = length keys - i
+μ-loop by out₀ rest₀ left₀ out rest left = left
 
 -- the offset as the machine holds it, and that it is the offset
 abbrev signed : tie.Start Inv-loop μ-loop → ℤ
@@ -30,19 +30,21 @@ signed s = toZ w64 (ofZ w64 (s .args .by))
 signed-is : (s : tie.Start Inv-loop μ-loop) → signed s ≡ s .args .by
 signed-is s = toZ-ofZ w64 (s .args .by) (s .fits .by)
 
-ranged : (c : tie.After-column Inv-loop μ-loop) → InRange (pos (c .column .result) +ℤ signed (c .before .before .before .before .before))
+ranged : (c : tie.After-column Inv-loop μ-loop) → InRange (pos (c .column .result) +ℤ signed (c .before .before .before .before))
 ranged c =
-    let s = c .before .before .before .before .before in
-    subst⁻¹ InRange (ap₂ (λ a b. pos a +ℤ b) (c .column .ensures) (signed-is s)) (key-at (Movable (s .args .by)) (s .args .keys .now) (c .before .before .before .loop .i) (s .pre .0) (c .before .before .loop-test .taken))
+    let l = c .before .before .loop in
+    subst⁻¹ InRange (ap (λ a. pos a +ℤ signed (c .before .before .before .before)) (c .column .ensures)) (first-of (Movable (signed (c .before .before .before .before))) (l .left) (l .rest) (c .before .loop-test .taken) (l .inv .1))
+
+no-keys-requires : tie.Need-no-keys-requires Inv-loop μ-loop
+no-keys-requires c κs = search needs
 
 loop-holds : tie.Need-loop-holds Inv-loop μ-loop
-loop-holds c = (omega arith, record { long = refl; is = refl })
-
-mul-key : tie.Need-mul-key Inv-loop μ-loop
-mul-key c = search needs
-
-shared-slice-read-key : tie.Need-shared-slice-read-key Inv-loop μ-loop
-shared-slice-read-key c = search needs
+loop-holds c =
+    let s = c .before in let z = no-length (c .no-keys .result) (c .no-keys .ensures .0) in (
+      omega (arith, s .pre .1),
+      subst⁻¹ (λ (z : ℤ). All (Movable z) (keysOf (s .args .k))) (signed-is s) (s .pre .0),
+      begun _ (c .no-keys .result) (c .no-keys .ensures .0) (c .no-keys .ensures .1),
+    )
 
 column-requires : tie.Need-column-requires Inv-loop μ-loop
 column-requires c κs = search needs
@@ -53,30 +55,28 @@ move-column-requires c κs = (rw (c .column .ensures) (omega arith), ranged c)
 with-column-requires : tie.Need-with-column-requires Inv-loop μ-loop
 with-column-requires c κs = column-below (c .move-column .result) (c .move-column .ensures) (ranged (c .before))
 
-mul-items : tie.Need-mul-items Inv-loop μ-loop
-mul-items c = search needs
+appended-requires : tie.Need-appended-requires Inv-loop μ-loop
+appended-requires c κs = let l = c .before .before .before .before .loop in let f = l .inv .0 in (l .inv .2 .tight, omega (arith, c .before .before .before .loop-test .taken))
 
-array-write-items : tie.Need-array-write-items Inv-loop μ-loop
-array-write-items c = search needs
-
-add-i : tie.Need-add-i Inv-loop μ-loop
-add-i c = search needs
+sub-left : tie.Need-sub-left Inv-loop μ-loop
+sub-left c = search needs
 
 loop-less : tie.Need-loop-less Inv-loop μ-loop
 loop-less c = search needs
 
 loop-again : tie.Need-loop-again Inv-loop μ-loop
 loop-again c =
-    let s = c .before .before .before .before .before .before .before in let k = s .args .keys .now in let l = c .before .before .before .before .before .loop in let h = c .before .before .before .before .loop-test .taken in let z = signed s in let key = getD k (l .i) 0 in (
+    let s = c .before .before .before .before .before .before .before in let l = c .before .before .before .before .before .loop in let h = c .before .before .before .before .loop-test .taken in let z = signed s in let f = l .inv .0 in let g = c .appended .ensures .len in (
       omega arith,
-      grown (map (movedBy z) (map keyOf k)) (l .items) (l .i) (c .with-column .result) (movedBy z (keyOf key)) (map (movedBy z) (rest k (l .i + 1))) (rebuilt (map (movedBy z) (map keyOf k)) (l .items) (l .i) (map-next (movedBy z) k (l .i) h) (l .inv .1)) (omega arith)
-          (c .with-column .ensures ∙ ap (λ d. withColumn d (keyOf key)) (ap natAbs (c .before .move-column .ensures ∙ ap (λ a. pos a +ℤ z) (c .before .before .column .ensures)))),
+      rest-of (Movable z) (l .left) (l .rest) h (l .inv .1),
+      grown _ (l .out) (c .before .with-column .result) (c .appended .result) (movedBy z (keyOf (l .rest))) (map (movedBy z) (keysIn (l .left - 1) (l .rest / 256))) (rebuilt (map-next (movedBy z) (l .left) (l .rest) h) (l .inv .2)) (c .appended .ensures)
+          (c .before .with-column .ensures ∙ ap (λ d. withColumn d (keyOf (l .rest))) (ap natAbs (c .before .before .move-column .ensures ∙ ap (λ a. pos a +ℤ z) (c .before .before .before .column .ensures)))),
     )
 
 returns : tie.Need-returns Inv-loop μ-loop
 returns c =
-    let s = c .before .before .before in let k = s .args .keys .now in let l = c .before .loop in let z = signed s in
-    subst (λ (y : ℤ). Keyed (map (movedBy y) (map keyOf k)) (record { items = l .items; len = l .i })) (signed-is s) (built (map (movedBy z) (map keyOf k)) (l .items) (l .i) (omega arith) (rebuilt (map (movedBy z) (map keyOf k)) (l .items) (l .i) (map-end (movedBy z) k (l .i) (omega arith)) (l .inv .1)))
+    let s = c .before .before .before in let l = c .before .loop in let z = signed s in let f = l .inv .0 in
+    subst (λ (y : ℤ). Keyed (map (movedBy y) (keysOf (s .args .k))) (l .out)) (signed-is s) (built _ (l .out) (omega arith) (rebuilt (map-end (movedBy z) (l .left) (l .rest) (omega arith)) (l .inv .2)))
 
 pub move-keys-spec : {M : Type 1} → statement M
 move-keys-spec =
@@ -84,15 +84,13 @@ move-keys-spec =
     (tie.spec
     Inv-loop
     μ-loop
+    no-keys-requires
     loop-holds
-    mul-key
-    shared-slice-read-key
     column-requires
     move-column-requires
     with-column-requires
-    mul-items
-    array-write-items
-    add-i
+    appended-requires
+    sub-left
     loop-less
     loop-again
     returns)

@@ -130,6 +130,12 @@ array-write-w c =
     let l = c₉ .loop in let s = c₁₂ in let z = c₈ .loop-test .taken in let p = l .inv .1 in let a = s .pre in
     let r = fill-room (s .args .s .now) (s .args .c) _ a (l .i) (l .u) (l .t) (l .w) (l .m) z p in let r₀ = r .0 in let r₁ = r .1 in let g = p .wide in omega arith
 
+mul-w-2 : tie.Need-mul-w-2 Inv-loop μ-loop
+mul-w-2 c =
+    let c₈ = c .before .before .before .before .before .before .before .before in let c₉ = c₈ .before in let c₁₂ = c₉ .before .before .before in
+    let l = c₉ .loop in let s = c₁₂ in let z = c₈ .loop-test .taken in let p = l .inv .1 in let a = s .pre in
+    let r = fill-room (s .args .s .now) (s .args .c) _ a (l .i) (l .u) (l .t) (l .w) (l .m) z p in let r₀ = r .0 in let r₁ = r .1 in omega arith
+
 add-u : tie.Need-add-u Inv-loop μ-loop
 add-u c =
     let c₈ = c .before .before .before .before .before .before .before .before in let c₉ = c₈ .before in let c₁₂ = c₉ .before .before .before in
@@ -144,7 +150,7 @@ loop-again : tie.Need-loop-again Inv-loop μ-loop
 loop-again c =
     let c₈ = c .before .before .before .before .before .before .before .before in let c₉ = c₈ .before in let c₁₂ = c₉ .before .before .before in
     let l = c₉ .loop in let s = c₁₂ in let z = c₈ .loop-test .taken in let p = l .inv .1 in let a = s .pre in
-    (c .before .before .append .kept .0 ∙ l .inv .0, fill-next (s .args .s .now) (s .args .c) _ a (l .i) (l .u) (l .t) (l .w) (l .m) z p _ (c .before .before .append .ensures .0))
+    (c .before .before .append .kept .0 ∙ l .inv .0, fill-next (s .args .s .now) (s .args .c) _ a (l .i) (l .u) (l .t) (l .w) (l .m) z p _ (c .before .before .append .ensures))
 
 mul-root : tie.Need-mul-root Inv-loop μ-loop
 mul-root c =
@@ -193,6 +199,7 @@ fill-spec =
     append-requires
     sub-t
     mul-w
+    mul-w-2
     array-write-w
     add-u
     loop-less

@@ -1,7 +1,7 @@
 use borrow.Author.Needs.{needs}
 use mathlib.Core.Path.{refl, sym, ap, _∙_}
 use Rattle.plan.specs.Numbers.{numberOf}
-use Rattle.plan_arena.specs.Answers.{few-blocks, fillable, is-accepted}
+use Rattle.plan_arena.specs.Answers.{refusedWith, few-blocks, fillable, is-accepted}
 use Rattle.plan_arena.proofs.read.Statement.{statement}
 use Rattle.plan_arena.proofs.read.Tie as tie
 
@@ -12,7 +12,7 @@ number-requires : tie.Need-number-requires
 number-requires c κs = search needs
 
 returns : tie.Need-returns
-returns c = record { refusal = c .before .before .refusal-of .ensures; holds = λ e. absurd (c .if1 .taken (c .before .number .ensures ∙ ap numberOf (c .before .before .refusal-of .ensures ∙ e))); stays = λ e. refl }
+returns c = record { refusal = c .before .before .refusal-of .ensures; holds = λ e. absurd (c .if1 .taken (c .before .number .ensures ∙ ap numberOf (c .before .before .refusal-of .ensures ∙ e))); stays = λ e. (refl, ap refusedWith (c .before .before .refusal-of .ensures)) }
 
 record-count-requires : tie.Need-record-count-requires
 record-count-requires c κs =

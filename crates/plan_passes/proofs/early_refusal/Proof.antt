@@ -1,10 +1,9 @@
+use borrow.Author.Needs.{needs}
 use mathlib.Core.Path.{refl, sym, _∙_}
 use lib.ListN.{length}
 use borrow.Author.Tests.{not-false}
 use Rattle.plan_format.specs.Reading.{earlyRefusal}
-use Rattle.plan_passes.specs.Laws.{count-le}
-use Rattle.plan_passes.specs.Laws.{refuse-stop, refuse-on, length-facts}
-use borrow.Author.Needs.{needs}
+use Rattle.plan_passes.specs.Laws.{refuse-stop, refuse-on, length-facts, count-le}
 use Rattle.plan_passes.proofs.early_refusal.Statement.{statement}
 use Rattle.plan_passes.proofs.early_refusal.Tie as tie
 
@@ -26,27 +25,27 @@ headers-ok-requires c κs = search needs
 returns-2 : tie.Need-returns-2
 unfolding earlyRefusal
 returns-2 c =
-    let u = c .before .before in let l = u .before .before in
-    refuse-on (l .length-ok .result) _ _ _ _ (l .length-ok .ensures) (u .before .if1 .left)
+    let u = c .before .before in let l = c .before .before .before .before in
+    refuse-on (l .length-ok .result) _ _ _ _ (l .length-ok .ensures) (c .before .before .before .if1 .left)
     (refuse-stop (u .sums-ok .result) _ _ _ (u .sums-ok .ensures) (c .if2 .taken))
 
 returns-3 : tie.Need-returns-3
 unfolding earlyRefusal
 returns-3 c =
-    let h = c .before .before in let u = h .before in let l = u .before .before in
-    refuse-on (l .length-ok .result) _ _ _ _ (l .length-ok .ensures) (u .before .if1 .left)
+    let h = c .before .before in let u = c .before .before .before in let l = c .before .before .before .before .before in
+    refuse-on (l .length-ok .result) _ _ _ _ (l .length-ok .ensures) (c .before .before .before .before .if1 .left)
     (refuse-on (u .sums-ok .result) _ _ _ _ (u .sums-ok .ensures) (c .before .if2 .left)
     (refuse-stop (h .headers-ok .result) _ _ _ (h .headers-ok .ensures) (c .if3 .taken)))
 
 record-count-requires : tie.Need-record-count-requires
 record-count-requires c κs =
-    let l = c .before .before .before .before .before in let b = l .before .before .args .s .now in
-    let f = length-facts (l .length-ok .result) (length b) (l .length-ok .ensures) (c .before .before .before .before .if1 .left) in
+    let c₄ = c .before .before .before .before in let c₅ = c₄ .before in let c₇ = c₅ .before .before in
+    let l = c₅ in let f = length-facts (l .length-ok .result) (length (c₇ .args .s .now)) (l .length-ok .ensures) (c₄ .if1 .left) in
     (refl, f .0, f .1)
 
-kinds-ok-requires : tie.Need-kinds-ok-requires
-kinds-ok-requires c κs =
-    let l = c .before .before .before .before .before .before in let b = l .before .before .args .s .now in
+records-of-requires : tie.Need-records-of-requires
+records-of-requires c κs =
+    let l = c .before .before .before .before .before .before in let b = c .before .before .before .before .before .before .before .before .args .s .now in
     let f = length-facts (l .length-ok .result) (length b) (l .length-ok .ensures) (c .before .before .before .before .before .if1 .left) in
     let e = c .record-count .ensures in
     (e, rw e (count-le b (f .0) (sym (c .before .before .before .headers-ok .ensures) ∙ not-false _ (c .before .if3 .left))))
@@ -54,57 +53,51 @@ kinds-ok-requires c κs =
 returns-4 : tie.Need-returns-4
 unfolding earlyRefusal
 returns-4 c =
-    let k = c .before in let h = k .before .before .before .before in let u = h .before in let l = u .before .before in
-    refuse-on (l .length-ok .result) _ _ _ _ (l .length-ok .ensures) (u .before .if1 .left)
-    (refuse-on (u .sums-ok .result) _ _ _ _ (u .sums-ok .ensures) (k .before .before .before .if2 .left)
-    (refuse-on (h .headers-ok .result) _ _ _ _ (h .headers-ok .ensures) (k .before .before .if3 .left)
-    (refuse-stop (k .kinds-ok .result) _ _ _ (k .kinds-ok .ensures) (c .if4 .taken))))
-
-tree-ok-requires : tie.Need-tree-ok-requires
-tree-ok-requires c κs =
-    let l = c .before .before .before .before .before .before .before .before in let b = l .before .before .args .s .now in
-    let f = length-facts (l .length-ok .result) (length b) (l .length-ok .ensures) (c .before .before .before .before .before .before .before .if1 .left) in
-    let e = c .before .before .record-count .ensures in
-    (e, rw e (count-le b (f .0) (sym (c .before .before .before .before .before .headers-ok .ensures) ∙ not-false _ (c .before .before .before .if3 .left))))
+    let c₃ = c .before .before .before in let c₄ = c₃ .before in let c₅ = c₄ .before in let c₆ = c₅ .before in let c₇ = c₆ .before in
+    let c₈ = c₇ .before in
+    let x = c .before .records-of in let h = c₅ in let u = c₆ in let l = c₈ in
+    refuse-on (l .length-ok .result) _ _ _ _ (l .length-ok .ensures) (c₇ .if1 .left)
+    (refuse-on (u .sums-ok .result) _ _ _ _ (u .sums-ok .ensures) (c₄ .if2 .left)
+    (refuse-on (h .headers-ok .result) _ _ _ _ (h .headers-ok .ensures) (c₃ .if3 .left)
+    (refuse-stop (x .result .kinds) _ _ _ (x .ensures .kinds) (c .if4 .taken))))
 
 returns-5 : tie.Need-returns-5
 unfolding earlyRefusal
 returns-5 c =
-    let t = c .before in let k = t .before .before in let h = k .before .before .before .before in let u = h .before in let l = u .before .before in
-    refuse-on (l .length-ok .result) _ _ _ _ (l .length-ok .ensures) (u .before .if1 .left)
-    (refuse-on (u .sums-ok .result) _ _ _ _ (u .sums-ok .ensures) (k .before .before .before .if2 .left)
-    (refuse-on (h .headers-ok .result) _ _ _ _ (h .headers-ok .ensures) (k .before .before .if3 .left)
-    (refuse-on (k .kinds-ok .result) _ _ _ _ (k .kinds-ok .ensures) (t .before .if4 .left)
-    (refuse-stop (t .tree-ok .result) _ _ _ (t .tree-ok .ensures) (c .if5 .taken)))))
-
-records-ok-requires : tie.Need-records-ok-requires
-records-ok-requires c κs =
-    let l = c .before .before .before .before .before .before .before .before .before .before in let b = l .before .before .args .s .now in
-    let f = length-facts (l .length-ok .result) (length b) (l .length-ok .ensures) (c .before .before .before .before .before .before .before .before .before .if1 .left) in
-    let e = c .before .before .before .before .record-count .ensures in
-    (e, rw e (count-le b (f .0) (sym (c .before .before .before .before .before .before .before .headers-ok .ensures) ∙ not-false _ (c .before .before .before .before .before .if3 .left))))
+    let c₄ = c .before .before .before .before in let c₅ = c₄ .before in let c₆ = c₅ .before in let c₇ = c₆ .before in let c₈ = c₇ .before in
+    let c₉ = c₈ .before in
+    let x = c .before .before .records-of in let h = c₆ in let u = c₇ in let l = c₉ in
+    refuse-on (l .length-ok .result) _ _ _ _ (l .length-ok .ensures) (c₈ .if1 .left)
+    (refuse-on (u .sums-ok .result) _ _ _ _ (u .sums-ok .ensures) (c₅ .if2 .left)
+    (refuse-on (h .headers-ok .result) _ _ _ _ (h .headers-ok .ensures) (c₄ .if3 .left)
+    (refuse-on (x .result .kinds) _ _ _ _ (x .ensures .kinds) (c .before .if4 .left)
+    (refuse-stop (x .result .tree) _ _ _ (x .ensures .tree) (c .if5 .taken)))))
 
 returns-6 : tie.Need-returns-6
 unfolding earlyRefusal
 returns-6 c =
-    let r = c .before in let t = r .before .before in let k = t .before .before in let h = k .before .before .before .before in let u = h .before in let l = u .before .before in
-    refuse-on (l .length-ok .result) _ _ _ _ (l .length-ok .ensures) (u .before .if1 .left)
-    (refuse-on (u .sums-ok .result) _ _ _ _ (u .sums-ok .ensures) (k .before .before .before .if2 .left)
-    (refuse-on (h .headers-ok .result) _ _ _ _ (h .headers-ok .ensures) (k .before .before .if3 .left)
-    (refuse-on (k .kinds-ok .result) _ _ _ _ (k .kinds-ok .ensures) (t .before .if4 .left)
-    (refuse-on (t .tree-ok .result) _ _ _ _ (t .tree-ok .ensures) (r .before .if5 .left)
-    (refuse-stop (r .records-ok .result) _ _ _ (r .records-ok .ensures) (c .if6 .taken))))))
+    let c₃ = c .before .before .before in let c₅ = c₃ .before .before in let c₆ = c₅ .before in let c₇ = c₆ .before in let c₈ = c₇ .before in
+    let c₉ = c₈ .before in let c₁₀ = c₉ .before in
+    let x = c₃ .records-of in let h = c₇ in let u = c₈ in let l = c₁₀ in
+    refuse-on (l .length-ok .result) _ _ _ _ (l .length-ok .ensures) (c₉ .if1 .left)
+    (refuse-on (u .sums-ok .result) _ _ _ _ (u .sums-ok .ensures) (c₆ .if2 .left)
+    (refuse-on (h .headers-ok .result) _ _ _ _ (h .headers-ok .ensures) (c₅ .if3 .left)
+    (refuse-on (x .result .kinds) _ _ _ _ (x .ensures .kinds) (c .before .before .if4 .left)
+    (refuse-on (x .result .tree) _ _ _ _ (x .ensures .tree) (c .before .if5 .left)
+    (refuse-stop (x .result .rules) _ _ _ (x .ensures .rules) (c .if6 .taken))))))
 
 returns-7 : tie.Need-returns-7
 unfolding earlyRefusal
 returns-7 c =
-    let r = c .before in let t = r .before .before in let k = t .before .before in let h = k .before .before .before .before in let u = h .before in let l = u .before .before in
-    refuse-on (l .length-ok .result) _ _ _ _ (l .length-ok .ensures) (u .before .if1 .left)
-    (refuse-on (u .sums-ok .result) _ _ _ _ (u .sums-ok .ensures) (k .before .before .before .if2 .left)
-    (refuse-on (h .headers-ok .result) _ _ _ _ (h .headers-ok .ensures) (k .before .before .if3 .left)
-    (refuse-on (k .kinds-ok .result) _ _ _ _ (k .kinds-ok .ensures) (t .before .if4 .left)
-    (refuse-on (t .tree-ok .result) _ _ _ _ (t .tree-ok .ensures) (r .before .if5 .left)
-    (refuse-on (r .records-ok .result) _ _ _ _ (r .records-ok .ensures) (c .if6 .left)
+    let c₃ = c .before .before .before in let c₅ = c₃ .before .before in let c₆ = c₅ .before in let c₇ = c₆ .before in let c₈ = c₇ .before in
+    let c₉ = c₈ .before in let c₁₀ = c₉ .before in
+    let x = c₃ .records-of in let h = c₇ in let u = c₈ in let l = c₁₀ in
+    refuse-on (l .length-ok .result) _ _ _ _ (l .length-ok .ensures) (c₉ .if1 .left)
+    (refuse-on (u .sums-ok .result) _ _ _ _ (u .sums-ok .ensures) (c₆ .if2 .left)
+    (refuse-on (h .headers-ok .result) _ _ _ _ (h .headers-ok .ensures) (c₅ .if3 .left)
+    (refuse-on (x .result .kinds) _ _ _ _ (x .ensures .kinds) (c .before .before .if4 .left)
+    (refuse-on (x .result .tree) _ _ _ _ (x .ensures .tree) (c .before .if5 .left)
+    (refuse-on (x .result .rules) _ _ _ _ (x .ensures .rules) (c .if6 .left)
     refl)))))
 
 pub early-refusal-spec : {M : Type 1} → statement M
@@ -118,10 +111,8 @@ early-refusal-spec =
     returns-2
     returns-3
     record-count-requires
-    kinds-ok-requires
+    records-of-requires
     returns-4
-    tree-ok-requires
     returns-5
-    records-ok-requires
     returns-6
     returns-7)

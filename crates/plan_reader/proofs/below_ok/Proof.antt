@@ -26,7 +26,8 @@ shared-slice-read-if1 c = search needs
 returns : tie.Need-returns Inv-loop μ-loop
 unfolding belowOk
 returns c =
-    let c₃ = c .before .before .before in let c₄ = c₃ .before in
+    let c₃ = c .before .before .before in
+    let c₃ = c₃ in let c₄ = c₃ .before in
     let s = c₄ in let b = s .args .l .now in let k = c₃ .loop .i in all-fail (λ i. ltb (getD b i 0) (s .args .w)) k (length b) (c .before .before .loop-test .taken) (le-ltb (getD b k 0) (s .args .w) (c .if1 .taken))
 
 add-i : tie.Need-add-i Inv-loop μ-loop
@@ -37,7 +38,8 @@ loop-less c = search needs
 
 loop-again : tie.Need-loop-again Inv-loop μ-loop
 loop-again c =
-    let c₃ = c .before .before .before in let c₄ = c₃ .before in
+    let c₃ = c .before .before .before in
+    let c₃ = c₃ in let c₄ = c₃ .before in
     let s = c₄ in let b = s .args .l .now in let l = c₃ .loop in let k = l .i in (search needs, all-more (λ i. ltb (getD b i 0) (s .args .w)) k (l .inv .1) (lt-ltb (getD b k 0) (s .args .w) (c .if1 .left)))
 
 returns-2 : tie.Need-returns-2 Inv-loop μ-loop

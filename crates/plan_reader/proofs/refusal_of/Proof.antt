@@ -17,11 +17,13 @@ number-requires c κs = search needs
 returns : tie.Need-returns
 returns c =
     let c₄ = c .before .before .before .before in
+    let c₄ = c₄ in
     let s = c₄ in first-stop (s .args .s .now) (c .before .before .early-refusal .result) (c .before .before .early-refusal .ensures) (λ g. c .if1 .taken (c .before .number .ensures ∙ g))
 
 record-count-requires : tie.Need-record-count-requires
 record-count-requires c κs =
     let c₄ = c .before .before .before .before in
+    let c₄ = c₄ in
     let b = c₄ .args .s .now in let f = few-records b (passed b (sym (c .before .number .ensures ∙ ap numberOf (c .before .before .early-refusal .ensures)) ∙ c .if1 .left)) in
     (refl, f .0, f .1)
 
@@ -33,7 +35,8 @@ last-pass-requires c κs =
 
 returns-2 : tie.Need-returns-2
 returns-2 c =
-    let c₃ = c .before .before .before in let c₄ = c₃ .before in let c₆ = c₄ .before .before in
+    let c₃ = c .before .before .before in
+    let c₃ = c₃ in let c₄ = c₃ .before in let c₆ = c₄ .before .before in
     first-on (c₆ .args .s .now) (c .last-pass .result) (sym (c₃ .number .ensures ∙ ap numberOf (c₄ .early-refusal .ensures)) ∙ c .before .before .if1 .left) (c .last-pass .ensures)
 
 pub refusal-of-spec : {M : Type 1} → statement M

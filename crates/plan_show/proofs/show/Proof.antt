@@ -2,12 +2,9 @@ use borrow.Author.Needs.{needs}
 use native.Mathlib.Omega.{arith}
 use mathlib.Core.Path.{sym, _∙_}
 use Rattle.plan_arena.specs.Answers.{is-accepted}
-use Rattle.order_check.specs.Reading.{sounds}
+use Rattle.plan_context.specs.Reading.{loaded-all}
 use Rattle.plan_show.proofs.show.Statement.{statement}
 use Rattle.plan_show.proofs.show.Tie as tie
-use Rattle.plan_show.proofs.show.Reads as reads
-use Rattle.plan_show.proofs.show.Lts as lts
-use Rattle.order_check.proofs.cache.Reads as cache-reads
 use Rattle.plan.proofs.number.Reads as number-reads
 use Rattle.plan_arena.proofs.read.Reads as read-reads
 use Rattle.plan_show.proofs.list.Reads as list-reads
@@ -20,16 +17,16 @@ read-requires c κs = search needs
 number-requires : tie.Need-number-requires
 number-requires c κs = search needs
 
-cache-requires : tie.Need-cache-requires
-cache-requires c κs =
+settle-all-requires : tie.Need-settle-all-requires
+settle-all-requires c κs =
     let t = c .before .before .before .before .before in let s = t .before .before .before .before in
     let l = s .pre in let k = t .read .kept .1 .0 in let q = t .read .ensures in let r = t .read .result in
     let e = is-accepted (s .args .plan .now) (r .refusal) (q .refusal) (sym (c .before .before .number .ensures) ∙ c .before .if1 .taken) in
     let by = t .before .before .before .shared-slice-known .given in
-    sounds (s .args .plan .now) e (record { below = λ i g. omega (arith, by i) }) (t .read .last .1 .0) (r .used) (r .root) (omega arith) (q .holds e)
+    loaded-all (s .args .plan .now) e (record { below = λ i g. omega (arith, by i) }) (t .read .last .1 .0) (r .used) (r .root) (omega arith) (q .holds e)
 
 list-requires : tie.Need-list-requires
-list-requires c κs = let h = cache-requires (c .before .before .before .before) κs .slots in let k = c .before .before .before .cache .kept .0 in omega arith
+list-requires c κs = let h = settle-all-requires (c .before .before .before .before) κs .slots in let k = c .before .before .before .settle-all .kept .0 in omega arith
 
 cast-put-number : tie.Need-cast-put-number
 cast-put-number c = search needs
@@ -61,7 +58,7 @@ show-spec =
     (tie.spec
     read-requires
     number-requires
-    cache-requires
+    settle-all-requires
     list-requires
     cast-put-number
     put-number-requires

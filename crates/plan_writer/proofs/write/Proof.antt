@@ -1,11 +1,14 @@
-use mathlib.Core.Path.{refl, ap, _∙_}
+use mathlib.Core.Path.{refl, sym, ap, _∙_}
+use mathlib.Core.Bool.{cond}
 use Prim.Native.Nat.{_*_, _-_}
 use native.Mathlib.Omega.{arith}
 use lib.ListN.{length}
 use Rattle.scan.specs.Bytes.{cut, length-part}
-use Rattle.plan_format.specs.Writing.{blockOf}
+use Rattle.plan.specs.declared.Refusal.the-variants.{Accepted, OutputTooShort}
+use Rattle.plan_format.specs.Writing.{blockOf, blocksFor}
 use borrow.Author.Tests.{lt-ltb, le-ltb}
-use Rattle.plan_writer.specs.Laws.{Blocks, blocks-none, blocks-more, blocks-end, short-out, length-seven}
+use Rattle.plan_format.specs.Written.{length-seven}
+use Rattle.plan_writer.specs.Laws.{Blocks, blocks-none, blocks-more, blocks-end, short-out}
 use borrow.Author.Needs.{needs}
 use Rattle.plan_writer.proofs.write.Statement.{statement}
 use Rattle.plan_writer.proofs.write.Tie as tie
@@ -23,7 +26,9 @@ mul-if1 : tie.Need-mul-if1 Inv-loop μ-loop
 mul-if1 c = search needs
 
 returns : tie.Need-returns Inv-loop μ-loop
-returns c = let s = c .before .before .before in let rs = s .args .rs .now in let o = s .args .out .now in (rw (lt-ltb _ _ (c .if1 .taken)), short-out o rs _ refl (c .if1 .taken))
+returns c =
+    let s = c .before .before .before in let rs = s .args .rs .now in let o = s .args .out .now in
+    (ap (λ t. cond t OutputTooShort Accepted) (sym (lt-ltb (length o) (blocksFor (length rs) * 512) (c .if1 .taken))), short-out o rs (blocksFor (length rs)) refl (c .if1 .taken))
 
 loop-holds : tie.Need-loop-holds Inv-loop μ-loop
 loop-holds c = let s = c .before .before .before in let rs = s .args .rs .now in let o = s .args .out .now in blocks-none o rs _
@@ -71,7 +76,8 @@ same-length c = c .before .loop .inv .front .long
 returns-2 : tie.Need-returns-2 Inv-loop μ-loop
 returns-2 c =
     let c₅ = c .before .before .before .before .before in
-    let s = c₅ in let rs = s .args .rs .now in let o = s .args .out .now in let l = c .before .loop in (rw (le-ltb _ _ (c .before .before .if1 .left)), blocks-end o rs (l .out) _ (l .k) refl (c .before .before .if1 .left) (c .loop-test .left) (l .inv))
+    let s = c₅ in let rs = s .args .rs .now in let o = s .args .out .now in let l = c .before .loop in let h = c .before .before .if1 .left in
+    (ap (λ t. cond t OutputTooShort Accepted) (sym (le-ltb (length o) (blocksFor (length rs) * 512) h)), blocks-end o rs (l .out) (blocksFor (length rs)) (l .k) refl h (c .loop-test .left) (l .inv))
 
 pub write-spec : {M : Type 1} → statement M
 write-spec =

@@ -4,7 +4,7 @@ use Rattle.plan_roundtrip.specs.Back.{AllBytes}
 use mathlib.Core.Path.{ap, _∙_}
 use Rattle.plan.specs.Numbers.{numberOf}
 use Rattle.plan_arena.specs.Back.{holds-flattens}
-use Rattle.order_check.specs.Reading.{sounds}
+use Rattle.plan_context.specs.Reading.{loaded-all}
 use Rattle.sort_placement.specs.Checking.{numbered, is-read}
 use Rattle.sort_placement.specs.Copying.{uncopied, copy-refusal, copy-written}
 use Rattle.sort_placement.proofs.copy_in.Statement.{statement}
@@ -30,7 +30,7 @@ write-requires c κs =
     let c₂ = c .before .before in let c₃ = c₂ .before in let c₆ = c₃ .before .before .before in let c₁₀ = c₆ .before .before .before .before in let s = c₁₀ .before in
     let q = c₆ .read .ensures in let e = is-read (s .args .plan .now) (s .args .m .now) (c₆ .read .last .1 .0) (c₆ .read .result) q (c₃ .number .result) (c₃ .number .ensures) (c₂ .if1 .left) in
     let h = q .holds e in let k = c₆ .read .kept .1 .0 in let l = s .pre in
-    holds-flattens (s .args .plan .now) (c₆ .read .last .1 .0) (c₆ .read .result .used) (c₆ .read .result .root) e h (sounds (s .args .plan .now) e (record { below = λ i g. omega (arith, c₁₀ .shared-slice-known .given i) }) (c₆ .read .last .1 .0) (c₆ .read .result .used) (c₆ .read .result .root) (omega arith) h .slots)
+    holds-flattens (s .args .plan .now) (c₆ .read .last .1 .0) (c₆ .read .result .used) (c₆ .read .result .root) e h (loaded-all (s .args .plan .now) e (record { below = λ i g. omega (arith, c₁₀ .shared-slice-known .given i) }) (c₆ .read .last .1 .0) (c₆ .read .result .used) (c₆ .read .result .root) (omega arith) h .slots)
 
 number-requires-2 : tie.Need-number-requires-2
 number-requires-2 c κs = search needs

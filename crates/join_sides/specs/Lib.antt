@@ -1,0 +1,4 @@
+pub mod Sides
+pub mod Searching
+pub mod Room
+pub mod Moving

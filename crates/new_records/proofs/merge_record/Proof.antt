@@ -1,0 +1,16 @@
+-- `new_records::merge_record` meets its contract. Assumes nothing.
+use borrow.Author.Needs.{needs}
+use Rattle.new_records.specs.Records.{merge-is}
+use mathlib.Core.Path.{_∙_}
+use Rattle.key_lists.specs.Keys.{keysOf}
+use Rattle.new_records.proofs.merge_record.Statement.{statement}
+use Rattle.new_records.proofs.merge_record.Tie as tie
+
+new-record-requires : tie.Need-new-record-requires
+new-record-requires c κs = search needs
+
+returns : tie.Need-returns
+returns c = let s = (c .before) .args in c .new-record .ensures ∙ merge-is (keysOf (s .keys)) (s .fetch)
+
+pub merge-record-spec : {M : Type 1} → statement M
+merge-record-spec = tie.close (tie.spec new-record-requires returns)

@@ -1,0 +1,14 @@
+-- `node_properties::is_partial_sort` meets its contract. Assumes nothing.
+use borrow.Author.Needs.{needs}
+use Rattle.node_properties.specs.Kinds.{code-is}
+use Rattle.node_properties.proofs.is_partial_sort.Statement.{statement}
+use Rattle.node_properties.proofs.is_partial_sort.Tie as tie
+
+shared-slice-read-result : tie.Need-shared-slice-read-result
+shared-slice-read-result c = search needs
+
+returns : tie.Need-returns
+returns c = code-is ((c .before) .args .r .now) 14 ((c .before) .pre)
+
+pub is-partial-sort-spec : {M : Type 1} → statement M
+is-partial-sort-spec = tie.close (tie.spec shared-slice-read-result returns)

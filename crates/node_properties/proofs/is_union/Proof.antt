@@ -1,0 +1,14 @@
+-- `node_properties::is_union` meets its contract. Assumes nothing.
+use borrow.Author.Needs.{needs}
+use Rattle.node_properties.specs.Kinds.{code-is}
+use Rattle.node_properties.proofs.is_union.Statement.{statement}
+use Rattle.node_properties.proofs.is_union.Tie as tie
+
+shared-slice-read-result : tie.Need-shared-slice-read-result
+shared-slice-read-result c = search needs
+
+returns : tie.Need-returns
+returns c = code-is ((c .before) .args .r .now) 4 ((c .before) .pre)
+
+pub is-union-spec : {M : Type 1} → statement M
+is-union-spec = tie.close (tie.spec shared-slice-read-result returns)

@@ -1,0 +1,4 @@
+pub mod Nodes
+pub mod Kinds
+pub mod Fields
+pub mod Maintaining

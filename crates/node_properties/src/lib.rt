@@ -1,0 +1,554 @@
+// What the walks ask of a node's record (semantics, Properties): kinds, wanted orders and distributions, what it maintains, its fetch
+// and skip, boundedness, partitioning. A match on kinds stands here, and in the facts of a node, and nowhere else.
+use byte_rows::wide;
+use key_lists::Keys;
+use key_lists::Order;
+use key_lists::column_set;
+use key_lists::front;
+use key_lists::order_of;
+use key_lists::same_keys;
+use plan::Distribution;
+use plan::Fetch;
+use plan::JoinType;
+use plan::Kind;
+use record_fields::FETCH;
+use record_fields::KIND;
+use record_fields::MARKS;
+use record_fields::ROLE;
+use record_fields::SKIP;
+use record_fields::STREAMS;
+use record_fields::TAIL;
+use record_fields::WIDTH;
+use record_fields::join_type_of;
+use record_fields::key_list;
+use record_fields::kind_of;
+use record_fields::preserves;
+use record_fields::right_key_list;
+use row_facts::asked::equally_long;
+use row_facts::asked::is_ordered;
+use row_facts::asked::keeps_order;
+ghost use mathlib.Core.Path.{_≡_};
+ghost use mathlib.Core.Bool.{Bool·beq};
+ghost use mathlib.Core.List.{List};
+ghost use Prim.Native.Nat.{ℕ, _≤_, _<_};
+ghost use lib.Dec.{eqb};
+ghost use lib.ListN.{getD};
+ghost use Rattle.plan.specs.Op.{kind, sortMergeJoin, hashJoin, projection};
+ghost use Rattle.plan.specs.Numbers.{code, kindOf};
+ghost use Rattle.plan.specs.WellFormed.{someFetch};
+ghost use Rattle.plan.specs.declared.Kind.the-variants as kinds;
+ghost use Rattle.semantics.specs.Facts as sem;
+ghost use Rattle.semantics.specs.Properties as node;
+ghost use Rattle.key_lists.specs.Keys.{keysOf, Keyed, Ordered};
+ghost use Rattle.plan_codec.specs.Decode.{decode, fromBytes, fetchOf, distributionOf};
+ghost use Rattle.record_fields.specs.Proper.{pairsOf, Proper};
+ghost use Rattle.row_facts.specs.Asked.{told, FactRow};
+ghost use Rattle.walks.specs.ParallelizeSorts.{samePartitioning};
+ghost use Rattle.walks.specs.OutputRequirements.{outputFetch};
+ghost use Rattle.node_properties.specs.Nodes.{Among};
+
+// ---- kinds: is_sort, is_union, is_sort_preserving_merge, is_coalesce_partitions, is_repartition and is_limit of utils.rs
+
+pub fn kind_in(r: &[u8]) -> Kind
+    requires { ⌜ Proper (now r) ⌝ }
+    ensures { λ k. ⌜ k ≡ kind (decode (now (r .entry))) ⌝ }
+{
+    kind_of(r[KIND])
+}
+
+pub fn is_projection(r: &[u8]) -> bool
+    requires { ⌜ Proper (now r) ⌝ }
+    ensures { λ b. ⌜ b ≡ eqb (code (decode (now (r .entry)))) 3 ⌝ }
+{
+    r[KIND] == 3
+}
+
+pub fn is_union(r: &[u8]) -> bool
+    requires { ⌜ Proper (now r) ⌝ }
+    ensures { λ b. ⌜ b ≡ eqb (code (decode (now (r .entry)))) 4 ⌝ }
+{
+    r[KIND] == 4
+}
+
+pub fn is_repartition(r: &[u8]) -> bool
+    requires { ⌜ Proper (now r) ⌝ }
+    ensures { λ b. ⌜ b ≡ eqb (code (decode (now (r .entry)))) 5 ⌝ }
+{
+    r[KIND] == 5
+}
+
+pub fn is_coalesce_partitions(r: &[u8]) -> bool
+    requires { ⌜ Proper (now r) ⌝ }
+    ensures { λ b. ⌜ b ≡ eqb (code (decode (now (r .entry)))) 6 ⌝ }
+{
+    r[KIND] == 6
+}
+
+pub fn is_sort(r: &[u8]) -> bool
+    requires { ⌜ Proper (now r) ⌝ }
+    ensures { λ b. ⌜ b ≡ eqb (code (decode (now (r .entry)))) 7 ⌝ }
+{
+    r[KIND] == 7
+}
+
+pub fn is_sort_preserving_merge(r: &[u8]) -> bool
+    requires { ⌜ Proper (now r) ⌝ }
+    ensures { λ b. ⌜ b ≡ eqb (code (decode (now (r .entry)))) 8 ⌝ }
+{
+    r[KIND] == 8
+}
+
+pub fn is_limit(r: &[u8]) -> bool
+    requires { ⌜ Proper (now r) ⌝ }
+    ensures { λ b. ⌜ b ≡ node.isLimit (decode (now (r .entry))) ⌝ }
+{
+    (r[KIND] == 9) | (r[KIND] == 10)
+}
+
+pub fn is_partial_sort(r: &[u8]) -> bool
+    requires { ⌜ Proper (now r) ⌝ }
+    ensures { λ b. ⌜ b ≡ eqb (code (decode (now (r .entry)))) 14 ⌝ }
+{
+    r[KIND] == 14
+}
+
+// ---- fields: what the operator of a kind that has them keeps there (plan_codec, operatorOf)
+
+pub fn keys(r: &[u8]) -> Keys
+    requires { ⌜ Proper (now r) ⌝ }
+    ensures { λ k. ⌜ Keyed (fromBytes (now (r .entry)) .keys) k ⌝ }
+{
+    key_list(r)
+}
+
+fn fetch_from(n: u32) -> Fetch
+    ensures { λ f. ⌜ f ≡ fetchOf n ⌝ }
+{
+    if n == 4294967295 {
+        Fetch::Unlimited
+    } else {
+        Fetch::AtMost(n)
+    }
+}
+
+pub fn fetch_field(r: &[u8]) -> Fetch
+    requires { ⌜ Proper (now r) ⌝ }
+    ensures { λ f. ⌜ f ≡ fromBytes (now (r .entry)) .fetch ⌝ }
+{
+    fetch_from(scan::get32(r, FETCH))
+}
+
+pub fn preserve_mark(r: &[u8]) -> bool
+    requires { ⌜ Proper (now r) ⌝ }
+    ensures { λ b. ⌜ b ≡ fromBytes (now (r .entry)) .preserve ⌝ }
+{
+    preserves(r)
+}
+
+pub fn hash_mark(r: &[u8]) -> bool
+    requires { ⌜ Proper (now r) ⌝ }
+    ensures { λ b. ⌜ b ≡ fromBytes (now (r .entry)) .hash ⌝ }
+{
+    (r[MARKS] >> 1) & 1 == 1
+}
+
+fn unbounded_mark(r: &[u8]) -> bool
+    requires { ⌜ Proper (now r) ⌝ }
+    ensures { λ b. ⌜ b ≡ fromBytes (now (r .entry)) .unbounded ⌝ }
+{
+    (r[MARKS] >> 2) & 1 == 1
+}
+
+pub fn streams_field(r: &[u8]) -> usize
+    requires { ⌜ Proper (now r) ⌝ }
+    ensures { λ n. ⌜ n ≡ fromBytes (now (r .entry)) .streams ⌝ }
+{
+    wide(r[STREAMS])
+}
+
+// A join's type.
+pub fn join_type(r: &[u8]) -> JoinType
+    requires { ⌜ Proper (now r) ⌝ }
+    ensures merged { λ t. ⌜ (kindOf (getD (now (r .entry)) 0 0) ≡ kinds.SortMergeJoin → decode (now (r .entry)) ≡ sortMergeJoin t (pairsOf (now (r .entry)))) ⌝ }
+    ensures hashed { λ t. ⌜ (kindOf (getD (now (r .entry)) 0 0) ≡ kinds.HashJoin → decode (now (r .entry)) ≡ hashJoin t (pairsOf (now (r .entry)))) ⌝ }
+{
+    join_type_of(r[ROLE])
+}
+
+// The child column that a projection puts out as column c; 0 past its columns.
+pub fn child_column(r: &[u8], c: usize) -> usize
+    requires { ⌜ Proper (now r) × (kindOf (getD (now r) 0 0) ≡ kinds.Projection) ⌝ }
+    ensures { λ x. ⌜ ((cols : List ℕ) → decode (now (r .entry)) ≡ projection cols → x ≡ getD cols c 0) × (x < 32) ⌝ }
+{
+    if c < wide(r[WIDTH]) {
+        return wide(r[TAIL + c]);
+    }
+    0
+}
+
+// ---- wanted orders
+
+// The keys, of the first child.
+fn of_first(keys: Keys, j: usize) -> Order
+    requires { ⌜ keys .len ≤ 8 ⌝ }
+    ensures { λ o. ⌜ Ordered (node.wantedOf (node.same (keysOf keys)) j) o ⌝ }
+{
+    if j == 0 {
+        return order_of(keys);
+    }
+    Order::Unordered
+}
+
+// A sort-merge join's keys on both sides.
+fn of_side(r: &[u8], j: usize) -> Order
+    requires { ⌜ Proper (now r) × (kindOf (getD (now r) 0 0) ≡ kinds.SortMergeJoin) ⌝ }
+    ensures { λ o. ⌜ Ordered (node.wantedOf (node.pairs (pairsOf (now (r .entry)))) j) o ⌝ }
+{
+    if j == 0 {
+        return order_of(key_list(r));
+    }
+    if j == 1 {
+        return order_of(right_key_list(r));
+    }
+    Order::Unordered
+}
+
+// The order that the node wants of child j.
+pub fn wanted_order(r: &[u8], j: usize) -> Order
+    requires { ⌜ Proper (now r) ⌝ }
+    ensures { λ o. ⌜ Ordered (node.wanted (decode (now (r .entry))) j) o ⌝ }
+{
+    let kind = kind_of(r[KIND]);
+    match kind {
+        Kind::Source => Order::Unordered,
+        Kind::Filter => Order::Unordered,
+        Kind::Projection => Order::Unordered,
+        Kind::Union => Order::Unordered,
+        Kind::Repartition => Order::Unordered,
+        Kind::Coalesce => Order::Unordered,
+        Kind::Sort => Order::Unordered,
+        Kind::Merge => of_first(key_list(r), j),
+        Kind::GlobalLimit => Order::Unordered,
+        Kind::LocalLimit => Order::Unordered,
+        Kind::SortMergeJoin => of_side(r, j),
+        Kind::HashJoin => Order::Unordered,
+        Kind::OutputRequirement => of_first(key_list(r), j),
+        Kind::PartialSort => of_first(front(key_list(r), wide(r[ROLE])), j),
+    }
+}
+
+// ---- wanted distributions
+
+// Whole sorts want one stream.
+fn sort_distribution(preserve: bool) -> Distribution
+    ensures { λ d. ⌜ d ≡ node.sortDist preserve ⌝ }
+{
+    if preserve {
+        Distribution::Unspecified
+    } else {
+        Distribution::Single
+    }
+}
+
+// A hash join wants one stream of its left side.
+fn left_single(j: usize) -> Distribution
+    ensures { λ d. ⌜ d ≡ node.leftSingle j ⌝ }
+{
+    if j == 0 {
+        return Distribution::Single;
+    }
+    Distribution::Unspecified
+}
+
+// A sort-merge join wants both sides keyed by their columns.
+fn by_side(r: &[u8], j: usize) -> Distribution
+    requires { ⌜ Proper (now r) × (kindOf (getD (now r) 0 0) ≡ kinds.SortMergeJoin) ⌝ }
+    ensures { λ d. ⌜ d ≡ node.bySide (pairsOf (now (r .entry))) j ⌝ }
+{
+    if j == 0 {
+        return Distribution::Keyed(column_set(key_list(r)));
+    }
+    Distribution::Keyed(column_set(right_key_list(r)))
+}
+
+// Kind 13: 0 none, 1 single, 2 keyed with the set's columns.
+fn distribution_from(role: u8, set: u32) -> Distribution
+    ensures { λ d. ⌜ d ≡ distributionOf role set ⌝ }
+{
+    if role == 0 {
+        return Distribution::Unspecified;
+    }
+    if role == 1 {
+        return Distribution::Single;
+    }
+    Distribution::Keyed(set)
+}
+
+// The distribution that the node wants of child j.
+pub fn wanted_distribution(r: &[u8], j: usize) -> Distribution
+    requires { ⌜ Proper (now r) ⌝ }
+    ensures { λ d. ⌜ d ≡ node.distOf (decode (now (r .entry))) j ⌝ }
+{
+    let kind = kind_of(r[KIND]);
+    match kind {
+        Kind::Source => Distribution::Unspecified,
+        Kind::Filter => Distribution::Unspecified,
+        Kind::Projection => Distribution::Unspecified,
+        Kind::Union => Distribution::Unspecified,
+        Kind::Repartition => Distribution::Unspecified,
+        Kind::Coalesce => Distribution::Unspecified,
+        Kind::Sort => sort_distribution(preserves(r)),
+        Kind::Merge => Distribution::Unspecified,
+        Kind::GlobalLimit => Distribution::Single,
+        Kind::LocalLimit => Distribution::Unspecified,
+        Kind::SortMergeJoin => by_side(r, j),
+        Kind::HashJoin => left_single(j),
+        Kind::OutputRequirement => distribution_from(r[ROLE], scan::get32(r, TAIL)),
+        Kind::PartialSort => sort_distribution(preserves(r)),
+    }
+}
+
+pub fn is_single(d: Distribution) -> bool
+    ensures { λ b. ⌜ b ≡ node.isSingle d ⌝ }
+{
+    match d {
+        Distribution::Unspecified => false,
+        Distribution::Single => true,
+        Distribution::Keyed(_) => false,
+    }
+}
+
+// Whether the node wants one stream of child j.
+pub fn wants_single(r: &[u8], j: usize) -> bool
+    requires { ⌜ Proper (now r) ⌝ }
+    ensures { λ b. ⌜ b ≡ node.singles (decode (now (r .entry))) j ⌝ }
+{
+    is_single(wanted_distribution(r, j))
+}
+
+// ---- what a node maintains
+
+// Whether a sort-merge join of this type keeps the order of side j.
+fn sort_merge_keeps(t: JoinType, j: usize) -> bool
+    ensures { λ b. ⌜ b ≡ node.keptSide (sem.smjKept t) j ⌝ }
+{
+    match t {
+        JoinType::Inner => j == 0,
+        JoinType::Left => j == 0,
+        JoinType::Right => j == 1,
+        JoinType::Full => false,
+        JoinType::LeftSemi => j == 0,
+        JoinType::LeftAnti => j == 0,
+        JoinType::RightSemi => j == 1,
+        JoinType::RightAnti => j == 1,
+    }
+}
+
+// Whether a hash join of this type keeps the order of side j.
+pub fn hash_keeps(t: JoinType, j: usize) -> bool
+    ensures { λ b. ⌜ b ≡ node.keptSide (sem.hashKept t) j ⌝ }
+{
+    match t {
+        JoinType::Inner => j == 1,
+        JoinType::Left => false,
+        JoinType::Right => j == 1,
+        JoinType::Full => false,
+        JoinType::LeftSemi => false,
+        JoinType::LeftAnti => false,
+        JoinType::RightSemi => j == 1,
+        JoinType::RightAnti => j == 1,
+    }
+}
+
+// Whether the node maintains the order of child j: own and child are the rows of the node and of that child.
+pub fn maintains(r: &[u8], own: &[u8], child: &[u8], j: usize) -> bool
+    requires { ⌜ Proper (now r) × FactRow (now own) × FactRow (now child) ⌝ }
+    ensures { λ b. ⌜ ((fs : List sem.Facts) → Among (decode (now (r .entry))) fs j (told (now (own .entry))) (told (now (child .entry))) → b ≡ node.maintains (decode (now (r .entry))) fs j) ⌝ }
+{
+    let kind = kind_of(r[KIND]);
+    match kind {
+        Kind::Source => false,
+        Kind::Filter => true,
+        Kind::Projection => true,
+        Kind::Union => is_ordered(own) & equally_long(child, own),
+        Kind::Repartition => keeps_order(preserves(r), child),
+        Kind::Coalesce => false,
+        Kind::Sort => false,
+        Kind::Merge => true,
+        Kind::GlobalLimit => true,
+        Kind::LocalLimit => true,
+        Kind::SortMergeJoin => sort_merge_keeps(join_type_of(r[ROLE]), j),
+        Kind::HashJoin => hash_keeps(join_type_of(r[ROLE]), j),
+        Kind::OutputRequirement => true,
+        Kind::PartialSort => false,
+    }
+}
+
+// ---- fetches
+
+// What the node cuts its streams to.
+pub fn fetch(r: &[u8]) -> Fetch
+    requires { ⌜ Proper (now r) ⌝ }
+    ensures { λ f. ⌜ f ≡ node.cuts (decode (now (r .entry))) .fetch ⌝ }
+{
+    let kind = kind_of(r[KIND]);
+    match kind {
+        Kind::Source => Fetch::Unlimited,
+        Kind::Filter => Fetch::Unlimited,
+        Kind::Projection => Fetch::Unlimited,
+        Kind::Union => Fetch::Unlimited,
+        Kind::Repartition => Fetch::Unlimited,
+        Kind::Coalesce => fetch_field(r),
+        Kind::Sort => fetch_field(r),
+        Kind::Merge => fetch_field(r),
+        Kind::GlobalLimit => fetch_field(r),
+        Kind::LocalLimit => fetch_field(r),
+        Kind::SortMergeJoin => Fetch::Unlimited,
+        Kind::HashJoin => Fetch::Unlimited,
+        Kind::OutputRequirement => fetch_field(r),
+        Kind::PartialSort => fetch_field(r),
+    }
+}
+
+// How many rows of each stream it leaves out first.
+pub fn skip(r: &[u8]) -> u32
+    requires { ⌜ Proper (now r) ⌝ }
+    ensures { λ n. ⌜ n ≡ node.cuts (decode (now (r .entry))) .skip ⌝ }
+{
+    let kind = kind_of(r[KIND]);
+    match kind {
+        Kind::Source => 0,
+        Kind::Filter => 0,
+        Kind::Projection => 0,
+        Kind::Union => 0,
+        Kind::Repartition => 0,
+        Kind::Coalesce => 0,
+        Kind::Sort => 0,
+        Kind::Merge => 0,
+        Kind::GlobalLimit => scan::get32(r, SKIP),
+        Kind::LocalLimit => 0,
+        Kind::SortMergeJoin => 0,
+        Kind::HashJoin => 0,
+        Kind::OutputRequirement => 0,
+        Kind::PartialSort => 0,
+    }
+}
+
+pub fn some_fetch(f: Fetch) -> bool
+    ensures { λ b. ⌜ b ≡ someFetch f ⌝ }
+{
+    let Fetch::AtMost(_) = f else {
+        return false;
+    };
+    true
+}
+
+// output_requirements.rs: the fetch of kind 13, of no other.
+pub fn output_fetch(r: &[u8]) -> Fetch
+    requires { ⌜ Proper (now r) ⌝ }
+    ensures { λ f. ⌜ f ≡ outputFetch (decode (now (r .entry))) ⌝ }
+{
+    if r[KIND] == 13 {
+        return fetch(r);
+    }
+    Fetch::Unlimited
+}
+
+// `supports_limit_pushdown` holds for kinds 3, 4, 6, 8, 9 and 10.
+pub fn supports_limit_pushdown(r: &[u8]) -> bool
+    requires { ⌜ Proper (now r) ⌝ }
+    ensures { λ b. ⌜ b ≡ node.supportsLimitPushdown (decode (now (r .entry))) ⌝ }
+{
+    let kind = kind_of(r[KIND]);
+    match kind {
+        Kind::Source => false,
+        Kind::Filter => false,
+        Kind::Projection => true,
+        Kind::Union => true,
+        Kind::Repartition => false,
+        Kind::Coalesce => true,
+        Kind::Sort => false,
+        Kind::Merge => true,
+        Kind::GlobalLimit => true,
+        Kind::LocalLimit => true,
+        Kind::SortMergeJoin => false,
+        Kind::HashJoin => false,
+        Kind::OutputRequirement => false,
+        Kind::PartialSort => false,
+    }
+}
+
+// The cardinality is equal for projection, and for coalesce or merge without a fetch.
+pub fn cardinality_equal(r: &[u8]) -> bool
+    requires { ⌜ Proper (now r) ⌝ }
+    ensures { λ b. ⌜ b ≡ node.cardinalityEqual (decode (now (r .entry))) ⌝ }
+{
+    let kind = kind_of(r[KIND]);
+    match kind {
+        Kind::Source => false,
+        Kind::Filter => false,
+        Kind::Projection => true,
+        Kind::Union => false,
+        Kind::Repartition => false,
+        Kind::Coalesce => !some_fetch(fetch_field(r)),
+        Kind::Sort => false,
+        Kind::Merge => !some_fetch(fetch_field(r)),
+        Kind::GlobalLimit => false,
+        Kind::LocalLimit => false,
+        Kind::SortMergeJoin => false,
+        Kind::HashJoin => false,
+        Kind::OutputRequirement => false,
+        Kind::PartialSort => false,
+    }
+}
+
+// ---- boundedness
+
+// Whether the node is a source without an end. A limit is bounded; any other node is unbounded if a child is.
+pub fn is_endless_source(r: &[u8]) -> bool
+    requires { ⌜ Proper (now r) ⌝ }
+    ensures { λ b. ⌜ b ≡ node.sourceEndless (decode (now (r .entry))) ⌝ }
+{
+    let kind = kind_of(r[KIND]);
+    match kind {
+        Kind::Source => unbounded_mark(r),
+        Kind::Filter => false,
+        Kind::Projection => false,
+        Kind::Union => false,
+        Kind::Repartition => false,
+        Kind::Coalesce => false,
+        Kind::Sort => false,
+        Kind::Merge => false,
+        Kind::GlobalLimit => false,
+        Kind::LocalLimit => false,
+        Kind::SortMergeJoin => false,
+        Kind::HashJoin => false,
+        Kind::OutputRequirement => false,
+        Kind::PartialSort => false,
+    }
+}
+
+// ---- partitionings
+
+fn same_mark(a: bool, b: bool) -> bool
+    ensures { λ r. ⌜ r ≡ Bool·beq a b ⌝ }
+{
+    if a { b } else { !b }
+}
+
+// Partitionings are equal only between two repartitions of equal streams, hash mark and key list.
+pub fn same_partitioning(r: &[u8], s: &[u8]) -> bool
+    requires { ⌜ Proper (now r) × Proper (now s) ⌝ }
+    ensures { λ b. ⌜ b ≡ samePartitioning (decode (now (r .entry))) (decode (now (s .entry))) ⌝ }
+{
+    if !is_repartition(r) {
+        return false;
+    }
+    if !is_repartition(s) {
+        return false;
+    }
+    if streams_field(r) == streams_field(s) {
+        return same_mark(hash_mark(r), hash_mark(s)) & same_keys(keys(r), keys(s));
+    }
+    false
+}

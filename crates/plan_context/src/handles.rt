@@ -1,0 +1,32 @@
+// Marks and children by handles.
+use arena::child;
+ghost use mathlib.Core.Path.{_≡_};
+ghost use Prim.Native.Nat.{_<_};
+ghost use lib.ListN.{length};
+ghost use Rattle.walks.specs.Marks.{kid0};
+ghost use Rattle.arena.specs.Arena.{index, marked, slot};
+ghost use Rattle.plan_context.specs.View.{treeOf, Here};
+ghost use Rattle.plan_context.specs.Handles.{Marks};
+
+// Whether the node is marked.
+pub fn is_marked(h: usize) -> bool
+    ensures { λ b. ⌜ b ≡ marked h ⌝ }
+{
+    h % 2 == 1
+}
+
+// The handle of the same tree with the mark b.
+pub fn set_mark(h: usize, b: bool) -> usize
+    requires { ⌜ h < 65536 ⌝ }
+    ensures { λ r. ⌜ Marks h b r ⌝ }
+{
+    2 * (h / 2) + b as usize
+}
+
+// The first child's handle.
+pub fn first_child(m: &[u8], h: usize) -> usize
+    requires { ⌜ Here (now m) h × (0 < length (slot (now m) (index h) .kids)) ⌝ }
+    ensures { λ r. ⌜ treeOf (now (m .entry)) r ≡ kid0 (treeOf (now (m .entry)) h) (treeOf (now (m .entry)) h .kids) ⌝ }
+{
+    child(m, h / 2, 0)
+}

@@ -1,0 +1,26 @@
+use borrow.Author.Needs.{needs}
+use Rattle.plan_format.specs.Fields.{fieldsOf}
+use Rattle.plan_rules.specs.Kinds.{rules}
+use Rattle.plan_rules.proofs.merge_ok.Statement.{statement}
+use Rattle.plan_rules.proofs.merge_ok.Tie as tie
+
+fetching-requires : tie.Need-fetching-requires
+fetching-requires c κs = search needs
+
+keyed-requires : tie.Need-keyed-requires
+keyed-requires c κs = search needs
+
+ok-requires : tie.Need-ok-requires
+ok-requires c κs = search needs
+
+none-requires : tie.Need-none-requires
+none-requires c κs = search needs
+
+returns : tie.Need-returns
+returns c =
+    let c₃ = c .before .before .before in let c₅ = c₃ .before .before in
+    rules (fieldsOf 8) (c₅ .args .r .now) (c₃ .fetching .ensures) (c .before .before .keyed .ensures) (λ _. c .before .ok .ensures) (c .none .ensures)
+
+pub merge-ok-spec : {M : Type 1} → statement M
+merge-ok-spec =
+    tie.close (tie.spec fetching-requires keyed-requires ok-requires none-requires returns)
