@@ -1,0 +1,5 @@
+pub mod Walking
+pub mod Counting
+pub mod Tidying
+pub mod Finishing
+pub mod Frame
