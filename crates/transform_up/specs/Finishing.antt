@@ -40,7 +40,7 @@ pub record Finish (m : List ℕ) (v u : ℕ) (ks : List ℕ) (i n before : ℕ) 
   pub counts : before ≡ suc (size (forest m ks))
   pub part : before ≤ n
   pub low : u + 1 ≤ tidyFrom + n
-  pub scratch : 126 * slotSize ≤ length c
+  pub scratch : fullSlots * slotSize ≤ length m → 126 * slotSize ≤ length c
 
 -- the nodes of the whole plan after the step at t
 abbrev pub total : Walk → Tree → ℕ → ℕ
@@ -94,13 +94,13 @@ module _ (m : List ℕ) (v u : ℕ) (ks : List ℕ) (i n before : ℕ) (c : List
     pub room-is : (u + 2 * before + 10) * slotSize ≤ length m
     room-is = let z = leb-true need (length m / slotSize) (long (leb need (length m / slotSize)) (leb need tidyFrom) (leb fullSlots (length m / slotSize)) big .0) in omega arith
 
-    -- room to copy it home, where it is copied
-    pub tidy-room : tidyFrom < u + 2 * before + 10 → (v + 126) * slotSize ≤ length m
-    tidy-room h = go (long (leb need (length m / slotSize)) (leb need tidyFrom) (leb fullSlots (length m / slotSize)) big .1)
+    -- the arena is a full one where the tree may be copied together
+    full-room : tidyFrom < u + 2 * before + 10 → fullSlots * slotSize ≤ length m
+    full-room h = go (long (leb need (length m / slotSize)) (leb need tidyFrom) (leb fullSlots (length m / slotSize)) big .1)
       where
-        go : (leb (u + 2 * before + 10) tidyFrom ≡ true) ⊎ (leb fullSlots (length m / slotSize) ≡ true) → (v + 126) * slotSize ≤ length m
+        go : (leb (u + 2 * before + 10) tidyFrom ≡ true) ⊎ (leb fullSlots (length m / slotSize) ≡ true) → fullSlots * slotSize ≤ length m
         go (inl x) = let z = leb-true need tidyFrom x in absurd (omega arith)
-        go (inr y) = let z = leb-true fullSlots (length m / slotSize) y in let q = p .low in let k = p .many in let l = p .more in omega arith
+        go (inr y) = let z = leb-true fullSlots (length m / slotSize) y in omega arith
 
     -- ---- the record x, rebuilt over the children
     pub finish-over : Over m (slot m i .rec) ks
@@ -129,7 +129,7 @@ module _ (m : List ℕ) (v u : ℕ) (ks : List ℕ) (i n before : ℕ) (c : List
           pub finish-tidies : n + after - before ≤ 126 → Tidies m₁ v s c
           finish-tidies h =
               let y = p .part in let l = p .low in let o = p .many in let q = p .more in let k = g .more in let rm = g .room in let z = p .counts in
-              record { arena = g .arena; more = omega arith; here = g .here; few = omega arith; room = λ b. let t = tidy-room (omega arith) in omega arith; small = omega arith; scratch = p .scratch }
+              record { arena = g .arena; more = omega arith; here = g .here; few = omega arith; room = λ b. let t = full-room (omega arith) in (omega arith, p .scratch t); small = omega arith }
 
           pub finish-many : 126 < n + after - before → tooMany (total w (rebuild (decode (slot m i .rec)) false (forest m ks)) n) ≡ true
           finish-many h = ap tooMany (sym count-is) ∙ lt-ltb 126 (n + after - before) h

@@ -47,7 +47,7 @@ pub record Walkable (m : List ℕ) (v i n : ℕ) (c : List ℕ) : Type 0 where
   pub many : n ≤ 126
   pub part : sizeT (treeIn m i) ≤ n
   pub low : v + sizeT (treeIn m i) ≤ tidyFrom + n
-  pub scratch : 126 * slotSize ≤ length c
+  pub scratch : fullSlots * slotSize ≤ length m → 126 * slotSize ≤ length c
 
 -- The counted walk of the tree t
 abbrev pub countOf : Walk → ℕ → Tree → Counted Tree
@@ -118,10 +118,10 @@ module _ (w : Walk) (m₀ : List ℕ) (v i n : ℕ) (c : List ℕ) (p : Walkable
 
     pub walking-next : (c' : List ℕ) → length c' ≡ length c → (index (getD (slot m₀ i .kids) j 0) < i) × Walkable m u (index (getD (slot m₀ i .kids) j 0)) k c'
     walking-next c' lc =
-        let sc = p .scratch in
+        let lo = q .made .long in
         let x = below-here in let y = p .here in let z = q .made .more in let s = ap size split in let t = ap sizeT same-tree in
         let a = q .part in let b = q .low in
-        (omega arith, record { arena = q .made .arena; here = omega arith; many = q .many; part = omega arith; low = omega arith; scratch = omega arith })
+        (omega arith, record { arena = q .made .arena; here = omega arith; many = q .many; part = omega arith; low = omega arith; scratch = λ f. let sc = p .scratch (omega arith) in omega arith })
 
     module _ (m' : List ℕ) (lm : length m' ≡ length m) (used root count : ℕ) (d : Walks w m u (index (getD (slot m₀ i .kids) j 0)) k m' used root count) where
       abbrev at' : At
@@ -199,7 +199,7 @@ module _ (w : Walk) (m₀ : List ℕ) (v i n : ℕ) (c : List ℕ) (p : Walkable
 
     pub walking-end : (c' : List ℕ) → length c' ≡ length c → (before : ℕ) → before ≡ suc (size (forest m (take a kids))) → Finish m v u (take a kids) i k before c'
     walking-end c' lc before b =
-        let sc = p .scratch in let x = p .part in let y = whole .1 in let z = q .low in let wd = q .made .wide in let fc = shown .count in let fw = shown .few in
+        let lo = q .made .long in let x = p .part in let y = whole .1 in let z = q .low in let wd = q .made .wide in let fc = shown .count in let fw = shown .few in
         let ws = whole-size in let ss = size-strip (forest m₀ ks) in
         let si = slot-is j u k kids m q in
         let t : length (take a kids) ≡ length ks = length-take-le a kids (omega arith) ∙ e ∙ fc in
@@ -214,7 +214,7 @@ module _ (w : Walk) (m₀ : List ℕ) (v i n : ℕ) (c : List ℕ) (p : Walkable
           counts = b;
           part = omega arith;
           low = omega arith;
-          scratch = omega arith;
+          scratch = λ f. let sc = p .scratch (omega arith) in omega arith;
         }
 
     abbrev t : Tree

@@ -30,9 +30,8 @@ pub record Tidies (m : List ℕ) (v : ℕ) (s : At) (c : List ℕ) : Type 0 wher
   pub more : v ≤ s .used
   pub here : s .root < 2 * s .used
   pub few : sizeT (treeOf m (s .root)) ≤ 126
-  pub room : tidyFrom < s .used → (v + 126) * slotSize ≤ length m
+  pub room : tidyFrom < s .used → ((v + 126) * slotSize ≤ length m) × (126 * slotSize ≤ length c)
   pub small : v + 126 ≤ 32768
-  pub scratch : 126 * slotSize ≤ length c
 
 pub record Tidied (m : List ℕ) (v : ℕ) (m' : List ℕ) (r : At) (t : Tree) : Type 0 where
   pub arena : Arena m' (r .used)
@@ -46,9 +45,9 @@ module _ (m : List ℕ) (v : ℕ) (s : At) (c : List ℕ) (p : Tidies m v s c) w
   pub as-is : s .used ≤ tidyFrom → Tidied m v m s (treeOf m (s .root))
   as-is h = record { arena = p .arena; old = refl; more = p .more; here = p .here; tree = refl; low = inl h }
 
-  pub out-asks : Copies m (s .used) (s .root) c 0
-  out-asks =
-      let f = p .few in let x = p .scratch in
+  pub out-asks : tidyFrom < s .used → Copies m (s .used) (s .root) c 0
+  out-asks h =
+      let f = p .few in let x = p .room h .1 in
       record { from = p .arena; here = p .here; arena = record { slots = omega arith; small = omega arith; all = λ i h. absurd (omega arith) }; room = omega arith; small = omega arith }
 
   module _ (h : tidyFrom < s .used) (c' : List ℕ) (x : At) (g : Grown c 0 c' x (treeOf m (s .root)) (0 + sizeT (treeOf m (s .root)))) where
@@ -57,7 +56,7 @@ module _ (m : List ℕ) (v : ℕ) (s : At) (c : List ℕ) (p : Tidies m v s c) w
 
     pub back-asks : Copies c' (x .used) (x .root) m v
     back-asks =
-        let f = p .few in let r = p .room h in let k = p .small in let z = same-size in
+        let f = p .few in let r = p .room h .0 in let k = p .small in let z = same-size in
         record { from = g .arena; here = g .here; arena = fewer m (s .used) v (p .more) (p .arena); room = omega arith; small = omega arith }
 
     pub back : (m' : List ℕ) (y : At) → Grown m v m' y (treeOf c' (x .root)) (v + sizeT (treeOf c' (x .root))) → Tidied m v m' y (treeOf m (s .root))

@@ -11,7 +11,7 @@ returns : tie.Need-returns
 returns c = let s = c .before .before .before .before in let m = s .args .m .now in let v = s .args .v in let a = s .args .s in let k = s .args .c .now in as-is m v a k (s .pre) (c .if1 .taken)
 
 copy-requires : tie.Need-copy-requires
-copy-requires c κs = let s = c .before .before .before .before .before .before in let m = s .args .m .now in let v = s .args .v in let a = s .args .s in let k = s .args .c .now in out-asks m v a k (s .pre)
+copy-requires c κs = let s = c .before .before .before .before .before .before in let m = s .args .m .now in let v = s .args .v in let a = s .args .s in let k = s .args .c .now in out-asks m v a k (s .pre) (omega (arith, c .before .before .if1 .left))
 
 copy-requires-2 : tie.Need-copy-requires-2
 copy-requires-2 c κs = let s = c .before .before .before .before .before .before .before .before .before .before .before in let m = s .args .m .now in let v = s .args .v in let a = s .args .s in let k = s .args .c .now in back-asks m v a k (s .pre) (omega (arith, c .before .before .before .before .before .before .before .if1 .left)) _ _ (c .before .before .before .before .copy .ensures)
