@@ -1,28 +1,65 @@
 -- What the exported functions answer. These are definitions.
-use mathlib.Core.Bool.{cond}
+use mathlib.Core.Bool.{Bool, false, cond}
 use mathlib.Core.List.{List, _++_}
 use Prim.Native.Nat.{ℕ}
-use lib.Dec.{eqb, ltb}
+use lib.Dec.{ltb}
 use lib.ListN.{length, drop}
-use Rattle.plan.specs.Numbers.{numberOf}
+use Rattle.plan.specs.Op.{Plan}
 use Rattle.plan.specs.declared.Refusal.{Refusal}
 use Rattle.plan.specs.declared.Refusal.the-variants.{Accepted, OutputTooShort}
-use Rattle.plan_format.specs.LastPass.{andThen}
-use Rattle.plan_format.specs.Reading.{refusalOf}
 use Rattle.plan_codec.specs.Encode.{num}
-use Rattle.plan_codec.specs.Reading.{Answer, refused, plan}
+use Rattle.plan_codec.specs.Reading as codec
+use Rattle.plan_codec.specs.Reading.{reading}
+use Rattle.plan_codec.specs.Writing.{written}
 use Rattle.semantics.specs.Check.{check}
+use Rattle.walks.specs.Counted.{Answer, refused, answered}
+
+-- ---- the order check
 
 -- The lent number after the order check of what was read: 1 where the plan passes, 0 where it doesn't; "A refusal .. leaves tree and
 -- buffers alone"
-unfoldable pub checkAnswer : Answer → ℕ → ℕ
-checkAnswer (refused x) p = p
-checkAnswer (plan f) p = num (check f)
+unfoldable pub checkAnswer : codec.Answer → ℕ → ℕ
+checkAnswer (codec.refused x) p = p
+checkAnswer (codec.plan f) p = num (check f)
 
--- "24: the output buffer is shorter than the file to write"; "All input refusals come before these"
-abbrev pub copyRefusal : List ℕ → List ℕ → Refusal
-copyRefusal s out = andThen (refusalOf s) (cond (ltb (length out) (length s)) OutputTooShort Accepted)
+-- ---- calls that write a plan
 
--- The output after a plan was read and written: the very file, and "bytes past the file stay"
-unfoldable pub copied : List ℕ → List ℕ → List ℕ
-copied s out = cond (eqb (numberOf (copyRefusal s out)) 0) (s ++ drop (length s) out) out
+-- What a call comes to: a refusal, whether the plan passes, or a plan to write
+pub data Result : Type 0 where
+  refuses : Refusal → Result
+  checks : Bool → Result
+  gives : Plan → Result
+
+abbrev pub rewritten : Answer → Result
+rewritten (refused x) = refuses x
+rewritten (answered f) = gives f
+
+-- "All input refusals come before these"
+abbrev pub afterReading : (Plan → Result) → codec.Answer → Result
+afterReading g (codec.refused x) = refuses x
+afterReading g (codec.plan f) = g f
+
+-- A rewrite g of the plan in the bytes s
+abbrev pub rewrites : (Plan → Answer) → List ℕ → Result
+rewrites g s = afterReading (λ f. rewritten (g f)) (reading s)
+
+-- "24: the output buffer is shorter than the file to write"
+abbrev pub tooShort : Plan → List ℕ → Bool
+tooShort f out = ltb (length out) (length (written f))
+
+-- The refusal, with the output that was lent
+abbrev pub refusalIn : Result → List ℕ → Refusal
+refusalIn (refuses x) out = x
+refusalIn (checks b) out = Accepted
+refusalIn (gives f) out = cond (tooShort f out) OutputTooShort Accepted
+
+-- The output afterwards: the file, and "bytes past the file stay"; "A refusal .. leaves tree and buffers alone"
+abbrev pub outputIn : Result → List ℕ → List ℕ
+outputIn (refuses x) out = out
+outputIn (checks b) out = out
+outputIn (gives f) out = cond (tooShort f out) out (written f ++ drop (length (written f)) out)
+
+abbrev pub passesIn : Result → Bool
+passesIn (refuses x) = false
+passesIn (checks b) = b
+passesIn (gives f) = false

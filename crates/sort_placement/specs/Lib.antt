@@ -1,3 +1,5 @@
 pub mod Answers
-pub mod Checking
-pub mod Copying
+pub mod Filing
+pub mod PartialSorts
+pub mod Calls
+pub mod Calling

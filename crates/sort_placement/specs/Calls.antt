@@ -1,0 +1,61 @@
+-- What a call comes to, in an arena of any size. These are definitions.
+use mathlib.Core.Path.{_≡_}
+use mathlib.Core.Bool.{false}
+use mathlib.Core.List.{List}
+use Prim.Native.Nat.{ℕ, _*_, _≤_, _<_}
+use lib.ListN.{length}
+use Rattle.plan.specs.Op.{Plan}
+use Rattle.plan.specs.Forest.{size}
+use Rattle.plan.specs.Numbers.{numberOf}
+use Rattle.plan.specs.declared.Refusal.the-variants.{TooManyNodes}
+use Rattle.plan_format.specs.Blocks.{blockCount}
+use Rattle.semantics.specs.Check.{check}
+use Rattle.walks.specs.Marks.{sizeT}
+use Rattle.walks.specs.Counted.{answerTo, countUp}
+use Rattle.arena.specs.Arena.{slotSize}
+use Rattle.plan_arena.specs.Answers.{blockSlots}
+use Rattle.plan_context.specs.View.{treeOf}
+use Rattle.plan_context.specs.Reading.{Loaded}
+use Rattle.transform_up.specs.declared.Walk.{Walk}
+use Rattle.transform_up.specs.declared.Stop.{Stop}
+use Rattle.transform_up.specs.declared.Stop.the-variants as stop
+use Rattle.transform_up.specs.Walking.{stepOf}
+use Rattle.transform_up.specs.Tidying.{fullSlots}
+use Rattle.sort_placement.specs.declared.calls.Call.{Call}
+use Rattle.sort_placement.specs.declared.calls.Call.the-variants.{CheckOrder, CopyPlan, TransformUp}
+use Rattle.sort_placement.specs.declared.calls.Called.{Called}
+use Rattle.sort_placement.specs.declared.calls.Called.the-variants.{Done, NoRoom}
+use Rattle.sort_placement.specs.declared.memory.Answer.{Answer}
+use Rattle.sort_placement.specs.Answers.{Result, checks, gives, rewritten, refusalIn, outputIn, passesIn}
+
+abbrev pub resultOf : Call → Plan → Result
+resultOf CheckOrder f = checks (check f)
+resultOf CopyPlan f = gives f
+resultOf (TransformUp w) f = rewritten (answerTo f (countUp (stepOf w) (size f) f))
+
+-- What a call answers and leaves in the output: all that the result settles, or that the arena, of so many bytes, was too small
+abbrev pub CalledAs : Called → Result → List ℕ → List ℕ → ℕ → Type 0
+CalledAs (Done n b) R out out' room = (n ≡ numberOf (refusalIn R out)) × (b ≡ passesIn R) × (out' ≡ outputIn R out)
+CalledAs NoRoom R out out' room = (out' ≡ out) × (room < fullSlots * slotSize)
+
+-- in the end
+abbrev pub Answered : Answer → Result → List ℕ → List ℕ → Type 0
+Answered r R out out' = (r .number ≡ numberOf (refusalIn R out)) × (r .passes ≡ passesIn R) × (out' ≡ outputIn R out)
+
+-- as a walk stops
+abbrev pub stoppedAs : Stop → Called
+stoppedAs stop.TooManyNodes = Done (numberOf TooManyNodes) false
+stoppedAs stop.NoRoom = NoRoom
+
+-- What a call asks of the plan that was read: the tree at h, its slots not yet settled
+pub record Loads (m : List ℕ) (u h : ℕ) (c : List ℕ) : Type 0 where
+  pub loaded : Loaded m u
+  pub here : h < 2 * u
+  pub few : u ≤ 126
+  pub size : sizeT (treeOf m h) ≤ 126
+  pub scratch : fullSlots * slotSize ≤ length m → 126 * slotSize ≤ length c
+
+-- and of the memory: slots for all records that the file's blocks can hold
+pub record Memory (s m c : List ℕ) : Type 0 where
+  pub room : blockSlots * blockCount s ≤ length m
+  pub scratch : fullSlots * slotSize ≤ length m → 126 * slotSize ≤ length c

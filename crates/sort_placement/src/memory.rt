@@ -1,0 +1,103 @@
+// Working memory: one ladder of arenas under all calls. A call that finds its arena too small takes the next larger one; of the largest it is proved that this cannot be.
+use crate::calls::Call;
+use crate::calls::Called;
+use crate::calls::call_in;
+ghost use mathlib.Core.Path.{_≡_};
+ghost use Prim.Native.Nat.{_*_, _≤_, _<_};
+ghost use Rattle.plan_codec.specs.Reading.{reading};
+ghost use Rattle.plan_format.specs.Blocks.{blockCount};
+ghost use Rattle.sort_placement.specs.Answers.{afterReading};
+ghost use Rattle.sort_placement.specs.Calls.{resultOf, CalledAs, Answered};
+
+// What a call answers in the end: the number of its refusal or 0, and whether the plan passes.
+pub struct Answer {
+    pub number: u32,
+    pub passes: bool,
+}
+
+// The slots to start with, for a file of so many blocks: a walk takes some four for each node.
+fn first_slots(k: Call, blocks: usize) -> usize
+    requires { ⌜ blocks ≤ 18 ⌝ }
+    ensures { λ n. ⌜ (7 * blocks ≤ n) × (n ≤ 504) ⌝ }
+{
+    match k {
+        Call::CheckOrder => 7 * blocks,
+        Call::CopyPlan => 7 * blocks,
+        Call::TransformUp(_) => 28 * blocks,
+    }
+}
+
+// The call in an arena of at least so many slots, not the largest.
+fn call_with(k: Call, plan: &[u8], out: &mut [u8], slots: usize) -> Called
+    requires { ⌜ (7 * blockCount (now plan) ≤ slots) × (slots ≤ 382) ⌝ }
+    ensures { λ r. ⌜ CalledAs r (afterReading (resultOf k) (reading (now (plan .entry)))) (now (out .entry)) (now (out .exit)) 0 ⌝ }
+{
+    let mut c = [0u8; 1];
+    if slots <= 7 {
+        let mut m = [0u8; 1344];
+        return call_in(k, plan, out, &mut m, &mut c);
+    }
+    if slots <= 21 {
+        let mut m = [0u8; 4032];
+        return call_in(k, plan, out, &mut m, &mut c);
+    }
+    if slots <= 63 {
+        let mut m = [0u8; 12096];
+        return call_in(k, plan, out, &mut m, &mut c);
+    }
+    if slots <= 126 {
+        let mut m = [0u8; 24192];
+        return call_in(k, plan, out, &mut m, &mut c);
+    }
+    if slots <= 240 {
+        let mut m = [0u8; 46080];
+        return call_in(k, plan, out, &mut m, &mut c);
+    }
+    let mut m = [0u8; 73344];
+    call_in(k, plan, out, &mut m, &mut c)
+}
+
+// The call in the largest arena.
+fn call_in_largest(k: Call, plan: &[u8], out: &mut [u8]) -> Answer
+    requires { ⌜ blockCount (now plan) ≤ 18 ⌝ }
+    ensures { λ r. ⌜ Answered r (afterReading (resultOf k) (reading (now (plan .entry)))) (now (out .entry)) (now (out .exit)) ⌝ }
+{
+    let mut m = [0u8; 148224];
+    let mut c = [0u8; 24192];
+    let r = call_in(k, plan, out, &mut m, &mut c);
+    let Called::Done(number, passes) = r else {
+        return Answer {
+            number: 0,
+            passes: false,
+        };
+    };
+    Answer {
+        number: number,
+        passes: passes,
+    }
+}
+
+// The call on the plan file.
+pub fn call(k: Call, plan: &[u8], out: &mut [u8]) -> Answer
+    ensures { λ r. ⌜ Answered r (afterReading (resultOf k) (reading (now (plan .entry)))) (now (out .entry)) (now (out .exit)) ⌝ }
+{
+    let blocks = plan.len() / 512;
+    if (blocks == 0) | (18 < blocks) {
+        return Answer {
+            number: plan::number(plan_reader::refusal_of(plan)),
+            passes: false,
+        };
+    }
+    let mut slots = first_slots(k, blocks);
+    while slots <= 382 {
+        let r = call_with(k, plan, out, slots);
+        if let Called::Done(number, passes) = r {
+            return Answer {
+                number: number,
+                passes: passes,
+            };
+        }
+        slots = 3 * slots;
+    }
+    call_in_largest(k, plan, out)
+}
