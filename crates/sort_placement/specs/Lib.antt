@@ -3,3 +3,4 @@ pub mod Filing
 pub mod PartialSorts
 pub mod Calls
 pub mod Calling
+pub mod Memory

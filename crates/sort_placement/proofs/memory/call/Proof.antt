@@ -1,3 +1,13 @@
+use borrow.Author.Needs.{needs}
+use native.Mathlib.Omega.{arith}
+use mathlib.Core.Path.{_≡_, refl, sym, ap, _∙_, subst}
+use Prim.Native.Nat.{_*_, _-_, _≤_}
+use Rattle.plan_codec.specs.Reading.{reading}
+use Rattle.plan.specs.Numbers.{numberOf}
+use Rattle.sort_placement.specs.Answers.{afterReading}
+use lib.ListN.{length}
+use Rattle.sort_placement.specs.Calls.{resultOf, Answered, CalledAs}
+use Rattle.sort_placement.specs.Memory.{done-answered, no-room-same, inside, outside}
 use Rattle.sort_placement.proofs.memory.call.Statement.{statement}
 use Rattle.sort_placement.proofs.memory.call.Tie as tie
 use Rattle.sort_placement.proofs.memory.call.Reads as reads
@@ -9,73 +19,58 @@ use Rattle.sort_placement.proofs.memory.call_with.Reads as call-with-re
 use Rattle.sort_placement.proofs.memory.first_slots.Reads as first-slots-reads
 
 abbrev Inv-loop : tie.InvT-loop
-Inv-loop k plan out₀ blocks slots₀ out slots = ?
+Inv-loop k plan out₀ blocks slots₀ out slots = (out ≡ out₀) × (7 * blocks ≤ slots) × (1 ≤ blocks) × (blocks ≤ 18)
 
 abbrev μ-loop : tie.MeasureT-loop
-μ-loop k plan out₀ blocks slots₀ out slots = ?
+μ-loop k plan out₀ blocks slots₀ out slots = 383 - slots
 
--- src/memory.rt:87:34
 refusal-of-requires : tie.Need-refusal-of-requires Inv-loop μ-loop
-refusal-of-requires c κs = ?
+refusal-of-requires c κs = search needs
 
--- src/memory.rt:87:21
 number-requires : tie.Need-number-requires Inv-loop μ-loop
-number-requires c κs = ?
+number-requires c κs = search needs
 
--- src/memory.rt:86:9
 returns : tie.Need-returns Inv-loop μ-loop
-returns c = ?
+returns c = let s = c .before .before .before .before .before in outside (s .args .k) (s .args .plan .now) (s .args .out .now) _ (c .number .ensures ∙ ap numberOf (c .before .refusal-of .ensures)) (c .before .before .if1 .taken)
 
--- src/memory.rt:91:9
 first-slots-requires : tie.Need-first-slots-requires Inv-loop μ-loop
-first-slots-requires c κs = ?
+first-slots-requires c κs = inside _ (c .if1 .left) .1
 
--- src/memory.rt:92:5
 loop-holds : tie.Need-loop-holds Inv-loop μ-loop
-loop-holds c = ?
+loop-holds c = let i = inside _ (c .before .if1 .left) in let x = i .0 in let y = i .1 in (refl, c .first-slots .ensures .0, x, y)
 
--- src/memory.rt:93:13
 call-with-requires : tie.Need-call-with-requires Inv-loop μ-loop
-call-with-requires c κs = ?
+call-with-requires c κs = let s = c .before .before .before .before .before .before .before in let l = c .before .before .loop in (l .inv .1, c .before .loop-test .taken)
 
--- src/memory.rt:94:29
 enum-known-r : tie.Need-enum-known-r Inv-loop μ-loop
-enum-known-r c = ?
+enum-known-r c = search needs
 
--- src/memory.rt:95:13
 same-length : tie.Need-same-length Inv-loop μ-loop
-same-length c = ?
+same-length c = let s = c .before .before .before .before .before .before .before .before .before .before .before .before .before in let l = c .before .before .before .before .before .before .before .before .loop in c .before .before .before .before .before .call-with .kept .1 .1 .0 ∙ ap length (l .inv .0)
 
--- src/memory.rt:95:13
 returns-2 : tie.Need-returns-2 Inv-loop μ-loop
-returns-2 c = ?
+returns-2 c = let s = c .before .before .before .before .before .before .before .before .before .before .before .before .before in let l = c .before .before .before .before .before .before .before .before .loop in let y = c .before .before .before .before .before .call-with in let g = c .before .r .given in done-answered (y .result) (afterReading (resultOf (s .args .k)) (reading (s .args .plan .now))) (s .args .out .now) (y .last .1 .1 .0) 0 (g .0 .0) (g .0 .1 .0) (g .1) (subst (λ x. CalledAs (y .result) (afterReading (resultOf (s .args .k)) (reading (s .args .plan .now))) x (y .last .1 .1 .0) 0) (l .inv .0) (y .ensures))
 
 enum-told : tie.Need-enum-told Inv-loop μ-loop
-enum-told c = ?
+enum-told c = search needs
 
--- src/memory.rt:100:17
 mul-slots : tie.Need-mul-slots Inv-loop μ-loop
-mul-slots c = ?
+mul-slots c = let s = c .before .before .before .before .before .before .before .before .before .before .before .before in let l = c .before .before .before .before .before .before .before .loop in let x = c .before .before .before .before .before .before .loop-test .taken in omega arith
 
--- src/memory.rt:92:5
 loop-less : tie.Need-loop-less Inv-loop μ-loop
-loop-less c = ?
+loop-less c = let s = c .before .before .before .before .before .before .before .before .before .before .before .before in let l = c .before .before .before .before .before .before .before .loop in let x = c .before .before .before .before .before .before .loop-test .taken in let a = l .inv .1 in let b = l .inv .2 in omega arith
 
--- src/memory.rt:92:5
 loop-again : tie.Need-loop-again Inv-loop μ-loop
-loop-again c = ?
+loop-again c = let s = c .before .before .before .before .before .before .before .before .before .before .before .before in let l = c .before .before .before .before .before .before .before .loop in let y = c .before .before .before .before .call-with in let a = l .inv .1 in (no-room-same (y .result) (afterReading (resultOf (s .args .k)) (reading (s .args .plan .now))) (l .out) (y .last .1 .1 .0) 0 (c .enum-told .given .1) (y .ensures) ∙ l .inv .0, omega arith, l .inv .2, l .inv .3)
 
--- src/memory.rt:102:5
 call-in-largest-requires : tie.Need-call-in-largest-requires Inv-loop μ-loop
-call-in-largest-requires c κs = ?
+call-in-largest-requires c κs = let s = c .before .before .before .before .before .before .before in let l = c .before .before .loop in l .inv .3
 
--- src/memory.rt:81:1
 same-length-2 : tie.Need-same-length-2 Inv-loop μ-loop
-same-length-2 c = ?
+same-length-2 c = let s = c .before .before .before .before .before .before .before .before .before .before in let l = c .before .before .before .before .before .loop in c .before .before .call-in-largest .kept .1 .1 .0 ∙ ap length (l .inv .0)
 
--- src/memory.rt:81:1
 returns-3 : tie.Need-returns-3 Inv-loop μ-loop
-returns-3 c = ?
+returns-3 c = let s = c .before .before .before .before .before .before .before .before .before .before in let l = c .before .before .before .before .before .loop in let y = c .before .before .call-in-largest in subst (λ x. Answered (y .result) (afterReading (resultOf (s .args .k)) (reading (s .args .plan .now))) x (y .last .1 .1 .0)) (l .inv .0) (y .ensures)
 
 pub call-spec : {M : Type 1} → statement M
 call-spec =

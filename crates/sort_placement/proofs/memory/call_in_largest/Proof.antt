@@ -1,45 +1,41 @@
 use borrow.Author.Needs.{needs}
+use native.Mathlib.Omega.{arith}
+use Rattle.plan_codec.specs.Reading.{reading}
+use Rattle.sort_placement.specs.Answers.{afterReading}
+use Rattle.sort_placement.specs.Calls.{resultOf}
+use Rattle.sort_placement.specs.Memory.{done-answered, full-done}
 use Rattle.sort_placement.proofs.memory.call_in_largest.Statement.{statement}
 use Rattle.sort_placement.proofs.memory.call_in_largest.Tie as tie
 use Rattle.sort_placement.proofs.memory.call_in_largest.Reads as reads
 use Rattle.sort_placement.proofs.memory.call_in_largest.Lts as lts
 use Rattle.sort_placement.proofs.calls.call_in.Reads as call-in-reads
 
--- src/memory.rt:67:35
 slice-aggregate-call-in : tie.Need-slice-aggregate-call-in
 slice-aggregate-call-in c = search needs
 
--- src/memory.rt:67:43
 slice-aggregate-call-in-2 : tie.Need-slice-aggregate-call-in-2
 slice-aggregate-call-in-2 c = search needs
 
--- src/memory.rt:67:9
 call-in-requires : tie.Need-call-in-requires
-call-in-requires c κs = ?
+call-in-requires c κs = let s = c .before .before .before .before .before in let a = s .pre in record { room = omega arith; scratch = λ f. omega arith }
 
--- src/memory.rt:68:22
 enum-known-r : tie.Need-enum-known-r
 enum-known-r c = search needs
 
--- src/memory.rt:69:9
 enum-told : tie.Need-enum-told
 enum-told c = search needs
 
--- src/memory.rt:69:9
 same-length : tie.Need-same-length
 same-length c = search needs
 
--- src/memory.rt:69:9
 returns : tie.Need-returns
-returns c = ?
+returns c = let s = c .before .before .before .before .before .before .before .before .before .before .before .before in let y = c .before .before .before .before .before .before .call-in in absurd (full-done (y .result) (afterReading (resultOf (s .args .k)) (reading (s .args .plan .now))) (s .args .out .now) (y .last .1 .1 .0) 148224 (omega arith) (c .enum-told .given .1) (y .ensures))
 
--- src/memory.rt:61:1
 same-length-2 : tie.Need-same-length-2
 same-length-2 c = search needs
 
--- src/memory.rt:61:1
 returns-2 : tie.Need-returns-2
-returns-2 c = ?
+returns-2 c = let s = c .before .before .before .before .before .before .before .before .before .before .before .before .before in let y = c .before .before .before .before .before .before .before .call-in in let g = c .before .r .given in done-answered (y .result) (afterReading (resultOf (s .args .k)) (reading (s .args .plan .now))) (s .args .out .now) (y .last .1 .1 .0) 148224 (g .0 .0) (g .0 .1 .0) (g .1) (y .ensures)
 
 pub call-in-largest-spec : {M : Type 1} → statement M
 call-in-largest-spec =
