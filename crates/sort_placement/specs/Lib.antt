@@ -4,3 +4,4 @@ pub mod PartialSorts
 pub mod Calls
 pub mod Calling
 pub mod Memory
+pub mod Checking

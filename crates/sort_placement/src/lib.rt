@@ -1,3 +1,32 @@
-// The C exports, on numbers and byte slices.
+// The C exports, on numbers and byte slices. Each answers the number of its refusal, or 0; a refusal leaves what was lent alone, and bytes past the file that is written stay.
 pub mod calls;
 pub mod memory;
+use crate::calls::Call;
+use crate::memory::call;
+ghost use mathlib.Core.Path.{_≡_};
+ghost use Rattle.plan.specs.Numbers.{numberOf};
+ghost use Rattle.plan_format.specs.Reading.{refusalOf};
+ghost use Rattle.plan_codec.specs.Reading.{reading};
+ghost use Rattle.walks.specs.Counted.{answered};
+ghost use Rattle.sort_placement.specs.Answers.{checkAnswer, rewrites, refusalIn, outputIn};
+
+// In `passes` 1 where the plan passes the order check, 0 where it doesn't.
+#[no_mangle]
+pub extern "C" fn check_order(plan: &[u8], passes: &mut u32) -> u32
+    ensures { λ r. ⌜ (r ≡ numberOf (refusalOf (now (plan .entry)))) × (now (passes .exit) ≡ checkAnswer (reading (now (plan .entry))) (now (passes .entry))) ⌝ }
+{
+    let mut none = [0u8; 1];
+    let a = call(Call::CheckOrder, plan, &mut none);
+    if a.number == 0 {
+        *passes = a.passes as u32;
+    }
+    a.number
+}
+
+// A plan is read, and written to the output: the same bytes, since a plan has one file. For drivers that test and time both.
+#[no_mangle]
+pub extern "C" fn copy_plan(plan: &[u8], out: &mut [u8]) -> u32
+    ensures { λ r. ⌜ (r ≡ numberOf (refusalIn (rewrites answered (now (plan .entry))) (now (out .entry)))) × (now (out .exit) ≡ outputIn (rewrites answered (now (plan .entry))) (now (out .entry))) ⌝ }
+{
+    call(Call::CopyPlan, plan, out).number
+}
