@@ -117,8 +117,9 @@ pub fn transform_up(w: Walk, m: &mut [u8], v: usize, i: usize, n: usize, c: &mut
     let mut kids = [0usize; 8];
     let mut u = v;
     let mut k = n;
-    let mut j = 0;
-    while j < count {
+    let mut left = count;
+    while 0 < left {
+        let j = count - left;
         let h = child(m, i, j);
         let r = transform_up(w, m, u, h / 2, k, c);
         let Walked::Done(used, root, total) = r else {
@@ -127,7 +128,7 @@ pub fn transform_up(w: Walk, m: &mut [u8], v: usize, i: usize, n: usize, c: &mut
         u = used;
         k = total;
         kids[j] = root;
-        j += 1;
+        left -= 1;
     }
     finish(w, m, v, u, &kids[..count], i, k, k + was - n, c)
 }
