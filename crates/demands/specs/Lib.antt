@@ -6,3 +6,4 @@ pub mod EnsurePasses
 pub mod ChecksKept
 pub mod AcceptedRuns
 pub mod CheckedFiles
+pub mod RewrittenFiles
