@@ -83,7 +83,7 @@ module _ (r : List ℕ) (fs : List Facts) (m : ℕ) (ps : List Key) (p : Pushed)
         let c : childrenOk n m ≡ true = count-of n e in
         let G : Op → Facts → Facts → Facts → walk.Pushed = λ n F L R. walk.pushToSide n t F L R ps (walk.exprSourceSide F ps t (L .width)) in
         let i : G (decode r) F L R ≡ G n (factsOp n fs) (at0 fs) (at1 fs) =
-          ap₂ (λ n F. G n F L R) e (facts-of n e) ∙ ap₂ (G n (factsOp n fs)) (s .first (let z = two-at-least m c in omega arith)) (s .second (two-at-least m c)) in
+        ap₂ (λ n F. G n F L R) e (facts-of n e) ∙ ap₂ (G n (factsOp n fs)) (s .first (let z = two-at-least m c in omega arith)) (s .second (two-at-least m c)) in
         subst⁻¹ (λ o. Pushes m (walk.pushByKind o fs ps) p) e (subst (λ j. Pushes j (G n (factsOp n fs) (at0 fs) (at1 fs)) p) (sym (eqb-true m 2 c)) (subst (λ P. Pushes 2 P p) i h))
 
     pub by-hash : (t : JoinType) → decode r ≡ hashJoin t (pairsOf r) → (x y : ℕ) → x ≡ F .width → y ≡ R .width

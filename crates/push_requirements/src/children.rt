@@ -80,13 +80,13 @@ fn handle_sort(r: &[u8], a: &[u8], parent: Keys) -> Pushed
     Pushed::Stop
 }
 
-// A merge that knows no order, for its keys are all constant, lets none be pushed past it: the Rust panics there.
+// A merge that knows no order, for its keys are all constant, lets none be pushed past it.
 fn handle_merge(own: &[u8], parent: Keys) -> Pushed
     requires { ⌜ FactRow (now own) × (parent .len ≤ 8) ⌝ }
     ensures { λ p. ⌜ ((m : ℕ) → Pushes m (walk.handleMerge (told (now (own .entry))) (keysOf parent)) p) ⌝ }
 {
     let Order::By(order) = known_order(own) else {
-        return Pushed::Stop;
+        return Pushed::Stop; // the Rust panics here
     };
     if compatible(own, parent, order) {
         return handle_custom_pushdown(parent);
@@ -130,7 +130,14 @@ fn push_by_kind(r: &[u8], own: &[u8], a: &[u8], b: &[u8], parent: Keys) -> Pushe
         Kind::Merge => push_past_merge(r, own, parent),
         Kind::GlobalLimit => handle_custom_pushdown(parent),
         Kind::LocalLimit => handle_custom_pushdown(parent),
-        Kind::SortMergeJoin => try_pushdown_requirements_to_join(r, own, a, b, join_type(r), parent),
+        Kind::SortMergeJoin => try_pushdown_requirements_to_join(
+            r,
+            own,
+            a,
+            b,
+            join_type(r),
+            parent,
+        ),
         Kind::HashJoin => handle_hash_join(join_type(r), width(own), width(b), parent),
         Kind::OutputRequirement => push_past_output_requirement(r, parent),
         Kind::PartialSort => Pushed::Stop,

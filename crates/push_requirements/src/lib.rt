@@ -2,6 +2,7 @@
 pub mod children;
 pub mod joins;
 pub mod requirements;
+
 use key_lists::Order;
 use plan::Distribution;
 use plan::Fetch;

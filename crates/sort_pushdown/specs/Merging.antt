@@ -88,8 +88,8 @@ asked-again r own a b order new again h x y =
       second = h .second;
       few = y .few;
       inside =
-        subst⁻¹ (All (λ k. k .col < told own .width)) (y .is ∙ ap (nf (told own) []) (x .is))
-        (nf-all (isC (told own)) (cl (told own)) (λ k l. let d = h .here .fine .down (k .col) in let e = classes (loaded own) (h .here .fine) (k .col) in omega arith) [] (fresh-all (told own) [] (keysOf order) (h .inside)));
+          subst⁻¹ (All (λ k. k .col < told own .width)) (y .is ∙ ap (nf (told own) []) (x .is))
+          (nf-all (isC (told own)) (cl (told own)) (λ k l. let d = h .here .fine .down (k .col) in let e = classes (loaded own) (h .here .fine) (k .col) in omega arith) [] (fresh-all (told own) [] (keysOf order) (h .inside)));
       merged = h .merged;
       hashed = h .hashed;
     }
@@ -194,8 +194,8 @@ module _ (c : Plan) (n o : Op) (q : walk.Visit) (F L R : Facts) (s : Seen n o (f
     merge-stop h w t asks =
         let G : Facts = factsOp p (facts c) in
         let x : newMerge (keysOf new) fetch ++ sortAboveWithDistribution F (keysOf again) fetch Unspecified ≡ newMerge (freshKeys G [] (q .req .order)) (q .req .fetch) ++ sortAboveWithDistribution G (nf G [] (freshKeys G [] (q .req .order))) (q .req .fetch) Unspecified =
-          ap₂ (λ (l : List Key) (f : Fetch). newMerge l f ++ sortAboveWithDistribution F (keysOf again) f Unspecified) new₁ ef
-          ∙ ap₂ (λ (H : Facts) (l : List Key). newMerge (freshKeys G [] (q .req .order)) (q .req .fetch) ++ sortAboveWithDistribution H l (q .req .fetch) Unspecified) facts₁ (ka .is ∙ ap₂ (λ H l. nf H [] l) facts₁ new₁) in
+        ap₂ (λ (l : List Key) (f : Fetch). newMerge l f ++ sortAboveWithDistribution F (keysOf again) f Unspecified) new₁ ef
+        ∙ ap₂ (λ (H : Facts) (l : List Key). newMerge (freshKeys G [] (q .req .order)) (q .req .fetch) ++ sortAboveWithDistribution H l (q .req .fetch) Unspecified) facts₁ (ka .is ∙ ap₂ (λ H l. nf H [] l) facts₁ new₁) in
         after-stop o p c r q (walk.triedAgain q o c) (tried Stop h)
         (stay-by o c _ p (λ i. walk.withOwnDistribution p i .req) 0 true false tops reqs r w (subst (λ l. Adds l tops) x t) refl refl (own-like n p (facts c) (walk.childCount c) F L R seen₁ (fetches c) reqs asks))
 

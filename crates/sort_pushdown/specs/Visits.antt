@@ -59,7 +59,7 @@ module _ (o : Op) (q : Visit) (c : Plan) (F : Facts) (r : Decision) (d : Decides
   pub counts-down : (v : ℕ → Visit) (n : ℕ) (s : Plan) → v 0 ≡ q
       → countDown v n (tree o c s)
       ≡ goOn (stepBy (isSort o && isNil (knownOrder F)) (r .quiet) (r .peak) (afterBy r n))
-          (λ j. bind (countDown (visitFor r (fetches c)) j c) (λ x m. bind (countDown (λ i. v (suc i)) m s) (λ y l. counted (plant (carryOut (pushdownSortsHelper q o c) x) y) l)))
+      (λ j. bind (countDown (visitFor r (fetches c)) j c) (λ x m. bind (countDown (λ i. v (suc i)) m s) (λ y l. counted (plant (carryOut (pushdownSortsHelper q o c) x) y) l)))
   counts-down v n s e =
       let D : Decided = pushdownSortsHelper q o c in
       let g : ℕ → Counted (Forest Marked) = λ j. bind (countDown (D .reqs) j c) (λ x m. bind (countDown (λ i. v (suc i)) m s) (λ y l. counted (plant (carryOut D x) y) l)) in

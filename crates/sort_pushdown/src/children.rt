@@ -27,7 +27,13 @@ ghost use Rattle.push_requirements.specs.Pushing.{required, Going};
 ghost use Rattle.sort_pushdown.specs.Decisions.{Asks, ofChild, visitOf, visitFor};
 
 // An order for the first child and one for the others, with each child's own distribution if it is stronger.
-pub fn hand_down(r: &[u8], first: Order, rest: Order, fetch: Fetch, d: Distribution) -> ChildRequirements
+pub fn hand_down(
+    r: &[u8],
+    first: Order,
+    rest: Order,
+    fetch: Fetch,
+    d: Distribution,
+) -> ChildRequirements
     requires { ⌜ Proper (now r) ⌝ }
     ensures { λ q. ⌜ ((m : ℕ) (ts : List Fetches) (ks : ℕ → List Key) → Going m ks first rest → Asks m ts (λ i. walk.handDown ks fetch d (decode (now (r .entry))) i .req) q) ⌝ }
 {

@@ -69,7 +69,14 @@ fn unasked(root: bool, r: &[u8]) -> Decision
 }
 
 // The node stays as it is, and its children are required these orders.
-fn handed_on(r: &[u8], own: &[u8], first: Order, rest: Order, fetch: Fetch, d: Distribution) -> Decision
+fn handed_on(
+    r: &[u8],
+    own: &[u8],
+    first: Order,
+    rest: Order,
+    fetch: Fetch,
+    d: Distribution,
+) -> Decision
     requires { ⌜ Proper (now r) × FactRow (now own) ⌝ }
     ensures { λ x. ⌜ ((c : Plan) (o : Op) (L R : sem.Facts) (ks : ℕ → List Key) → Seen (decode (now (r .entry))) o (sem.facts c) (walk.childCount c) (told (now (own .entry))) L R → Going (walk.childCount c) ks first rest → Decides o c (walk.stays o (walk.handDown ks fetch (walk.effectiveDist (sem.factsOp o (sem.facts c)) d) o)) x) ⌝ }
 {
@@ -104,7 +111,13 @@ fn merge_added(
     let again = normal_form(own, new);
     let p = pushdown_requirement_to_children(r, own, a, b, limit, again, fetch);
     if let Pushed::Goes(first, rest) = p {
-        let reqs = hand_down(r, first, rest, min_fetch(limit, fetch), Distribution::Unspecified);
+        let reqs = hand_down(
+            r,
+            first,
+            rest,
+            min_fetch(limit, fetch),
+            Distribution::Unspecified,
+        );
         return stays(true, merge_only(new, fetch), reqs, true);
     }
     let tops = merge_and_sort(own, new, fetch, again, fetch);
@@ -151,7 +164,14 @@ fn touched(d: Decision) -> Decision
     }
 }
 
-pub fn pushdown_sorts_helper(v: Visit, r: &[u8], own: &[u8], a: &[u8], b: &[u8], limit: Fetch) -> Decision
+pub fn pushdown_sorts_helper(
+    v: Visit,
+    r: &[u8],
+    own: &[u8],
+    a: &[u8],
+    b: &[u8],
+    limit: Fetch,
+) -> Decision
     requires { ⌜ Visited (now r) (now own) (now a) (now b) (v .req .order) ⌝ }
     ensures { λ x. ⌜ ((c : Plan) → Seen (decode (now (r .entry))) (decode (now (r .entry))) (sem.facts c) (walk.childCount c) (told (now (own .entry))) (told (now (a .entry))) (told (now (b .entry))) → limit ≡ fetchOp (decode (now (r .entry))) (fetches c) → Decides (decode (now (r .entry))) c (walk.pushdownSortsHelper (visitOf v) (decode (now (r .entry))) c) x) ⌝ }
 {

@@ -4,6 +4,7 @@ pub mod deciding;
 pub mod new_nodes;
 pub mod sorts;
 pub mod steps;
+
 use key_lists::Order;
 use plan::Fetch;
 use plan::Refusal;

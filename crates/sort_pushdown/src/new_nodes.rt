@@ -31,7 +31,12 @@ pub fn no_nodes() -> NewNodes
 }
 
 // add_sort_above_with_distribution: a sort of the order, and a merge over it where the parent wants one stream and there are several.
-pub fn sort_above_with_distribution(own: &[u8], order: Keys, fetch: Fetch, d: Distribution) -> NewNodes
+pub fn sort_above_with_distribution(
+    own: &[u8],
+    order: Keys,
+    fetch: Fetch,
+    d: Distribution,
+) -> NewNodes
     requires { ⌜ FactRow (now own) × (order .len ≤ 8) ⌝ }
     ensures { λ t. ⌜ Adds (sortAboveWithDistribution (told (now (own .entry))) (keysOf order) fetch d) t ⌝ }
 {

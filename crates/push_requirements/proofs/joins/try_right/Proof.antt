@@ -63,7 +63,7 @@ wanted-order-requires-2 : tie.Need-wanted-order-requires-2
 wanted-order-requires-2 c κs = c .before .before .before .before .before .before .before .before .before .before .before .before .before .before .before .before .before .pre .0 .proper
 
 returns-3 : tie.Need-returns-3
-returns-3 c = let s = c .before .before .before .before .before .before .before .before .before .before .before .before .before .before .before .before .before .before in let t = s .args .t in let r = s .args .r .now in let own = s .args .own .now in let a = s .args .a .now in let b = s .args .b .now in let j = s .pre .0 in let ps = s .args .parent in let ks = s .args .keys in 
+returns-3 c = let s = c .before .before .before .before .before .before .before .before .before .before .before .before .before .before .before .before .before .before in let t = s .args .t in let r = s .args .r .now in let own = s .args .own .now in let a = s .args .a .now in let b = s .args .b .now in let j = s .pre .0 in let ps = s .args .parent in let ks = s .args .keys in
     right-goes t r own a b j ps ks (keysOf (c .before .before .before .before .before .before .before .before .before .before .before .before .keys-in .result)) (c .before .before .before .before .before .before .before .before .before .before .before .compatible .result) (c .before .before .before .before .join-order .result) _ (c .before .before .before .meets-reordered .ensures) (c .before .before .before .before .before .before .before .before .before .drop-repeats .result) (c .before .before .before .before .before .before .before .before .before .drop-repeats .ensures) _ _ (c .before .before .before .before .before .before .before .before .before .before .before .before .keys-in .ensures .is ∙ c .before .before .before .before .before .before .before .before .before .before .before .before .before .wanted-order .ensures .is) (c .before .before .before .before .before .before .before .before .before .before .before .compatible .ensures) (not-false _ (c .before .before .before .before .before .before .before .before .before .before .if1 .left)) (right-new t r own a b j ps ks _ (c .before .before .before .before .before .before .before .keys-in2 .result) (c .before .before .before .before .before .before .before .before .before .drop-repeats .ensures) _ (c .before .before .before .before .before .width .ensures .0) (c .before .before .before .before .before .before .sort-merge-kept .result) (c .before .before .before .before .before .before .sort-merge-kept .ensures) (c .before .before .before .before .join-order .result) (record { is = c .before .before .before .before .before .before .before .keys-in2 .ensures .is ∙ c .before .before .before .before .before .before .before .before .known-order .ensures .is; few = c .before .before .before .before .before .before .before .keys-in2 .ensures .few }) (c .before .before .before .before .join-order .ensures)) (not-false _ (c .before .before .if2 .left)) (c .wanted-order2 .ensures) (c .before .order-of .ensures)
 
 pub try-right-spec : {M : Type 1} → statement M
