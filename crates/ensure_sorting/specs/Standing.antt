@@ -10,10 +10,11 @@ use lib.ListN.{length, getD}
 use Rattle.row_order.specs.Order.{no-bool}
 use Rattle.row_order.specs.Lists.{All, all-cons, all-nil}
 use Rattle.plan.specs.Forest.{none, tree}
-use Rattle.plan.specs.Op.{Op, Plan}
+use Rattle.plan.specs.Op.{Op, sortOp, mergeOp, repartition, Plan}
 use Rattle.plan.specs.Numbers.{kindOf, code}
 use Rattle.plan.specs.WellFormed.{childrenOk, columnsOk, nodeOk}
 use Rattle.plan.specs.declared.Kind.{Kind}
+use Rattle.plan.specs.declared.Kind.the-variants.{Repartition, Sort, Merge}
 use Rattle.plan_format.specs.Record.{children}
 use Rattle.plan_codec.specs.Decode.{fromBytes, operatorOf, decode}
 use Rattle.semantics.specs.Bools.{and-left, and-right}
@@ -59,9 +60,27 @@ over-proper m r ks a =
     encoded.proper r (length ks) (map (λ F. F .width) (known (forest m ks))) (a .canon) (rule m r ks a .fields) (columns-of (decode r) (map (λ F. F .width) (known (forest m ks))) (a .ok .0)) (w 0) (w 1)
 
 -- the operator of a kind
-pub op-of : (r : List ℕ) (k : Kind) → kindOf (getD r 0 0) ≡ k → decode r ≡ operatorOf k (fromBytes r)
+op-of : (r : List ℕ) (k : Kind) → kindOf (getD r 0 0) ≡ k → decode r ≡ operatorOf k (fromBytes r)
 unfolding decode
 op-of r k e = ap (λ x. operatorOf x (fromBytes r)) e
+
+-- a sort, a merge, a repartition
+module _ (r : List ℕ) (p : Proper r) where
+  pub sort-op : code (decode r) ≡ 7 → decode r ≡ sortOp (fromBytes r .preserve) (fromBytes r .keys) (fromBytes r .fetch)
+  unfolding kindOf
+  sort-op c = op-of r Sort (ap kindOf (p .kind ∙ c))
+
+  pub merge-op : code (decode r) ≡ 8 → decode r ≡ mergeOp (fromBytes r .keys) (fromBytes r .fetch)
+  unfolding kindOf
+  merge-op c = op-of r Merge (ap kindOf (p .kind ∙ c))
+
+  pub part-op : code (decode r) ≡ 5 → decode r ≡ repartition (fromBytes r .preserve) (fromBytes r .streams) (fromBytes r .hash) (fromBytes r .keys)
+  unfolding kindOf
+  part-op c = op-of r Repartition (ap kindOf (p .kind ∙ c))
+
+-- they have one child
+pub one-kid : (m r ks : List ℕ) → Over m r ks → (o : Op) → decode r ≡ o → ((n : ℕ) → childrenOk o n ≡ eqb n 1) → length ks ≡ 1
+one-kid m r ks a o e c = eqb-true (length ks) 1 (sym (c (length ks)) ∙ ap (λ x. childrenOk x (length ks)) (sym e) ∙ rule m r ks a .count)
 
 -- ---- what the leaves' tests of kinds say
 
