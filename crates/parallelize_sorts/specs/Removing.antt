@@ -190,8 +190,7 @@ module _ (b₀ : List ℕ) (u h : ℕ) (p : Opens b₀ u h) where
       module _ (r : List ℕ) (hr : r ≡ slot b₀ (index h) .rec) where
         pub end-puts : Puts b w r (take n kids) × (index h < w)
         end-puts =
-            let v = q .left in let t = whole in let l = q .made .long in let x = p .room in let y = p .small in let z = each-size free c₀ in let s = shown .small in let f = ap size news in let d = q .made .more in let i = own .low in
-            (
+            let v = q .left in let t = whole in let l = q .made .long in let x = p .room in let y = p .small in let z = each-size free c₀ in let s = shown .small in let f = ap size news in let d = q .made .more in let i = own .low in (
               record {
                 arena = q .made .arena;
                 room = omega arith;

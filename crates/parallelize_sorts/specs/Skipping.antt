@@ -56,8 +56,7 @@ module _ (m : List ℕ) (u : ℕ) (a : Arena m u) (o : Op) (h : ℕ) (l : h < 2 
     pub down : (k : ℕ) → k ≡ getD (slot m (index h) .kids) 0 0 → (k < h) × Skipping m u o h k
     down k e =
         let x = one in let y = kid-low m u (index h) (held-at m u h a l) 0 (omega arith) in
-        let z = first-skip o (treeOf m h) m (slot m (index h) .kids) (omega arith) in
-        (
+        let z = first-skip o (treeOf m h) m (slot m (index h) .kids) (omega arith) in (
           omega arith,
           record {
             here = omega arith;

@@ -115,3 +115,44 @@ fn lift_first(m: &mut [u8], u: usize, r: &[u8], i: usize) -> At
     kids[0] = skip_same(m, u, r, k);
     settle(m, u, r, &kids[..n], i)
 }
+
+// The tree at h, if it is connected: it loses the coalesce that is its first child, or its connected children are rewritten. removable: its parent wants no single
+// stream of it.
+fn remove_bottleneck_in_subplan_impl(m: &mut [u8], u: usize, h: usize, removable: bool) -> At
+    requires { ⌜ Opens (now m) u h ⌝ }
+    ensures { λ a. ⌜ Grown (now (m .entry)) u (now (m .exit)) a (openOne removable (treeOf (now (m .entry)) h)) (u + sizeT (treeOf (now (m .entry)) h)) ⌝ }
+{
+    if !(is_marked(h) & removable) {
+        return At { used: u, root: h };
+    }
+    let i = h / 2;
+    let r = read64(record_at(m, i));
+    if removes_first(m, u, &r, i) {
+        return lift_first(m, u, &r, i);
+    }
+    let n = child_count(m, i);
+    let mut kids = [0usize; 8];
+    let mut w = u;
+    let mut j = 0;
+    while j < n {
+        let k = child(m, i, j);
+        let one = wants_single(&r, j);
+        let a = remove_bottleneck_in_subplan_impl(m, w, k, !one);
+        w = a.used;
+        kids[j] = a.root;
+        j += 1;
+    }
+    settle(m, w, &r, &kids[..n], i)
+}
+
+// What stands below the node with the record r and the only child at h, without bottlenecks: the caller takes the node itself out.
+pub fn remove_bottleneck_in_subplan(m: &mut [u8], u: usize, r: &[u8], h: usize) -> At
+    requires { ⌜ Opens (now m) u h × Proper (now r) ⌝ }
+    ensures { λ a. ⌜ Grown (now (m .entry)) u (now (m .exit)) a (freed (over (decode (now (r .entry))) false (treeOf (now (m .entry)) h))) (u + sizeT (treeOf (now (m .entry)) h)) ⌝ }
+{
+    if is_bottleneck(record_at(m, h / 2)) {
+        let k = skip_same(m, u, r, h);
+        return At { used: u, root: k };
+    }
+    remove_bottleneck_in_subplan_impl(m, u, h, true)
+}
