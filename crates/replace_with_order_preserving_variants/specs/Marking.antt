@@ -91,6 +91,11 @@ any-all ks j b l p = right b ∙ ap (λ y. b || anyMarked y) (sym (drop-of-lengt
     right true = refl
     right false = refl
 
+-- ---- "A fetched coalesce selects rows in arrival order"
+
+abbrev pub isFetchedCoalesce : Op → Bool
+isFetchedCoalesce o = isCoalescePartitions o && someFetch (cuts o .fetch)
+
 -- ---- the children of node i, the mark of each that p does not ask for cut
 
 pub record Cut (m : List ℕ) (i : ℕ) (p : ℕ → Bool) (kids : List ℕ) : Type 0 where
@@ -180,23 +185,22 @@ module _ (m : List ℕ) (i : ℕ) (ks : List ℕ) (e : forest m ks ≡ inspected
       go (h ∷ l) q = absurd (omega arith)
 
   module _ (l : 0 < length ks) where
-    by-tests : (f : Bool) → isCoalescePartitions (decode (slot m i .rec)) && someFetch (cuts (decode (slot m i .rec)) .fetch) ≡ f → (s : Bool) → not (headMark (forest m ks)) && initiates (decode (slot m i .rec)) (known (forest m ks)) ≡ s
+    by-tests : (f : Bool) → isFetchedCoalesce (decode (slot m i .rec)) ≡ f → (s : Bool) → not (headMark (forest m ks)) && initiates (decode (slot m i .rec)) (known (forest m ks)) ≡ s
         → cond f false (cond s true (anyMark (forest m ks))) ≡ carries (decode (slot m i .rec)) (forest m ks)
     by-tests f p s q = sym (ap₂ (λ x y. cond (x || y) false (cond (not (headMark (forest m ks)) && initiates o (known (forest m ks))) true (anyMark (forest m ks)))) (roots-some m ks l) p ∙ ap (λ y. cond f false (cond y true (anyMark (forest m ks)))) q)
 
-    pub carries-fetched : (x y : Bool) → x ≡ isCoalescePartitions (decode (slot m i .rec)) → y ≡ someFetch (cuts (decode (slot m i .rec)) .fetch) → x && y ≡ true → false ≡ carries (decode (slot m i .rec)) (forest m ks)
-    carries-fetched x y p q t = by-tests true (sym (ap₂ _&&_ p q) ∙ t) _ refl
+    pub carries-fetched : (x : Bool) → x ≡ isFetchedCoalesce (decode (slot m i .rec)) → x ≡ true → false ≡ carries (decode (slot m i .rec)) (forest m ks)
+    carries-fetched x p t = by-tests true (sym p ∙ t) _ refl
 
-    module _ (x y : Bool) (p : x ≡ isCoalescePartitions (decode (slot m i .rec))) (q : y ≡ someFetch (cuts (decode (slot m i .rec)) .fetch)) (t : x && y ≡ false)
-        (h b : Bool) (hh : h ≡ marked (getD ks 0 0)) (hb : b ≡ initiates (decode (slot m i .rec)) (known (forest m (slot m i .kids)))) where
+    module _ (x : Bool) (p : x ≡ isFetchedCoalesce (decode (slot m i .rec))) (t : x ≡ false) (h b : Bool) (hh : h ≡ marked (getD ks 0 0)) (hb : b ≡ initiates (decode (slot m i .rec)) (known (forest m (slot m i .kids)))) where
       begins : not h && b ≡ not (headMark (forest m ks)) && initiates (decode (slot m i .rec)) (known (forest m ks))
       begins = ap₂ (λ z w. not z && w) (hh ∙ head-is m ks l) (hb ∙ ap (initiates o) (sym known-same))
 
       pub carries-begins : not h && b ≡ true → true ≡ carries (decode (slot m i .rec)) (forest m ks)
-      carries-begins s = by-tests false (sym (ap₂ _&&_ p q) ∙ t) true (sym begins ∙ s)
+      carries-begins s = by-tests false (sym p ∙ t) true (sym begins ∙ s)
 
       pub carries-any : not h && b ≡ false → (z : Bool) → z ≡ anyMarked ks → z ≡ carries (decode (slot m i .rec)) (forest m ks)
-      carries-any s z w = w ∙ any-is m ks ∙ by-tests false (sym (ap₂ _&&_ p q) ∙ t) false (sym begins ∙ s)
+      carries-any s z w = w ∙ any-is m ks ∙ by-tests false (sym p ∙ t) false (sym begins ∙ s)
 
 -- ---- one root of carryEach
 

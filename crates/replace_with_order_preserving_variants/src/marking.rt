@@ -17,12 +17,13 @@ ghost use mathlib.Core.Path.{_≡_};
 ghost use Prim.Native.Nat.{_+_, _<_};
 ghost use lib.ListN.{length};
 ghost use Rattle.plan_codec.specs.Decode.{decode};
+ghost use Rattle.record_fields.specs.Proper.{Proper};
 ghost use Rattle.semantics.specs.Properties as node;
 ghost use Rattle.walks.specs.Marks.{known};
 ghost use Rattle.walks.specs.OrderPreserving as walk;
 ghost use Rattle.arena.specs.Arena.{slot};
 ghost use Rattle.plan_context.specs.View.{treeOf, forest, Arena, Grown};
-ghost use Rattle.replace_with_order_preserving_variants.specs.Marking.{Cut, anyMarked, carryOne, Carrying, Updating, Updated};
+ghost use Rattle.replace_with_order_preserving_variants.specs.Marking.{isFetchedCoalesce, Cut, anyMarked, carryOne, Carrying, Updating, Updated};
 
 // How many slots are used, and the handles of the children.
 pub struct Children {
@@ -37,6 +38,14 @@ pub fn maintains_input_order(m: &[u8], i: usize, j: usize) -> bool
 {
     let k = child(m, i, j);
     maintains(record_at(m, i), row(m, 2 * i), row(m, k), j)
+}
+
+// Whether it is a coalesce with a fetch: that selects rows in arrival order.
+pub fn is_fetched_coalesce(r: &[u8]) -> bool
+    requires { ⌜ Proper (now r) ⌝ }
+    ensures { λ b. ⌜ b ≡ isFetchedCoalesce (decode (now (r .entry))) ⌝ }
+{
+    is_coalesce_partitions(r) & some_fetch(node_properties::fetch(r))
 }
 
 // Whether a path goes on from node i to its child j.
@@ -88,7 +97,7 @@ fn initiates(m: &[u8], i: usize) -> bool
     (is_repartition(r) & !maintains_input_order(m, i, 0)) | (is_coalesce_partitions(r) & is_ordered(row(m, k)))
 }
 
-// The mark of node i over the children ks, whose marks are cut. A fetched coalesce selects rows in arrival order: no path goes through it.
+// The mark of node i over the children ks, whose marks are cut. No path goes through a fetched coalesce.
 fn carries(m: &[u8], i: usize, ks: &[usize]) -> bool
     requires { ⌜ Arena (now m) (i + 1) × (forest (now m) (now ks) ≡ walk.inspected (decode (slot (now m) i .rec)) (forest (now m) (slot (now m) i .kids))) ⌝ }
     ensures { λ b. ⌜ b ≡ walk.carries (decode (slot (now (m .entry)) i .rec)) (forest (now (m .entry)) (now (ks .entry))) ⌝ }
@@ -97,7 +106,7 @@ fn carries(m: &[u8], i: usize, ks: &[usize]) -> bool
         return false;
     }
     let r = record_at(m, i);
-    if is_coalesce_partitions(r) & some_fetch(node_properties::fetch(r)) {
+    if is_fetched_coalesce(r) {
         return false;
     }
     if !is_marked(ks[0]) & initiates(m, i) {

@@ -1,14 +1,10 @@
 use borrow.Author.Needs.{needs}
 use native.Mathlib.Omega.{arith}
 use mathlib.Core.Path.{_≡_, refl, sym, ap, ap₂, _∙_, subst}
-use lib.Dec.{eqb}
-use Rattle.plan.specs.Numbers.{code}
 use Rattle.plan_codec.specs.Decode.{decode}
 use Rattle.record_fields.specs.Proper.{Proper}
-use Rattle.plan.specs.WellFormed.{someFetch}
-use Rattle.semantics.specs.Properties.{cuts}
 use Rattle.replace_with_order_preserving_variants.specs.Nodes.{slot-proper}
-use Rattle.replace_with_order_preserving_variants.specs.Marking.{count-same, carries-none, carries-fetched, carries-begins, carries-any}
+use Rattle.replace_with_order_preserving_variants.specs.Marking.{isFetchedCoalesce, count-same, carries-none, carries-fetched, carries-begins, carries-any}
 use Rattle.replace_with_order_preserving_variants.proofs.marking.carries.Statement.{
   statement,
 }
@@ -16,12 +12,10 @@ use Rattle.replace_with_order_preserving_variants.proofs.marking.carrie
 use Rattle.replace_with_order_preserving_variants.proofs.marking.carries.Reads as reads
 use Rattle.replace_with_order_preserving_variants.proofs.marking.carries.Lts as lts
 use Rattle.arena.proofs.record_at.Reads as record-at-reads
-use Rattle.node_properties.proofs.fetch.Reads as fetch-reads
-use Rattle.node_properties.proofs.is_coalesce_partitions.Reads as is-coalesce-partitions-reads
-use Rattle.node_properties.proofs.some_fetch.Reads as some-fetch-reads
 use Rattle.plan_context.proofs.handles.is_marked.Reads as is-marked-reads
 use Rattle.replace_with_order_preserving_variants.proofs.marking.any_marked.Reads as any-marked-reads
 use Rattle.replace_with_order_preserving_variants.proofs.marking.initiates.Reads as initiates-reads
+use Rattle.replace_with_order_preserving_variants.proofs.marking.is_fetched_coalesce.Reads as is-fetched-coalesce-reads
 
 returns : tie.Need-returns
 returns c = let s = c .before .before .before in let m = s .args .m .now in let i = s .args .i in let ks = s .args .ks .now in let a = s .pre .0 in let e = s .pre .1 in carries-none m i ks e (c .if1 .taken)
@@ -29,17 +23,11 @@ returns c = let s = c .before .before .before in let m = s .args .m .now in let 
 record-at-requires : tie.Need-record-at-requires
 record-at-requires c κs = search needs
 
-is-coalesce-partitions-requires : tie.Need-is-coalesce-partitions-requires
-is-coalesce-partitions-requires c κs = let s = c .before .before .before .before in let m = s .args .m .now in let i = s .args .i in let ks = s .args .ks .now in let a = s .pre .0 in let e = s .pre .1 in subst Proper (sym (c .record-at .ensures)) (slot-proper m i a)
-
-fetch-requires : tie.Need-fetch-requires
-fetch-requires c κs = let s = c .before .before .before .before .before in let m = s .args .m .now in let i = s .args .i in let ks = s .args .ks .now in let a = s .pre .0 in let e = s .pre .1 in subst Proper (sym (c .before .record-at .ensures)) (slot-proper m i a)
-
-some-fetch-requires : tie.Need-some-fetch-requires
-some-fetch-requires c κs = search needs
+is-fetched-coalesce-requires : tie.Need-is-fetched-coalesce-requires
+is-fetched-coalesce-requires c κs = let s = c .before .before .before .before in let m = s .args .m .now in let i = s .args .i in let ks = s .args .ks .now in let a = s .pre .0 in let e = s .pre .1 in subst Proper (sym (c .record-at .ensures)) (slot-proper m i a)
 
 returns-2 : tie.Need-returns-2
-returns-2 c = let s = c .before .before .before .before .before .before .before .before in let m = s .args .m .now in let i = s .args .i in let ks = s .args .ks .now in let a = s .pre .0 in let e = s .pre .1 in carries-fetched m i ks e (let x = c .before .before .before .before .before .if1 .left in omega arith) _ _ (c .before .before .before .is-coalesce-partitions .ensures ∙ ap (λ x. eqb (code (decode x)) 6) (c .before .before .before .before .record-at .ensures)) (c .before .some-fetch .ensures ∙ ap someFetch (c .before .before .fetch .ensures ∙ ap (λ x. cuts (decode x) .fetch) (c .before .before .before .before .record-at .ensures))) (c .if2 .taken)
+returns-2 c = let s = c .before .before .before .before .before .before in let m = s .args .m .now in let i = s .args .i in let ks = s .args .ks .now in let a = s .pre .0 in let e = s .pre .1 in carries-fetched m i ks e (let x = c .before .before .before .if1 .left in omega arith) _ (c .before .is-fetched-coalesce .ensures ∙ ap (λ x. isFetchedCoalesce (decode x)) (c .before .before .record-at .ensures)) (c .if2 .taken)
 
 shared-slice-read-is-marked : tie.Need-shared-slice-read-is-marked
 shared-slice-read-is-marked c = search needs
@@ -48,16 +36,16 @@ is-marked-requires : tie.Need-is-marked-requires
 is-marked-requires c κs = search needs
 
 initiates-requires : tie.Need-initiates-requires
-initiates-requires c κs = let s = c .before .before .before .before .before .before .before .before .before .before in let m = s .args .m .now in let i = s .args .i in let ks = s .args .ks .now in let a = s .pre .0 in let e = s .pre .1 in (a, let n = count-same m i ks e in let x = c .before .before .before .before .before .before .before .if1 .left in omega arith)
+initiates-requires c κs = let s = c .before .before .before .before .before .before .before .before in let m = s .args .m .now in let i = s .args .i in let ks = s .args .ks .now in let a = s .pre .0 in let e = s .pre .1 in (a, let n = count-same m i ks e in let x = c .before .before .before .before .before .if1 .left in omega arith)
 
 returns-3 : tie.Need-returns-3
-returns-3 c = let s = c .before .before .before .before .before .before .before .before .before .before .before .before in let m = s .args .m .now in let i = s .args .i in let ks = s .args .ks .now in let a = s .pre .0 in let e = s .pre .1 in carries-begins m i ks e (let x = c .before .before .before .before .before .before .before .before .before .if1 .left in omega arith) _ _ (c .before .before .before .before .before .before .before .is-coalesce-partitions .ensures ∙ ap (λ x. eqb (code (decode x)) 6) (c .before .before .before .before .before .before .before .before .record-at .ensures)) (c .before .before .before .before .before .some-fetch .ensures ∙ ap someFetch (c .before .before .before .before .before .before .fetch .ensures ∙ ap (λ x. cuts (decode x) .fetch) (c .before .before .before .before .before .before .before .before .record-at .ensures))) (c .before .before .before .before .if2 .left) _ _ (c .before .before .is-marked .ensures) (c .before .initiates .ensures) (c .if3 .taken)
+returns-3 c = let s = c .before .before .before .before .before .before .before .before .before .before in let m = s .args .m .now in let i = s .args .i in let ks = s .args .ks .now in let a = s .pre .0 in let e = s .pre .1 in carries-begins m i ks e (let x = c .before .before .before .before .before .before .before .if1 .left in omega arith) _ (c .before .before .before .before .before .is-fetched-coalesce .ensures ∙ ap (λ x. isFetchedCoalesce (decode x)) (c .before .before .before .before .before .before .record-at .ensures)) (c .before .before .before .before .if2 .left) _ _ (c .before .before .is-marked .ensures) (c .before .initiates .ensures) (c .if3 .taken)
 
 any-marked-requires : tie.Need-any-marked-requires
 any-marked-requires c κs = search needs
 
 returns-4 : tie.Need-returns-4
-returns-4 c = let s = c .before .before .before .before .before .before .before .before .before .before .before .before .before in let m = s .args .m .now in let i = s .args .i in let ks = s .args .ks .now in let a = s .pre .0 in let e = s .pre .1 in carries-any m i ks e (let x = c .before .before .before .before .before .before .before .before .before .before .if1 .left in omega arith) _ _ (c .before .before .before .before .before .before .before .before .is-coalesce-partitions .ensures ∙ ap (λ x. eqb (code (decode x)) 6) (c .before .before .before .before .before .before .before .before .before .record-at .ensures)) (c .before .before .before .before .before .before .some-fetch .ensures ∙ ap someFetch (c .before .before .before .before .before .before .before .fetch .ensures ∙ ap (λ x. cuts (decode x) .fetch) (c .before .before .before .before .before .before .before .before .before .record-at .ensures))) (c .before .before .before .before .before .if2 .left) _ _ (c .before .before .before .is-marked .ensures) (c .before .before .initiates .ensures) (c .before .if3 .left) _ (c .any-marked .ensures)
+returns-4 c = let s = c .before .before .before .before .before .before .before .before .before .before .before in let m = s .args .m .now in let i = s .args .i in let ks = s .args .ks .now in let a = s .pre .0 in let e = s .pre .1 in carries-any m i ks e (let x = c .before .before .before .before .before .before .before .before .if1 .left in omega arith) _ (c .before .before .before .before .before .before .is-fetched-coalesce .ensures ∙ ap (λ x. isFetchedCoalesce (decode x)) (c .before .before .before .before .before .before .before .record-at .ensures)) (c .before .before .before .before .before .if2 .left) _ _ (c .before .before .before .is-marked .ensures) (c .before .before .initiates .ensures) (c .before .if3 .left) _ (c .any-marked .ensures)
 
 pub carries-spec : {M : Type 1} → statement M
 carries-spec =
@@ -65,9 +53,7 @@ carries-spec =
     (tie.spec
     returns
     record-at-requires
-    is-coalesce-partitions-requires
-    fetch-requires
-    some-fetch-requires
+    is-fetched-coalesce-requires
     returns-2
     shared-slice-read-is-marked
     is-marked-requires
