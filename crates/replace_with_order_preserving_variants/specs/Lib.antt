@@ -3,3 +3,4 @@ pub mod Kinds
 pub mod Marking
 pub mod Replacing
 pub mod Preserving
+pub mod Step

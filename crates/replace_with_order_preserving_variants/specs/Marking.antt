@@ -18,7 +18,7 @@ use Rattle.semantics.specs.Properties.{cuts}
 use Rattle.arena.specs.Arena.{slotSize, index, marked, slot, Below}
 use Rattle.arena.specs.declared.At.{At}
 use Rattle.arena.specs.Laws.{below-at, below-more}
-use Rattle.walks.specs.Marks.{Marked, Tree, strip, known, node, plant, opT, setMark, anyMark, headMark}
+use Rattle.walks.specs.Marks.{Marked, Tree, strip, known, node, plant, opT, setMark, unmark, anyMark, headMark}
 use Rattle.walks.specs.Terms.{_⊕_}
 use Rattle.walks.specs.Trees.{Ok, OkT}
 use Rattle.walks.specs.Utils.{isCoalescePartitions}
@@ -96,6 +96,10 @@ any-all ks j b l p = right b ∙ ap (λ y. b || anyMarked y) (sym (drop-of-lengt
 abbrev pub isFetchedCoalesce : Op → Bool
 isFetchedCoalesce o = isCoalescePartitions o && someFetch (cuts o .fetch)
 
+pub nothing-left : (x : Bool) → x && false ≡ false
+nothing-left true = refl
+nothing-left false = refl
+
 -- ---- the children of node i, the mark of each that p does not ask for cut
 
 pub record Cut (m : List ℕ) (i : ℕ) (p : ℕ → Bool) (kids : List ℕ) : Type 0 where
@@ -120,11 +124,11 @@ module _ (m : List ℕ) (i : ℕ) (p : ℕ → Bool) (a : Arena m (i + 1)) where
     pub cutting-room : j < length (slot m i .kids) → j < 8
     cutting-room l = let f = shown m i a .few in omega arith
 
-    module _ (l : j < length (slot m i .kids)) (k : ℕ) (e : k ≡ getD (slot m i .kids) j 0) (x y : Bool) (hx : x ≡ marked k) (hy : y ≡ p j) (r : ℕ) (c : Marks k (x && y) r) where
+    module _ (l : j < length (slot m i .kids)) (k : ℕ) (e : k ≡ getD (slot m i .kids) j 0) (x : Bool) (hx : x ≡ marked k && p j) (r : ℕ) (c : Marks k x r) where
       grown : Grown m (i + 1) m (record { used = i + 1; root = r }) (setMark (marked k && p j) (treeOf m k)) (i + 1)
       grown =
           let s = c .slot in let b = kid-below m i a j l k e in
-          record { arena = a; old = refl; more = omega arith; here = omega arith; tree = c .tree m ∙ ap (λ z. setMark z (treeOf m k)) (ap₂ _&&_ hx hy); room = omega arith }
+          record { arena = a; old = refl; more = omega arith; here = omega arith; tree = c .tree m ∙ ap (λ z. setMark z (treeOf m k)) hx; room = omega arith }
 
       split : masked (from p j) (forest m (drop j (slot m i .kids))) ≡ plant (setMark (marked k && p j) (treeOf m k)) (masked (from p (suc j)) (forest m (drop (suc j) (slot m i .kids))))
       unfolding forest
@@ -215,6 +219,15 @@ masked-size p (tree m c r) = let x = masked-size (λ i. p (suc i)) r in omega ar
 pub marks-ok : (o : Op) (c d : Forest Marked) → strip d ≡ strip c → OkT (node o false c) → OkT (node o false d)
 marks-ok o c d e k = subst (λ (f : Plan). (nodeOk o (map (λ F. F .width) (facts f)) ≡ true) × Ok f) (sym e) k
 
+-- no mark is asked for
+mask-none : (c : Forest Marked) → masked (λ j. false) c ≡ unmark c
+mask-none none = refl
+mask-none (tree m c r) = ap₂ (λ x d. tree (record { op = m .op; mark = x }) c d) (nothing-left (m .mark)) (mask-none r)
+
+pub carry-size : (c : Forest Marked) → size (carryEach c) ≡ size c
+carry-size none = refl
+carry-size (tree m c r) = let x = masked-size (inspectChild (m .op) (known c)) c in let y = carry-size r in omega arith
+
 pub record Carrying (m : List ℕ) (u h : ℕ) : Type 0 where
   pub arena : Arena m u
   pub here : h < 2 * u
@@ -228,40 +241,52 @@ module _ (m : List ℕ) (u h : ℕ) (p : Carrying m u h) where
   pub carry-arena : Arena m (index h + 1)
   carry-arena = let l = half in fewer m u (index h + 1) (omega arith) (p .arena)
 
-  abbrev q : ℕ → Bool
-  q = inspectChild (decode (slot m (index h) .rec)) (known (forest m (slot m (index h) .kids)))
+  -- over its children with the marks that q does not ask for cut, put again
+  module _ (q : ℕ → Bool) (kids : List ℕ) (c : Cut m (index h) q kids) (n : ℕ) (en : n ≡ length (slot m (index h) .kids)) where
+    pub cut-is : forest m (take n kids) ≡ masked q (forest m (slot m (index h) .kids))
+    cut-is = ap (λ z. forest m (take z kids)) en ∙ c .is
 
-  module _ (kids : List ℕ) (c : Cut m (index h) (inspectChild (decode (slot m (index h) .rec)) (known (forest m (slot m (index h) .kids)))) kids) (n : ℕ) (en : n ≡ length (slot m (index h) .kids)) where
-    pub carry-cut : forest m (take n kids) ≡ inspected (decode (slot m (index h) .rec)) (forest m (slot m (index h) .kids))
-    carry-cut = ap (λ z. forest m (take z kids)) en ∙ c .is
-
-    pub carry-puts : Puts m u (slot m (index h) .rec) (take n kids)
-    carry-puts =
+    pub cut-puts : Puts m u (slot m (index h) .rec) (take n kids)
+    cut-puts =
         let s = shown m (index h) carry-arena in let w = c .wide in let f = s .few in let g = s .small in
-        let z = ap size carry-cut ∙ masked-size q (forest m (slot m (index h) .kids)) in let l = half in
+        let z = ap size cut-is ∙ masked-size q (forest m (slot m (index h) .kids)) in let l = half in
         record {
           arena = p .arena;
           room = p .room;
           small = p .small;
           below = below-more (take n kids) (omega arith) (subst (λ z. Below (2 * (index h + 1)) (take z kids)) (sym en) (c .below));
           canon = s .canon ∙ ap (λ z. encode z (decode (slot m (index h) .rec))) (sym (length-take-le n kids (omega arith) ∙ en));
-          ok = marks-ok (decode (slot m (index h) .rec)) (forest m (slot m (index h) .kids)) (forest m (take n kids)) (ap strip carry-cut ∙ strip-masked q (forest m (slot m (index h) .kids))) (s .ok);
+          ok = marks-ok (decode (slot m (index h) .rec)) (forest m (slot m (index h) .kids)) (forest m (take n kids)) (ap strip cut-is ∙ strip-masked q (forest m (slot m (index h) .kids))) (s .ok);
           few = omega arith;
         }
 
-    pub carry-grown : (b : Bool) → b ≡ carries (decode (slot m (index h) .rec)) (forest m (take n kids)) → (m' : List ℕ) (a : At) → Grown m u m' a (node (decode (slot m (index h) .rec)) false (forest m (take n kids))) (u + 1)
-        → (r : ℕ) → Marks (a .root) b r → Grown m u m' (record { used = a .used; root = r }) (carryOne (treeOf m h)) (u + 1)
-    carry-grown b hb m' a g r k =
+    pub cut-grown : (b : Bool) (m' : List ℕ) (a : At) → Grown m u m' a (node (decode (slot m (index h) .rec)) false (forest m (take n kids))) (u + 1)
+        → (r : ℕ) → Marks (a .root) b r → Grown m u m' (record { used = a .used; root = r }) (node (decode (slot m (index h) .rec)) b (masked q (forest m (slot m (index h) .kids)))) (u + 1)
+    cut-grown b m' a g r k =
         let s = k .slot in let x = g .here in
         record {
           arena = g .arena;
           old = g .old;
           more = g .more;
           here = omega arith;
-          tree = k .tree m' ∙ ap (setMark b) (g .tree) ∙ ap₂ (λ z d. node (decode (slot m (index h) .rec)) z d) (hb ∙ ap (carries (decode (slot m (index h) .rec))) carry-cut) carry-cut
-              ∙ sym (ap carryOne (shown m (index h) carry-arena .tree));
+          tree = k .tree m' ∙ ap (setMark b) (g .tree) ∙ ap (node (decode (slot m (index h) .rec)) b) cut-is;
           room = g .room;
         }
+
+  -- with the mark that they carry
+  pub carry-is : (kids : List ℕ) → Cut m (index h) (inspectChild (decode (slot m (index h) .rec)) (known (forest m (slot m (index h) .kids)))) kids
+      → (n : ℕ) → n ≡ length (slot m (index h) .kids) → (b : Bool) → b ≡ carries (decode (slot m (index h) .rec)) (forest m (take n kids))
+      → node (decode (slot m (index h) .rec)) b (inspected (decode (slot m (index h) .rec)) (forest m (slot m (index h) .kids))) ≡ carryOne (treeOf m h)
+  carry-is kids c n en b hb =
+      let o = decode (slot m (index h) .rec) in
+      let d = inspected o (forest m (slot m (index h) .kids)) in
+      ap (λ z. node o z d) (hb ∙ ap (carries o) (ap (λ z. forest m (take z kids)) en ∙ c .is)) ∙ sym (ap carryOne (shown m (index h) carry-arena .tree))
+
+  -- with its own mark and none on its children
+  pub unmarked-is : node (decode (slot m (index h) .rec)) (marked h) (masked (λ j. false) (forest m (slot m (index h) .kids))) ≡ node (opT (treeOf m h)) (treeOf m h .top .mark) (unmark (treeOf m h .kids))
+  unmarked-is =
+      ap (node (decode (slot m (index h) .rec)) (marked h)) (mask-none (forest m (slot m (index h) .kids)))
+      ∙ sym (ap (λ t. node (opT t) (marked h) (unmark (t .kids))) (shown m (index h) carry-arena .tree))
 
 -- ---- child by child
 

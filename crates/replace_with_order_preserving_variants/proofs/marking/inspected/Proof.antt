@@ -1,6 +1,7 @@
 use borrow.Author.Needs.{needs}
 use native.Mathlib.Omega.{arith}
 use mathlib.Core.Path.{_≡_, refl, sym, ap, ap₂, _∙_, subst}
+use mathlib.Core.Bool.{_&&_}
 use Prim.Native.Nat.{_-_}
 use lib.ListN.{length, replicate}
 use Rattle.plan_codec.specs.Decode.{decode}
@@ -59,7 +60,7 @@ loop-less : tie.Need-loop-less Inv-loop μ-loop
 loop-less c = let x = c .before .before .before .before .loop-test .taken in omega arith
 
 loop-again : tie.Need-loop-again Inv-loop μ-loop
-loop-again c = let s = c .before .before .before .before .before .before .before .before in let m = s .args .m .now in let i = s .args .i in let a = s .pre in let l = c .before .before .before .before .before .loop in let e = l .inv .0 in let q = l .inv .1 in let p = inspectChild (decode (slot m i .rec)) (known (forest m (slot m i .kids))) in (e, cutting-more m i p a (l .j) (l .kids) q (let x = c .before .before .before .before .loop-test .taken in omega arith) _ (c .before .before .before .child .ensures) _ _ (c .before .before .is-marked .ensures) (c .before .inspect-child .ensures) _ (c .set-mark .ensures))
+loop-again c = let s = c .before .before .before .before .before .before .before .before in let m = s .args .m .now in let i = s .args .i in let a = s .pre in let l = c .before .before .before .before .before .loop in let e = l .inv .0 in let q = l .inv .1 in let p = inspectChild (decode (slot m i .rec)) (known (forest m (slot m i .kids))) in (e, cutting-more m i p a (l .j) (l .kids) q (let x = c .before .before .before .before .loop-test .taken in omega arith) _ (c .before .before .before .child .ensures) _ (ap₂ _&&_ (c .before .before .is-marked .ensures) (c .before .inspect-child .ensures)) _ (c .set-mark .ensures))
 
 returns : tie.Need-returns Inv-loop μ-loop
 returns c = let s = c .before .before .before .before in let m = s .args .m .now in let i = s .args .i in let a = s .pre in let l = c .before .loop in let e = l .inv .0 in let q = l .inv .1 in let p = inspectChild (decode (slot m i .rec)) (known (forest m (slot m i .kids))) in cutting-all m i p a (l .j) (l .kids) q (let x = c .loop-test .left in omega arith)
