@@ -13,6 +13,7 @@ type Plan = Arc<dyn ExecutionPlan>;
 pub struct Operator {
     pub record: Record,
     pub children: Vec<Plan>,
+    pub nodes: usize,
     properties: Arc<PlanProperties>,
     /// the keys of the record
     ordering: Option<LexOrdering>,
@@ -47,7 +48,8 @@ impl Operator {
         let reported = partitioning.clone().unwrap_or(Partitioning::UnknownPartitioning(known.streams));
         let properties = Arc::new(PlanProperties::of(known, reported, boundedness_of(&record, &children)));
         let ordering = ordering(&record.keys);
-        Operator { record, children, properties, ordering, partitioning }
+        let nodes = 1 + children.iter().map(|c| c.count()).sum::<usize>();
+        Operator { record, children, nodes, properties, ordering, partitioning }
     }
 
     /// A rewrite clears a repartition's preserve mark where it doesn't count, and keeps every other field.

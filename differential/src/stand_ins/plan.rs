@@ -176,7 +176,7 @@ impl dyn ExecutionPlan {
     }
 
     pub fn count(&self) -> usize {
-        1 + self.children().into_iter().map(|c| c.count()).sum::<usize>()
+        self.operator().map_or_else(|| 1 + self.children()[0].count(), |o| o.nodes)
     }
 }
 
