@@ -108,6 +108,22 @@ fn report(call: Call, room: usize, tree: Node, place: &str) {
     println!("{place}: {call:?}, {room} bytes of output, on\n{}{}{why}", listing(&small), text::show(&small));
 }
 
+/// Prints both sides' answers to one call on the plan of a text; whether they agree.
+pub fn show(words: &[String], path: &str) -> bool {
+    let call = Call::from_words(words).expect("a call");
+    let tree = text::parse(&std::fs::read_to_string(path).expect("a text")).expect("a plan");
+    let (file, room) = (plan::write(&tree), if call == Call::Check { 1 } else { MOST_BLOCKS * BLOCK });
+    let rust = rust_side::answer(call, &file, room);
+    println!("the Rust{}:\n{}", if rust.panicked { " panics; document 01" } else { "" }, shown(&rust));
+    let Some(got) = library::answer(call, &file, room) else {
+        println!("the library does not export {}", call.name());
+        return true;
+    };
+    let differs = disagreement(&rust, &got);
+    println!("{}", differs.as_deref().unwrap_or("the library: the same"));
+    differs.is_none()
+}
+
 /// Plans that come out of other walks are plans too.
 fn walked(rng: &mut Rng, tree: Node) -> Node {
     let walks = [Call::Ensure, Call::Parallelize, Call::Preserve([1, 1, 0]), Call::Push];

@@ -269,3 +269,9 @@ pub fn plan(rng: &mut Rng) -> Node {
         }
     }
 }
+
+/// A plan of about that many nodes, without partial sorts.
+pub fn plan_of_size(rng: &mut Rng, nodes: usize) -> Node {
+    let s = style(rng);
+    plan_of(rng, &s, nodes)
+}

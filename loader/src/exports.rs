@@ -32,6 +32,16 @@ impl Call {
         }
     }
 
+    /// The call that words of a command line name, as `preserve spr prefer` or `partial 3`.
+    pub fn from_words(words: &[String]) -> Option<Call> {
+        let on = |word: &str| words.iter().any(|w| w == word) as u8;
+        match words.first()?.as_str() {
+            "preserve" => Some(Call::Preserve([on("spr"), on("spm"), on("prefer")])),
+            "partial" => Some(Call::Partial(words.get(1)?.parse().ok()?)),
+            name => ALL.into_iter().find(|c| c.name() == name),
+        }
+    }
+
     /// Whether the linked library exports it.
     pub fn is_present(self) -> bool {
         match self {

@@ -74,19 +74,7 @@ fn words(args: Vec<String>) -> Result<Words, Failure> {
 }
 
 fn call(words: &[String]) -> Result<Call, Failure> {
-    let on = |word: &str| words.iter().any(|w| w == word) as u8;
-    match words.first().map(String::as_str) {
-        Some("check") => Ok(Call::Check),
-        Some("ensure") => Ok(Call::Ensure),
-        Some("parallelize") => Ok(Call::Parallelize),
-        Some("preserve") => Ok(Call::Preserve([on("spr"), on("spm"), on("prefer")])),
-        Some("push") => Ok(Call::Push),
-        Some("partial") => {
-            let node = words.get(1).and_then(|n| n.parse().ok());
-            Ok(Call::Partial(node.ok_or("partial wants a node's number".to_string())?))
-        }
-        _ => Err(Failure::Told(USAGE.into())),
-    }
+    Call::from_words(words).ok_or_else(|| Failure::Told(USAGE.into()))
 }
 
 fn input(path: &str) -> Result<Vec<u8>, Failure> {
