@@ -28,19 +28,19 @@ use Rattle.walks.specs.EnsureKept.{remarked, strip-unmark}
 use Rattle.walks.specs.KeptRows.{kept-plan, same-plan-rows, SamePlan}
 
 -- ---- marks
-strip-masked : (p : ℕ → Bool) (c : Forest Marked) → strip (masked p c) ≡ strip c
+pub strip-masked : (p : ℕ → Bool) (c : Forest Marked) → strip (masked p c) ≡ strip c
 strip-masked p none = refl
 strip-masked p (tree m c r) = ap (λ (g : Plan). tree (m .op) (strip c) g) (strip-masked (λ i. p (suc i)) r)
 
-strip-carry : (c : Forest Marked) → strip (carryEach c) ≡ strip c
+pub strip-carry : (c : Forest Marked) → strip (carryEach c) ≡ strip c
 strip-carry none = refl
 strip-carry (tree m c r) = ap₂ (λ (f g : Plan). tree (m .op) f g) (strip-masked (inspectChild (m .op) (known c)) c) (strip-carry r)
 
-strip-first : (x : Bool) (c : Forest Marked) → strip (markFirst x c) ≡ strip c
+pub strip-first : (x : Bool) (c : Forest Marked) → strip (markFirst x c) ≡ strip c
 strip-first x none = refl
 strip-first x (tree m c r) = refl
 
-first-kept : {a b h : Bool} {c d : Forest Marked} (x : Bool) → KeepsAll a b h c d → KeepsAll a b h c (markFirst x d)
+pub first-kept : {a b h : Bool} {c d : Forest Marked} (x : Bool) → KeepsAll a b h c d → KeepsAll a b h c (markFirst x d)
 first-kept {d = d} x k = all-kept-trans k (all-kept-strip d (markFirst x d) (strip-first x d) (k .fit))
 
 -- ---- the alternative; f is the sort's fetch
@@ -54,7 +54,7 @@ merge-for g f k ks c e i n h =
     let fits : KeysFit (at0 (known c) .width) (at0 (known c) .order) = all-nth nothing no-keys (orders-fit (strip c) h) 0 in
     merge-ok k ks f ws (subst (λ (l : List Key). KeysFit (getD ws 0 0) l) e (subst (λ (w : ℕ). KeysFit w (at0 (known c) .order)) (sym (nth-width (known c) 0)) fits)) i (over-of (coalesce g) ws refl n)
 
-preserveBy-kept : (spr spm : Bool) (f : Fetch) (x : Bool) (c d : Forest Marked) (o : Op) → Preserved spr spm f x c d o
+pub preserveBy-kept : (spr spm : Bool) (f : Fetch) (x : Bool) (c d : Forest Marked) (o : Op) → Preserved spr spm f x c d o
 preserveBy-kept spr spm f x c d =
     shape-ind (Preserved spr spm f x c d)
     (λ p ks g h i k. kept-rebuild (sortOp p ks g) x false c d h k)
@@ -80,13 +80,13 @@ preserveBy-kept spr spm f x c d =
     coalesced Unlimited h i k = merged h k (at0 (known d) .order) refl spm
     coalesced (AtMost n) h i k = kept-mark false (kept-refl (node (coalesce (AtMost n)) x c) (h, i))
 
-preserveEach-kept : (spr spm : Bool) (f : Fetch) (c : Forest Marked) → Fit (strip c) → KeepsAll false (isAll f) (fetchOk f) c (preserveEach spr spm f c)
+pub preserveEach-kept : (spr spm : Bool) (f : Fetch) (c : Forest Marked) → Fit (strip c) → KeepsAll false (isAll f) (fetchOk f) c (preserveEach spr spm f c)
 preserveEach-kept spr spm f none h = all-kept-none
 preserveEach-kept spr spm f (tree m c r) h =
     kept-plant (kept-cond (m .mark) (preserveBy-kept spr spm f (m .mark) c (preserveEach spr spm f c) (m .op) (h .0) (h .1) (preserveEach-kept spr spm f c (h .1))) (kept-refl (at m c) (h .0, h .1)))
     (preserveEach-kept spr spm f r (h .2))
 
-variants-kept : (spr spm : Bool) (f : Fetch) (t : Tree) → FitT t → Keeps false (isAll f) (fetchOk f) t (planWithOrderPreservingVariants spr spm f t)
+pub variants-kept : (spr spm : Bool) (f : Fetch) (t : Tree) → FitT t → Keeps false (isAll f) (fetchOk f) t (planWithOrderPreservingVariants spr spm f t)
 variants-kept spr spm f t h = preserveBy-kept spr spm f (t .top .mark) (t .kids) (preserveEach spr spm f (t .kids)) (opT t) (h .0) (h .1) (preserveEach-kept spr spm f (t .kids) (h .1))
 
 -- ---- the step
@@ -109,7 +109,7 @@ replaceBy-kept {b} {h} s x c =
     (λ f g. kept-refl (node (coalesce f) x c) g)
     (λ o e g. subst (λ (z : Shape). Keeps false b h (node o x c) (replaceBy z s (node o x c))) (sym e) (kept-refl (node o x c) g))
 
-step-kept : {b h : Bool} (s : Settings) (t : Tree) → FitT t → Keeps false b h t (replaceWithOrderPreservingVariants s t)
+pub step-kept : {b h : Bool} (s : Settings) (t : Tree) → FitT t → Keeps false b h t (replaceWithOrderPreservingVariants s t)
 step-kept {b} {h} s t g =
     let k : Keeps false b h t (updateOrderPreservationCtxChildrenData t) = remarked t false (carryEach (t .kids)) (strip-carry (t .kids)) g in
     kept-trans k (replaceBy-kept s false (carryEach (t .kids)) (opT t) (k .fit))
@@ -124,7 +124,7 @@ preserve-rows s f d h e = same-plan-rows f (preserve s f) d h e (preserve-plan s
 abbrev Broken : Bool → Bool → Bool → Forest Marked → Forest Marked → Op → Type 0
 Broken b h x c d o = FitsA (arity o) (count (strip c)) → KeepsAll false b h c d → Keeps false b h (node o x c) (breakBy (shape o) (record { op = o; mark = x }) c d)
 
-breakBy-kept : {b h : Bool} (x : Bool) (c d : Forest Marked) (o : Op) → Broken b h x c d o
+pub breakBy-kept : {b h : Bool} (x : Bool) (c d : Forest Marked) (o : Op) → Broken b h x c d o
 breakBy-kept {b} {h} x c d =
     shape-ind (Broken b h x c d)
     (λ p ks f g k. kept-rebuild (sortOp p ks f) x false c d g k)
@@ -133,7 +133,7 @@ breakBy-kept {b} {h} x c d =
     (λ f g k. kept-rebuild (coalesce f) x false c d g k)
     (λ o e g k. subst (λ (s : Shape). Keeps false b h (node o x c) (breakBy s (record { op = o; mark = x }) c d)) (sym e) (kept-rebuild o x false c d g k))
 
-breakEach-kept : {b h : Bool} (q : ℕ → Bool) (c : Forest Marked) → Fit (strip c) → KeepsAll false b h c (breakEach q c)
+pub breakEach-kept : {b h : Bool} (q : ℕ → Bool) (c : Forest Marked) → Fit (strip c) → KeepsAll false b h c (breakEach q c)
 breakEach-kept q none g = all-kept-none
 breakEach-kept q (tree m c r) g =
     kept-plant (kept-cond (q 0) (breakBy-kept (m .mark) c (breakEach (enters (m .op) (known c)) c) (m .op) (g .0) (breakEach-kept (enters (m .op) (known c)) c (g .1))) (kept-refl (at m c) (g .0, g .1)))

@@ -32,7 +32,7 @@ use Rattle.walks.specs.Keeps.{all-kept-none, all-kept-refl, Keeps, Keeps
 use Rattle.walks.specs.KeptRows.{kept-plan, same-plan-rows, SamePlan}
 
 -- What has a partitioning is a repartition
-part-pass : (o p : Op) → samePartitioning o p ≡ true → passing p ≡ true
+pub part-pass : (o p : Op) → samePartitioning o p ≡ true → passing p ≡ true
 part-pass o p e = go (partitioning (shape o)) p e
   where
     no : (a : Partitioning) → eqPartitioning a unequal ≡ false

@@ -1,0 +1,23 @@
+use borrow.Author.Needs.{needs}
+use native.Mathlib.Omega.{arith}
+use Rattle.ensure_sorting.specs.Standing.{is-here}
+use Rattle.ensure_sorting.specs.Gathering.{fetch-none, fetch-some}
+use Rattle.ensure_sorting.proofs.remove_corresponding_sort_from_sub_plan.plan_fetch.Statement.{
+  statement,
+}
+use Rattle.ensure_sorting.proofs.remove_corresponding_sort_from_sub_plan.plan_fetch.Tie as tie
+use Rattle.ensure_sorting.proofs.remove_corresponding_sort_from_sub_plan.plan_fetch.Reads as reads
+use Rattle.ensure_sorting.proofs.remove_corresponding_sort_from_sub_plan.plan_fetch.Lts as lts
+use Rattle.plan_context.proofs.kept.summary.Reads as summary-reads
+
+summary-requires : tie.Need-summary-requires
+summary-requires c κs = let s = c .before in is-here (s .args .m .now) (s .args .u) (s .args .h) (s .pre)
+
+returns : tie.Need-returns
+returns c = fetch-none _ _ (c .before .summary .ensures .fetch) (c .if1 .taken)
+
+returns-2 : tie.Need-returns-2
+returns-2 c = fetch-some _ _ (c .before .summary .ensures .fetch) (c .if1 .left)
+
+pub plan-fetch-spec : {M : Type 1} → statement M
+plan-fetch-spec = tie.close (tie.spec summary-requires returns returns-2)

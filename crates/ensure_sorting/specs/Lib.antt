@@ -1,0 +1,6 @@
+pub mod Standing
+pub mod Connection
+pub mod Sizes
+pub mod Gathering
+pub mod Removing
+pub mod Recursion

@@ -1,0 +1,32 @@
+use borrow.Author.Needs.{needs}
+use native.Mathlib.Omega.{arith}
+use mathlib.Core.Path.{ap, ap₂}
+use mathlib.Core.Bool.{not, _&&_}
+use Rattle.push_requirements.proofs.children.fetch_blocks.Statement.{statement}
+use Rattle.push_requirements.proofs.children.fetch_blocks.Tie as tie
+use Rattle.push_requirements.proofs.children.fetch_blocks.Reads as reads
+use Rattle.push_requirements.proofs.children.fetch_blocks.Lts as lts
+use Rattle.node_properties.proofs.cardinality_equal.Reads as cardinality-equal-reads
+use Rattle.node_properties.proofs.some_fetch.Reads as some-fetch-reads
+use Rattle.node_properties.proofs.supports_limit_pushdown.Reads as supports-limit-pushdown-reads
+
+some-fetch-requires : tie.Need-some-fetch-requires
+some-fetch-requires c κs = search needs
+
+supports-limit-pushdown-requires : tie.Need-supports-limit-pushdown-requires
+supports-limit-pushdown-requires c κs = search needs
+
+cardinality-equal-requires : tie.Need-cardinality-equal-requires
+cardinality-equal-requires c κs = search needs
+
+returns : tie.Need-returns
+returns c = ap₂ _&&_ (c .before .before .some-fetch .ensures) (ap not (ap₂ _&&_ (c .before .supports-limit-pushdown .ensures) (c .cardinality-equal .ensures)))
+
+pub fetch-blocks-spec : {M : Type 1} → statement M
+fetch-blocks-spec =
+    tie.close
+    (tie.spec
+    some-fetch-requires
+    supports-limit-pushdown-requires
+    cardinality-equal-requires
+    returns)

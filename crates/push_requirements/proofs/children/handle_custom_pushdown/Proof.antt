@@ -1,0 +1,17 @@
+use borrow.Author.Needs.{needs}
+use native.Mathlib.Omega.{arith}
+use Rattle.push_requirements.specs.Answers.{alike}
+use Rattle.push_requirements.proofs.children.handle_custom_pushdown.Statement.{statement}
+use Rattle.push_requirements.proofs.children.handle_custom_pushdown.Tie as tie
+use Rattle.push_requirements.proofs.children.handle_custom_pushdown.Reads as reads
+use Rattle.push_requirements.proofs.children.handle_custom_pushdown.Lts as lts
+use Rattle.key_lists.proofs.order_of.Reads as order-of-reads
+
+order-of-requires : tie.Need-order-of-requires
+order-of-requires c κs = search needs
+
+returns : tie.Need-returns
+returns c = λ m. alike m _ _ (c .order-of .ensures)
+
+pub handle-custom-pushdown-spec : {M : Type 1} → statement M
+handle-custom-pushdown-spec = tie.close (tie.spec order-of-requires returns)

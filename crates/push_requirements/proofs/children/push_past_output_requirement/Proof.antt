@@ -1,0 +1,34 @@
+use borrow.Author.Needs.{needs}
+use native.Mathlib.Omega.{arith}
+use mathlib.Core.Path.{sym, _∙_}
+use Rattle.push_requirements.specs.Answers.{cond-yes, cond-no}
+use Rattle.push_requirements.proofs.children.push_past_output_requirement.Statement.{
+  statement,
+}
+use Rattle.push_requirements.proofs.children.push_past_output_requirement.Tie as tie
+use Rattle.push_requirements.proofs.children.push_past_output_requirement.Reads as reads
+use Rattle.push_requirements.proofs.children.push_past_output_requirement.Lts as lts
+use Rattle.push_requirements.proofs.children.handle_custom_pushdown.Reads as handle-custom-pushdown-reads
+use Rattle.push_requirements.proofs.children.pushdown_would_violate_requirements.Reads as pushdown-would-violate-requirements-reads
+
+pushdown-would-violate-requirements-requires :
+    tie.Need-pushdown-would-violate-requirements-requires
+pushdown-would-violate-requirements-requires c κs = search needs
+
+returns : tie.Need-returns
+returns c = λ m. cond-yes m _ _ _ _ (sym (c .before .pushdown-would-violate-requirements .ensures) ∙ c .if1 .taken) tt
+
+handle-custom-pushdown-requires : tie.Need-handle-custom-pushdown-requires
+handle-custom-pushdown-requires c κs = search needs
+
+returns-2 : tie.Need-returns-2
+returns-2 c = λ m. cond-no m _ _ _ _ (sym (c .before .before .pushdown-would-violate-requirements .ensures) ∙ c .before .if1 .left) (c .handle-custom-pushdown .ensures m)
+
+pub push-past-output-requirement-spec : {M : Type 1} → statement M
+push-past-output-requirement-spec =
+    tie.close
+    (tie.spec
+    pushdown-would-violate-requirements-requires
+    returns
+    handle-custom-pushdown-requires
+    returns-2)

@@ -1,0 +1,36 @@
+use borrow.Author.Needs.{needs}
+use native.Mathlib.Omega.{arith}
+use Rattle.plan_codec.specs.Decode.{decode}
+use Rattle.key_lists.specs.Keys.{keysOf}
+use Rattle.push_requirements.specs.Children.{violates-none, violates-some}
+use Rattle.push_requirements.proofs.children.pushdown_would_violate_requirements.Statement.{
+  statement,
+}
+use Rattle.push_requirements.proofs.children.pushdown_would_violate_requirements.Tie as tie
+use Rattle.push_requirements.proofs.children.pushdown_would_violate_requirements.Reads as reads
+use Rattle.push_requirements.proofs.children.pushdown_would_violate_requirements.Lts as lts
+use Rattle.join_sides.proofs.none_equal.Reads as none-equal-reads
+use Rattle.node_properties.proofs.wanted_order.Reads as wanted-order-reads
+
+wanted-order-requires : tie.Need-wanted-order-requires
+wanted-order-requires c κs = search needs
+
+enum-known-k : tie.Need-enum-known-k
+enum-known-k c = search needs
+
+enum-told : tie.Need-enum-told
+enum-told c = search needs
+
+returns : tie.Need-returns
+returns c = violates-none (decode (c .before .before .before .before .args .r .now)) (keysOf (c .before .before .before .before .args .parent)) _ (c .before .before .wanted-order .ensures) (c .enum-told .given .1)
+
+none-equal-requires : tie.Need-none-equal-requires
+none-equal-requires c κs = search needs
+
+returns-2 : tie.Need-returns-2
+returns-2 c = violates-some (decode (c .before .before .before .before .before .before .args .r .now)) (keysOf (c .before .before .before .before .before .before .args .parent)) _ _ (c .before .before .before .before .wanted-order .ensures) (c .before .before .k .given .1) _ (c .none-equal .ensures)
+
+pub pushdown-would-violate-requirements-spec : {M : Type 1} → statement M
+pushdown-would-violate-requirements-spec =
+    tie.close
+    (tie.spec wanted-order-requires enum-known-k enum-told returns none-equal-requires returns-2)

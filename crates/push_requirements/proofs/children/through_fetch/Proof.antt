@@ -1,0 +1,30 @@
+use borrow.Author.Needs.{needs}
+use native.Mathlib.Omega.{arith}
+use mathlib.Core.Path.{ap, ap₂, _∙_}
+use mathlib.Core.Bool.{Bool, _&&_}
+use Rattle.plan_codec.specs.Decode.{decode}
+use Rattle.push_requirements.specs.Children.{through-is, first-among}
+use Rattle.push_requirements.proofs.children.through_fetch.Statement.{statement}
+use Rattle.push_requirements.proofs.children.through_fetch.Tie as tie
+use Rattle.push_requirements.proofs.children.through_fetch.Reads as reads
+use Rattle.push_requirements.proofs.children.through_fetch.Lts as lts
+use Rattle.node_properties.proofs.maintains.Reads as maintains-reads
+use Rattle.node_properties.proofs.some_fetch.Reads as some-fetch-reads
+use Rattle.node_properties.proofs.supports_limit_pushdown.Reads as supports-limit-pushdown-reads
+
+some-fetch-requires : tie.Need-some-fetch-requires
+some-fetch-requires c κs = search needs
+
+supports-limit-pushdown-requires : tie.Need-supports-limit-pushdown-requires
+supports-limit-pushdown-requires c κs = search needs
+
+maintains-requires : tie.Need-maintains-requires
+maintains-requires c κs = search needs
+
+returns : tie.Need-returns
+returns c = λ o fs ts m R s e. ap₂ _&&_ (c .before .before .some-fetch .ensures) (ap (λ (x : Bool). x && c .maintains .result) (c .before .supports-limit-pushdown .ensures)) ∙ through-is (decode (c .before .before .before .before .before .before .args .r .now)) fs ts m (s .long) (s .count) (c .before .before .before .before .before .before .args .limit) e (c .maintains .result) (λ l. c .maintains .ensures fs (first-among _ o fs m _ _ R s l))
+
+pub through-fetch-spec : {M : Type 1} → statement M
+through-fetch-spec =
+    tie.close
+    (tie.spec some-fetch-requires supports-limit-pushdown-requires maintains-requires returns)

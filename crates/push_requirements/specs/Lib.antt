@@ -1,0 +1,4 @@
+pub mod Pushing
+pub mod Answers
+pub mod Joins
+pub mod Children

@@ -1,0 +1,63 @@
+use borrow.Author.Needs.{needs}
+use native.Mathlib.Omega.{arith}
+use mathlib.Core.Path.{_≡_, refl, sym, ap, ap₂, _∙_, subst}
+use Rattle.plan_codec.specs.Decode.{decode}
+use Rattle.record_fields.specs.Proper.{Proper}
+use Rattle.replace_with_order_preserving_variants.specs.Nodes.{slot-proper}
+use Rattle.replace_with_order_preserving_variants.specs.Marking.{isFetchedCoalesce, count-same, carries-none, carries-fetched, carries-begins, carries-any}
+use Rattle.replace_with_order_preserving_variants.proofs.marking.carries.Statement.{
+  statement,
+}
+use Rattle.replace_with_order_preserving_variants.proofs.marking.carries.Tie as tie
+use Rattle.replace_with_order_preserving_variants.proofs.marking.carries.Reads as reads
+use Rattle.replace_with_order_preserving_variants.proofs.marking.carries.Lts as lts
+use Rattle.arena.proofs.record_at.Reads as record-at-reads
+use Rattle.plan_context.proofs.handles.is_marked.Reads as is-marked-reads
+use Rattle.replace_with_order_preserving_variants.proofs.marking.any_marked.Reads as any-marked-reads
+use Rattle.replace_with_order_preserving_variants.proofs.marking.initiates.Reads as initiates-reads
+use Rattle.replace_with_order_preserving_variants.proofs.marking.is_fetched_coalesce.Reads as is-fetched-coalesce-reads
+
+returns : tie.Need-returns
+returns c = let s = c .before .before .before in let m = s .args .m .now in let i = s .args .i in let ks = s .args .ks .now in let a = s .pre .0 in let e = s .pre .1 in carries-none m i ks e (c .if1 .taken)
+
+record-at-requires : tie.Need-record-at-requires
+record-at-requires c κs = search needs
+
+is-fetched-coalesce-requires : tie.Need-is-fetched-coalesce-requires
+is-fetched-coalesce-requires c κs = let s = c .before .before .before .before in let m = s .args .m .now in let i = s .args .i in let ks = s .args .ks .now in let a = s .pre .0 in let e = s .pre .1 in subst Proper (sym (c .record-at .ensures)) (slot-proper m i a)
+
+returns-2 : tie.Need-returns-2
+returns-2 c = let s = c .before .before .before .before .before .before in let m = s .args .m .now in let i = s .args .i in let ks = s .args .ks .now in let a = s .pre .0 in let e = s .pre .1 in carries-fetched m i ks e (let x = c .before .before .before .if1 .left in omega arith) _ (c .before .is-fetched-coalesce .ensures ∙ ap (λ x. isFetchedCoalesce (decode x)) (c .before .before .record-at .ensures)) (c .if2 .taken)
+
+shared-slice-read-is-marked : tie.Need-shared-slice-read-is-marked
+shared-slice-read-is-marked c = search needs
+
+is-marked-requires : tie.Need-is-marked-requires
+is-marked-requires c κs = search needs
+
+initiates-requires : tie.Need-initiates-requires
+initiates-requires c κs = let s = c .before .before .before .before .before .before .before .before in let m = s .args .m .now in let i = s .args .i in let ks = s .args .ks .now in let a = s .pre .0 in let e = s .pre .1 in (a, let n = count-same m i ks e in let x = c .before .before .before .before .before .if1 .left in omega arith)
+
+returns-3 : tie.Need-returns-3
+returns-3 c = let s = c .before .before .before .before .before .before .before .before .before .before in let m = s .args .m .now in let i = s .args .i in let ks = s .args .ks .now in let a = s .pre .0 in let e = s .pre .1 in carries-begins m i ks e (let x = c .before .before .before .before .before .before .before .if1 .left in omega arith) _ (c .before .before .before .before .before .is-fetched-coalesce .ensures ∙ ap (λ x. isFetchedCoalesce (decode x)) (c .before .before .before .before .before .before .record-at .ensures)) (c .before .before .before .before .if2 .left) _ _ (c .before .before .is-marked .ensures) (c .before .initiates .ensures) (c .if3 .taken)
+
+any-marked-requires : tie.Need-any-marked-requires
+any-marked-requires c κs = search needs
+
+returns-4 : tie.Need-returns-4
+returns-4 c = let s = c .before .before .before .before .before .before .before .before .before .before .before in let m = s .args .m .now in let i = s .args .i in let ks = s .args .ks .now in let a = s .pre .0 in let e = s .pre .1 in carries-any m i ks e (let x = c .before .before .before .before .before .before .before .before .if1 .left in omega arith) _ (c .before .before .before .before .before .before .is-fetched-coalesce .ensures ∙ ap (λ x. isFetchedCoalesce (decode x)) (c .before .before .before .before .before .before .before .record-at .ensures)) (c .before .before .before .before .before .if2 .left) _ _ (c .before .before .before .is-marked .ensures) (c .before .before .initiates .ensures) (c .before .if3 .left) _ (c .any-marked .ensures)
+
+pub carries-spec : {M : Type 1} → statement M
+carries-spec =
+    tie.close
+    (tie.spec
+    returns
+    record-at-requires
+    is-fetched-coalesce-requires
+    returns-2
+    shared-slice-read-is-marked
+    is-marked-requires
+    initiates-requires
+    returns-3
+    any-marked-requires
+    returns-4)

@@ -1,0 +1,6 @@
+pub mod Nodes
+pub mod Kinds
+pub mod Marking
+pub mod Replacing
+pub mod Preserving
+pub mod Step

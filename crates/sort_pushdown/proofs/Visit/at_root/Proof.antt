@@ -1,0 +1,19 @@
+use borrow.Author.Needs.{needs}
+use native.Mathlib.Omega.{arith}
+use mathlib.Core.Path.{ap}
+use mathlib.Core.Bool.{true, false}
+use Rattle.walks.specs.SortPushdown.{ParentRequirements}
+use Rattle.sort_pushdown.proofs.Visit.at_root.Statement.{statement}
+use Rattle.sort_pushdown.proofs.Visit.at_root.Tie as tie
+use Rattle.sort_pushdown.proofs.Visit.at_root.Reads as reads
+use Rattle.sort_pushdown.proofs.Visit.at_root.Lts as lts
+use Rattle.push_requirements.proofs.ParentRequirements.default.Reads as default-reads
+
+default-requires : tie.Need-default-requires
+default-requires c κs = search needs
+
+returns : tie.Need-returns
+returns c = (ap (λ (P : ParentRequirements). record { req = P; touch = false; root = true }) (c .default .ensures .is), c .default .ensures .real)
+
+pub at-root-spec : {M : Type 1} → statement M
+at-root-spec = tie.close (tie.spec default-requires returns)

@@ -1,0 +1,45 @@
+use borrow.Author.Needs.{needs}
+use native.Mathlib.Omega.{arith}
+use mathlib.Core.Path.{sym, _∙_}
+use Rattle.key_lists.specs.Keys.{keysOf}
+use Rattle.row_facts.specs.Asked.{told}
+use Rattle.sort_pushdown.specs.Deciding.{above-merge, above-sort}
+use Rattle.sort_pushdown.proofs.new_nodes.sort_above_with_distribution.Statement.{
+  statement,
+}
+use Rattle.sort_pushdown.proofs.new_nodes.sort_above_with_distribution.Tie as tie
+use Rattle.sort_pushdown.proofs.new_nodes.sort_above_with_distribution.Reads as reads
+use Rattle.sort_pushdown.proofs.new_nodes.sort_above_with_distribution.Lts as lts
+use Rattle.key_lists.proofs.order_of.Reads as order-of-reads
+use Rattle.push_requirements.proofs.requirements.needs_merge.Reads as needs-merge-reads
+use Rattle.row_facts.proofs.asked.fresh_keys.Reads as fresh-keys-reads
+use Rattle.row_facts.proofs.asked.several_streams.Reads as several-streams-reads
+
+fresh-keys-requires : tie.Need-fresh-keys-requires
+fresh-keys-requires c κs = search needs
+
+order-of-requires : tie.Need-order-of-requires
+order-of-requires c κs = search needs
+
+several-streams-requires : tie.Need-several-streams-requires
+several-streams-requires c κs = search needs
+
+needs-merge-requires : tie.Need-needs-merge-requires
+needs-merge-requires c κs = search needs
+
+returns : tie.Need-returns
+returns c = let s = c .before .before .before .before .before .before in above-merge (told (s .args .own .now)) (keysOf (s .args .order)) _ (s .args .fetch) (c .before .before .before .order-of .result) (c .before .before .several-streams .result) (c .before .before .before .before .fresh-keys .ensures .is) (c .before .before .before .order-of .ensures) (c .before .before .several-streams .ensures) (s .args .d) (sym (c .before .needs-merge .ensures) ∙ c .if1 .taken)
+
+returns-2 : tie.Need-returns-2
+returns-2 c = let s = c .before .before .before .before .before .before in above-sort (told (s .args .own .now)) (keysOf (s .args .order)) _ (s .args .fetch) (c .before .before .before .order-of .result) (c .before .before .several-streams .result) (c .before .before .before .before .fresh-keys .ensures .is) (c .before .before .before .order-of .ensures) (c .before .before .several-streams .ensures) (s .args .d) (sym (c .before .needs-merge .ensures) ∙ c .if1 .left)
+
+pub sort-above-with-distribution-spec : {M : Type 1} → statement M
+sort-above-with-distribution-spec =
+    tie.close
+    (tie.spec
+    fresh-keys-requires
+    order-of-requires
+    several-streams-requires
+    needs-merge-requires
+    returns
+    returns-2)

@@ -1,0 +1,25 @@
+use borrow.Author.Needs.{needs}
+use native.Mathlib.Omega.{arith}
+use native.Mathlib.Omega.{arith}
+use Rattle.key_lists.specs.Keys.{orderOf}
+use Rattle.sort_pushdown.specs.Deciding.{some-le, count-is}
+use Rattle.sort_pushdown.proofs.steps.new_count.Statement.{statement}
+use Rattle.sort_pushdown.proofs.steps.new_count.Tie as tie
+use Rattle.sort_pushdown.proofs.steps.new_count.Reads as reads
+use Rattle.sort_pushdown.proofs.steps.new_count.Lts as lts
+use Rattle.sort_pushdown.proofs.steps.one_of.Reads as one-of-reads
+
+one-of-requires : tie.Need-one-of-requires
+one-of-requires c κs = search needs
+
+one-of-requires-2 : tie.Need-one-of-requires-2
+one-of-requires-2 c κs = search needs
+
+add-result : tie.Need-add-result
+add-result c = let t = c .before .before .args .t in omega (arith, c .before .one-of .ensures, c .one-of2 .ensures, some-le (orderOf (t .merge)), some-le (orderOf (t .sort)))
+
+returns : tie.Need-returns
+returns c = let t = c .before .before .args .t in (count-is t _ _ (c .before .one-of .ensures) (c .one-of2 .ensures), omega (arith, c .before .one-of .ensures, c .one-of2 .ensures, some-le (orderOf (t .merge)), some-le (orderOf (t .sort))))
+
+pub new-count-spec : {M : Type 1} → statement M
+new-count-spec = tie.close (tie.spec one-of-requires one-of-requires-2 add-result returns)

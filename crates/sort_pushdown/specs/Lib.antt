@@ -1,0 +1,5 @@
+pub mod Decisions
+pub mod Steps
+pub mod Deciding
+pub mod Merging
+pub mod Visits

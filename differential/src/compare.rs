@@ -1,0 +1,200 @@
+//! Random plans through the Rust and through the library: the same numbers and the same bytes.
+use crate::random_plans::{self, Rng};
+use crate::rust_side::{self, Answer};
+use crate::{domain, library, shrink};
+use sort_placement::exports::{ALL, Call};
+use sort_placement::listing::listing;
+use sort_placement::plan::{self, BLOCK, MOST_BLOCKS, Node, kind::SORT};
+use sort_placement::text;
+use std::collections::BTreeMap;
+use std::sync::Mutex;
+use std::sync::atomic::{AtomicBool, AtomicU64, Ordering::Relaxed};
+use std::time::Instant;
+
+#[derive(Default)]
+pub struct Figures {
+    plans: u64,
+    nodes: u64,
+    /// by call: requests, of them held against the library, refusals by number, panics
+    calls: BTreeMap<&'static str, (u64, u64, BTreeMap<u32, u64>, u64)>,
+    changed: BTreeMap<&'static str, u64>,
+    outside: BTreeMap<&'static str, u64>,
+    inside: u64,
+}
+
+impl Figures {
+    fn add(&mut self, other: Figures) {
+        self.plans += other.plans;
+        self.nodes += other.nodes;
+        self.inside += other.inside;
+        for (call, (requests, held, refusals, panics)) in other.calls {
+            let mine = self.calls.entry(call).or_default();
+            mine.0 += requests;
+            mine.1 += held;
+            mine.3 += panics;
+            refusals.into_iter().for_each(|(number, n)| *mine.2.entry(number).or_default() += n);
+        }
+        other.changed.into_iter().for_each(|(call, n)| *self.changed.entry(call).or_default() += n);
+        other.outside.into_iter().for_each(|(rule, n)| *self.outside.entry(rule).or_default() += n);
+    }
+
+    fn print(&self, seconds: f64) {
+        println!("{} plans, {:.1} nodes each, {:.0} seconds", self.plans, self.nodes as f64 / self.plans as f64, seconds);
+        println!("call          requests  through the library   changed  panics  refusals");
+        for (call, (requests, held, refusals, panics)) in &self.calls {
+            let refused: Vec<String> = refusals.iter().map(|(number, n)| format!("{number}: {n}")).collect();
+            let changed = self.changed.get(call).unwrap_or(&0);
+            println!("{call:12} {requests:9}  {held:19}  {changed:8}  {panics:6}  {}", refused.join(", "));
+        }
+        println!("plans inside the compared domain: {}; outside, by rule (a plan counts under each):", self.inside);
+        for (rule, n) in &self.outside {
+            println!("  {n:9}  {rule}");
+        }
+    }
+}
+
+/// A random call of each kind, with its output's length.
+fn requests(rng: &mut Rng, tree: &Node, file: &[u8]) -> Vec<(Call, usize)> {
+    let count = tree.count();
+    let sorts: Vec<usize> = (0..count).filter(|i| tree.at(*i).is_some_and(|n| n.record.kind == SORT)).collect();
+    let node = match rng.below(40) {
+        0 => count + rng.below(3),
+        1..=4 => rng.below(count),
+        _ if sorts.is_empty() => rng.below(count),
+        _ => rng.pick(&sorts),
+    };
+    let settings = std::array::from_fn(|_| rng.pick(&[0, 0, 1, 255]));
+    let room = |rng: &mut Rng| match rng.below(40) {
+        0 => file.len(),
+        1 => file.len() - 1,
+        2 => rng.below(MOST_BLOCKS * BLOCK),
+        _ => MOST_BLOCKS * BLOCK,
+    };
+    let call = |c: &Call| match c {
+        Call::Preserve(_) => Call::Preserve(settings),
+        Call::Partial(_) => Call::Partial(node as u32),
+        other => *other,
+    };
+    ALL.iter().map(|c| (call(c), if *c == Call::Check { 1 } else { room(rng) })).collect()
+}
+
+/// What differs between the two sides, if anything.
+fn difference(call: Call, room: usize, tree: &Node) -> Option<String> {
+    let file = plan::write(tree);
+    let rust = rust_side::answer(call, &file, room);
+    let got = library::answer(call, &file, room)?;
+    disagreement(&rust, &got)
+}
+
+fn disagreement(rust: &Answer, library: &Result<Answer, String>) -> Option<String> {
+    match library {
+        Err(why) => Some(why.clone()),
+        Ok(got) if (got.number, &got.bytes) == (rust.number, &rust.bytes) => None,
+        Ok(got) => Some(format!("the Rust:\n{}the library:\n{}", shown(rust), shown(got))),
+    }
+}
+
+fn shown(answer: &Answer) -> String {
+    match plan::read(&answer.bytes) {
+        _ if answer.number != 0 => format!("{}\n", answer.number),
+        Ok(tree) => format!("{}{}", listing(&tree), text::show(&tree)),
+        Err(_) => format!("{} {:?}\n", answer.number, answer.bytes),
+    }
+}
+
+fn report(call: Call, room: usize, tree: Node, place: &str) {
+    let small = shrink::shrink(tree, &|t| difference(call, room, t).is_some());
+    let why = difference(call, room, &small).expect("it differed");
+    println!("{place}: {call:?}, {room} bytes of output, on\n{}{}{why}", listing(&small), text::show(&small));
+}
+
+/// Prints both sides' answers to one call on the plan of a text; whether they agree.
+pub fn show(words: &[String], path: &str) -> bool {
+    let call = Call::from_words(words).expect("a call");
+    let tree = text::parse(&std::fs::read_to_string(path).expect("a text")).expect("a plan");
+    let (file, room) = (plan::write(&tree), if call == Call::Check { 1 } else { MOST_BLOCKS * BLOCK });
+    let rust = rust_side::answer(call, &file, room);
+    println!("the Rust{}:\n{}", if rust.panicked { " panics; document 01" } else { "" }, shown(&rust));
+    let Some(got) = library::answer(call, &file, room) else {
+        println!("the library does not export {}", call.name());
+        return true;
+    };
+    let differs = disagreement(&rust, &got);
+    println!("{}", differs.as_deref().unwrap_or("the library: the same"));
+    differs.is_none()
+}
+
+/// Plans that come out of other walks are plans too.
+fn walked(rng: &mut Rng, tree: Node) -> Node {
+    let walks = [Call::Ensure, Call::Parallelize, Call::Preserve([1, 1, 0]), Call::Push];
+    let call = rng.pick(&walks);
+    let answer = rust_side::answer(call, &plan::write(&tree), MOST_BLOCKS * BLOCK);
+    if answer.number == 0 { plan::read(&answer.bytes).expect("the Rust's plan is one") } else { tree }
+}
+
+fn one(seed: u64, i: u64, f: &mut Figures) -> bool {
+    let mut rng = Rng::new(seed, i);
+    let mut tree = random_plans::plan(&mut rng);
+    if rng.one_in(4) {
+        tree = walked(&mut rng, tree);
+    }
+    let file = plan::write(&tree);
+    f.plans += 1;
+    f.nodes += tree.count() as u64;
+    let mut rules = domain::rules(&tree);
+    for (call, room) in requests(&mut rng, &tree, &file) {
+        let rust = rust_side::answer(call, &file, room);
+        let entry = f.calls.entry(call.name()).or_default();
+        entry.0 += 1;
+        entry.3 += rust.panicked as u64;
+        if rust.number != 0 {
+            *entry.2.entry(rust.number).or_default() += 1;
+        } else if call != Call::Check {
+            let after = plan::read(&rust.bytes).expect("the Rust's plan is one");
+            rules.extend(domain::rules(&after));
+            *f.changed.entry(call.name()).or_default() += (rust.bytes != file) as u64;
+        }
+        if let Some(got) = library::answer(call, &file, room) {
+            entry.1 += 1;
+            if disagreement(&rust, &got).is_some() {
+                report(call, room, tree, &format!("plan {i} of seed {seed}"));
+                return false;
+            }
+        }
+    }
+    f.inside += rules.is_empty() as u64;
+    rules.into_iter().for_each(|rule| *f.outside.entry(rule).or_default() += 1);
+    true
+}
+
+/// Whether no difference was found.
+pub fn run(plans: u64, seed: u64, threads: u64) -> bool {
+    let start = Instant::now();
+    let (next, agreed) = (AtomicU64::new(0), AtomicBool::new(true));
+    let total = Mutex::new(Figures::default());
+    const PART: u64 = 500;
+    std::thread::scope(|scope| {
+        for _ in 0..threads {
+            scope.spawn(|| {
+                let mut figures = Figures::default();
+                while agreed.load(Relaxed) {
+                    let from = next.fetch_add(PART, Relaxed);
+                    if from >= plans {
+                        break;
+                    }
+                    if from % (100 * PART) == 0 {
+                        eprintln!("{from} plans, {:.0} seconds", start.elapsed().as_secs_f64());
+                    }
+                    if !(from..(from + PART).min(plans)).all(|i| one(seed, i, &mut figures)) {
+                        agreed.store(false, Relaxed);
+                    }
+                }
+                total.lock().expect("the figures").add(figures);
+            });
+        }
+    });
+    total.into_inner().expect("the figures").print(start.elapsed().as_secs_f64());
+    let agreed = agreed.into_inner();
+    println!("{}", if agreed { "no difference" } else { "they differ" });
+    agreed
+}

@@ -1,0 +1,97 @@
+//! The Rust's own steps beside the proved library.
+//!
+//!     differential vectors FOLDER                                     requests with their answers, replayed
+//!     differential compare [--plans N] [--seed S] [--threads T]       random plans through both sides
+//!     differential show CALL TEXT                                     both sides' answers on the plan of a text (see loader)
+//!     differential damage [--files N] [--seed S] [--heap]             damaged files through every export
+//!     differential threads [--plans N] [--seed S] [--threads T]       the same requests from several threads at once
+//!     differential times [--svg FILE]                                 both sides timed on the same plans
+//!
+//! Built with the feature `branches`, it also tells which branches of the Rust's text a run reached.
+#[cfg(feature = "branches")]
+mod branches;
+mod compare;
+mod damage;
+mod domain;
+mod library;
+mod plot;
+mod random_plans;
+mod rust_side;
+mod shrink;
+mod threads;
+mod times;
+mod vectors;
+
+// the Rust's five files, where they stand, over the stand-ins
+extern crate stand_ins as arrow;
+extern crate stand_ins as datafusion_common;
+extern crate stand_ins as datafusion_execution;
+extern crate stand_ins as datafusion_expr;
+extern crate stand_ins as datafusion_physical_expr;
+extern crate stand_ins as datafusion_physical_expr_common;
+extern crate stand_ins as datafusion_physical_plan;
+extern crate stand_ins as itertools;
+use stand_ins::PhysicalOptimizerRule;
+include!(concat!(env!("OUT_DIR"), "/optimizer.rs"));
+
+/// The number after an option.
+fn option(args: &[String], name: &str, default: u64) -> u64 {
+    let value = args.iter().position(|a| a == name).and_then(|i| args.get(i + 1));
+    value.map_or(default, |v| v.parse().unwrap_or_else(|_| panic!("{name} {v}: no number")))
+}
+
+/// Panics of the Rust are caught and compared, and not told.
+fn silence_the_rust() {
+    let tell = std::panic::take_hook();
+    std::panic::set_hook(Box::new(move |panic| {
+        if !panic.location().is_some_and(|l| l.file().contains("enforce_sorting")) {
+            tell(panic);
+        }
+    }));
+}
+
+fn main() {
+    silence_the_rust();
+    let args: Vec<String> = std::env::args().skip(1).collect();
+    let number = |name: &str, default: u64| option(&args, name, default);
+    let agreed = match args.first().map(String::as_str) {
+        Some("vectors") if args.len() == 2 => vectors::run(std::path::Path::new(&args[1])),
+        Some("compare") => compare::run(number("--plans", 100_000), number("--seed", 1), number("--threads", 1)),
+        Some("show") if args.len() > 2 => compare::show(&args[1..args.len() - 1], &args[args.len() - 1]),
+        Some("damage") => damage::run(number("--files", 100_000), number("--seed", 1), args.iter().any(|a| a == "--heap")),
+        Some("threads") => threads::run(number("--plans", 2_000), number("--seed", 1), number("--threads", 8)),
+        Some("times") => {
+            times::run(args.iter().position(|a| a == "--svg").and_then(|i| args.get(i + 1)).map(String::as_str));
+            true
+        }
+        _ => {
+            eprintln!("vectors FOLDER | compare | show CALL TEXT | damage | threads | times, with options: see src/main.rs");
+            std::process::exit(2);
+        }
+    };
+    #[cfg(feature = "branches")]
+    branches::print();
+    std::process::exit(if agreed { 0 } else { 1 });
+}
+
+#[cfg(test)]
+mod tests {
+    /// Some thousand requests of each command; the long runs are the commands themselves.
+    #[test]
+    fn both_sides_agree() {
+        super::silence_the_rust();
+        assert!(super::compare::run(3_000, 11, 1));
+        assert!(super::damage::run(3_000, 12, true));
+        assert!(super::threads::run(100, 13, 4));
+    }
+
+    #[test]
+    fn vectors_agree() {
+        super::silence_the_rust();
+        let package = std::path::Path::new(env!("CARGO_MANIFEST_DIR"));
+        match package.ancestors().map(|a| a.join("shared/vectors")).find(|f| f.exists()) {
+            Some(folder) => assert!(super::vectors::run(&folder)),
+            None => println!("no vectors beside the repository"),
+        }
+    }
+}

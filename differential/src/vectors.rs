@@ -1,0 +1,91 @@
+//! Replays a folder of requests with their answers through the Rust over the stand-ins, and through the library.
+use crate::rust_side::{self, Answer};
+use crate::library;
+use sort_placement::exports::Call;
+use std::collections::BTreeMap;
+use std::path::Path;
+
+fn bytes_of(hex: &str) -> Vec<u8> {
+    let digit = |c: u8| (c as char).to_digit(16).expect("a hex digit") as u8;
+    if hex == "-" { vec![] } else { hex.as_bytes().chunks(2).map(|d| digit(d[0]) << 4 | digit(d[1])).collect() }
+}
+
+struct Request {
+    call: Call,
+    room: usize,
+    file: Vec<u8>,
+}
+
+fn request(line: &str) -> Request {
+    let words: Vec<&str> = line.split_whitespace().collect();
+    let call = match words[0] {
+        "check" => Call::Check,
+        "ensure" => Call::Ensure,
+        "parallelize" => Call::Parallelize,
+        "preserve" => Call::Preserve(bytes_of(words[1]).try_into().expect("three settings")),
+        "push" => Call::Push,
+        "partial" => Call::Partial(words[4].parse().expect("a node")),
+        other => panic!("no call {other}"),
+    };
+    Request { call, room: words[2].parse().expect("a length"), file: bytes_of(words[3]) }
+}
+
+fn expected(call: Call, line: &str) -> (u32, Vec<u8>) {
+    match line.split_once(' ') {
+        Some(("0", passes)) if call == Call::Check => (0, vec![passes.parse().expect("1 or 0")]),
+        Some(("0", file)) => (0, bytes_of(file)),
+        _ => (line.parse().expect("a number"), vec![]),
+    }
+}
+
+#[derive(Default)]
+struct Figures {
+    requests: usize,
+    rust_differs: usize,
+    library: usize,
+    library_differs: usize,
+    panics: usize,
+}
+
+/// Whether all agree.
+pub fn run(folder: &Path) -> bool {
+    let mut figures: BTreeMap<&str, Figures> = BTreeMap::new();
+    let mut files: Vec<_> = std::fs::read_dir(folder).expect("the folder of vectors").map(|e| e.expect("a file").path()).collect();
+    files.sort();
+    for path in files.iter().filter(|p| p.extension().is_some_and(|e| e == "txt")) {
+        let text = std::fs::read_to_string(path).expect("a text");
+        let lines: Vec<&str> = text.lines().collect();
+        for (i, case) in lines.chunks(2).enumerate() {
+            let r = request(case[0]);
+            let want = expected(r.call, case[1]);
+            let f = figures.entry(r.call.name()).or_default();
+            let place = format!("{}:{}", path.display(), 2 * i + 1);
+            let tell = |who: &str, got: &Answer, differs: &mut usize| {
+                if (got.number, &got.bytes) != (want.0, &want.1) {
+                    *differs += 1;
+                    println!("{place}: {} gives {}, the vector {}", who, got.number, want.0);
+                }
+            };
+            let rust = rust_side::answer(r.call, &r.file, r.room);
+            f.requests += 1;
+            f.panics += rust.panicked as usize;
+            tell("the Rust", &rust, &mut f.rust_differs);
+            match library::answer(r.call, &r.file, r.room) {
+                None => {}
+                Some(Ok(got)) => {
+                    f.library += 1;
+                    tell("the library", &got, &mut f.library_differs);
+                }
+                Some(Err(why)) => {
+                    f.library_differs += 1;
+                    println!("{place}: {why}");
+                }
+            }
+        }
+    }
+    println!("call         requests  Rust differs  panics  through the library  library differs");
+    for (call, f) in &figures {
+        println!("{call:12} {:8}  {:12}  {:6}  {:19}  {:15}", f.requests, f.rust_differs, f.panics, f.library, f.library_differs);
+    }
+    figures.values().all(|f| f.rust_differs + f.library_differs == 0)
+}
