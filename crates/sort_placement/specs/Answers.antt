@@ -1,8 +1,8 @@
 -- What the exported functions answer. These are definitions.
-use mathlib.Core.Bool.{Bool, false, cond}
+use mathlib.Core.Bool.{Bool, false, cond, not}
 use mathlib.Core.List.{List, _++_}
 use Prim.Native.Nat.{ℕ}
-use lib.Dec.{ltb}
+use lib.Dec.{eqb, ltb}
 use lib.ListN.{length, drop}
 use Rattle.plan.specs.Op.{Plan}
 use Rattle.plan.specs.declared.Refusal.{Refusal}
@@ -12,6 +12,7 @@ use Rattle.plan_codec.specs.Reading as codec
 use Rattle.plan_codec.specs.Reading.{reading}
 use Rattle.plan_codec.specs.Writing.{written}
 use Rattle.semantics.specs.Check.{check}
+use Rattle.walks.specs.OrderPreserving.{Settings}
 use Rattle.walks.specs.Counted.{Answer, refused, answered}
 
 -- ---- the order check
@@ -42,6 +43,13 @@ afterReading g (codec.plan f) = g f
 -- A rewrite g of the plan in the bytes s
 abbrev pub rewrites : (Plan → Answer) → List ℕ → Result
 rewrites g s = afterReading (λ f. rewritten (g f)) (reading s)
+
+-- "A setting is one byte: zero is off, all else on"
+abbrev pub setting : ℕ → Bool
+setting b = not (eqb b 0)
+
+abbrev pub settingsIn : ℕ → ℕ → ℕ → Settings
+settingsIn spr spm prefer = record { spr = setting spr; spm = setting spm; prefer = setting prefer }
 
 -- "24: the output buffer is shorter than the file to write"
 abbrev pub tooShort : Plan → List ℕ → Bool

@@ -3,12 +3,14 @@ pub mod calls;
 pub mod memory;
 use crate::calls::Call;
 use crate::memory::call;
+use replace_with_order_preserving_variants::Settings;
+use transform_up::Walk;
 ghost use mathlib.Core.Path.{_≡_};
 ghost use Rattle.plan.specs.Numbers.{numberOf};
 ghost use Rattle.plan_format.specs.Reading.{refusalOf};
 ghost use Rattle.plan_codec.specs.Reading.{reading};
-ghost use Rattle.walks.specs.Counted.{answered};
-ghost use Rattle.sort_placement.specs.Answers.{checkAnswer, rewrites, refusalIn, outputIn};
+ghost use Rattle.walks.specs.Counted.{answered, preserved};
+ghost use Rattle.sort_placement.specs.Answers.{checkAnswer, settingsIn, rewrites, refusalIn, outputIn};
 
 // In `passes` 1 where the plan passes the order check, 0 where it doesn't.
 #[no_mangle]
@@ -29,4 +31,17 @@ pub extern "C" fn copy_plan(plan: &[u8], out: &mut [u8]) -> u32
     ensures { λ r. ⌜ (r ≡ numberOf (refusalIn (rewrites answered (now (plan .entry))) (now (out .entry)))) × (now (out .exit) ≡ outputIn (rewrites answered (now (plan .entry))) (now (out .entry))) ⌝ }
 {
     call(Call::CopyPlan, plan, out).number
+}
+
+// The order-preserving walk: sorts replaced by nodes that keep their input's order. A setting is off where it is zero.
+#[no_mangle]
+pub extern "C" fn replace_with_order_preserving_variants(plan: &[u8], spr_better: u8, spm_better: u8, prefer_existing: u8, out: &mut [u8]) -> u32
+    ensures { λ r. ⌜ (r ≡ numberOf (refusalIn (rewrites (preserved (settingsIn «spr_better» «spm_better» «prefer_existing»)) (now (plan .entry))) (now (out .entry)))) × (now (out .exit) ≡ outputIn (rewrites (preserved (settingsIn «spr_better» «spm_better» «prefer_existing»)) (now (plan .entry))) (now (out .entry))) ⌝ }
+{
+    let s = Settings {
+        spr: spr_better != 0,
+        spm: spm_better != 0,
+        prefer: prefer_existing != 0,
+    };
+    call(Call::TransformUp(Walk::Preserve(s)), plan, out).number
 }

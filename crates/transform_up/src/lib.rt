@@ -8,8 +8,9 @@ use arena::read64;
 use arena::record_at;
 use plan_context::copying::copy;
 use plan_context::kept::nodes;
-use plan_context::putting::put_again;
 use plan_context::putting::rebuilt;
+use replace_with_order_preserving_variants::Settings;
+use replace_with_order_preserving_variants::replace_with_order_preserving_variants;
 ghost use mathlib.Core.Path.{_≡_};
 ghost use mathlib.Core.Bool.{false};
 ghost use Prim.Native.Nat.{suc, _+_};
@@ -26,8 +27,7 @@ ghost use Rattle.transform_up.specs.Frame.{Walkable, Outcome};
 
 // Which walk it is.
 pub enum Walk {
-    Ensure,
-    Parallelize,
+    Preserve(Settings),
 }
 
 // Why a walk stops: refusal 23, or the arena is too small for it.
@@ -54,8 +54,7 @@ fn step(w: Walk, m: &mut [u8], u: usize, r: &[u8], ks: &[usize], i: usize) -> At
     ensures { λ a. ⌜ Grown (now (m .entry)) u (now (m .exit)) a (stepOf w (node (decode (now (r .entry))) false (forest (now (m .entry)) (now (ks .entry))))) (u + stepRoom (suc (size (forest (now (m .entry)) (now (ks .entry)))))) ⌝ }
 {
     match w {
-        Walk::Ensure => put_again(m, u, r, ks, i),
-        Walk::Parallelize => put_again(m, u, r, ks, i),
+        Walk::Preserve(s) => replace_with_order_preserving_variants(m, u, r, ks, i, s),
     }
 }
 
