@@ -4,3 +4,8 @@ pub mod Sizes
 pub mod Gathering
 pub mod Removing
 pub mod Recursion
+pub mod Child
+pub mod Finishing
+pub mod Loop
+pub mod Immediate
+pub mod Step

@@ -163,7 +163,7 @@ pub record Overs (b : List ℕ) (w h : ℕ) (ks : List ℕ) (q : Bool) : Type 0 
 abbrev pub Removed : List ℕ → ℕ → Tree
 Removed b h = removeBy (shape (decode (slot b (index h) .rec))) (record { op = decode (slot b (index h) .rec); mark = true }) (forest b (slot b (index h) .kids)) (removeKids (singles (decode (slot b (index h) .rec))) (forest b (slot b (index h) .kids)))
 
-roots-none : (m hs : List ℕ) → isNil (roots (forest m hs)) ≡ eqb (length hs) 0
+pub roots-none : (m hs : List ℕ) → isNil (roots (forest m hs)) ≡ eqb (length hs) 0
 unfolding forest
 roots-none m [] = refl
 roots-none m (h ∷ hs) = sym (ne-eqb (suc (length hs)) 0 (λ e. absurd (omega arith)))

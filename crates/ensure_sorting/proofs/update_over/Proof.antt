@@ -1,0 +1,34 @@
+use borrow.Author.Needs.{needs}
+use native.Mathlib.Omega.{arith}
+use Rattle.ensure_sorting.specs.Finishing.{settled-puts, settled-grown}
+use Rattle.ensure_sorting.proofs.update_over.Statement.{statement}
+use Rattle.ensure_sorting.proofs.update_over.Tie as tie
+use Rattle.ensure_sorting.proofs.update_over.Reads as reads
+use Rattle.ensure_sorting.proofs.update_over.Lts as lts
+use Rattle.ensure_sorting.proofs.update_sort_ctx_children_data.update_sort_ctx_children_data.Reads as update-sort-ctx-children-data-reads
+use Rattle.plan_context.proofs.putting.update_plan_from_children.Reads as update-plan-from-children-reads
+
+update-sort-ctx-children-data-requires : tie.Need-update-sort-ctx-children-data-requires
+update-sort-ctx-children-data-requires c κs = search needs
+
+update-plan-from-children-requires : tie.Need-update-plan-from-children-requires
+update-plan-from-children-requires c κs = let s = c .before .before .before .before .before .before .before .before .before .before in settled-puts (s .args .m .now) (s .args .u) (s .args .h) (s .args .r .now) (s .args .ks .now) (s .pre) _ (c .before .before .before .before .update-sort-ctx-children-data .ensures)
+
+same-length : tie.Need-same-length
+same-length c = search needs
+
+same-length-2 : tie.Need-same-length-2
+same-length-2 c = search needs
+
+returns : tie.Need-returns
+returns c = let s = c .before .before .before .before .before .before .before .before .before .before .before .before .before in settled-grown (s .args .m .now) (s .args .u) (s .args .h) (s .args .r .now) (s .args .ks .now) (s .pre) _ (c .before .before .before .before .before .before .before .update-sort-ctx-children-data .ensures) _ _ (c .before .before .update-plan-from-children .ensures)
+
+pub update-over-spec : {M : Type 1} → statement M
+update-over-spec =
+    tie.close
+    (tie.spec
+    update-sort-ctx-children-data-requires
+    update-plan-from-children-requires
+    same-length
+    same-length-2
+    returns)
