@@ -1,4 +1,6 @@
 use borrow.Author.Needs.{needs}
+use native.Mathlib.Omega.{arith}
+use Rattle.parallelize_sorts.specs.Cascading.{rebuilds-opens, rebuilds-proper, is-cascaded, sort-asks, merge-puts, merge-grown}
 use Rattle.parallelize_sorts.proofs.cascades.cascade.Statement.{statement}
 use Rattle.parallelize_sorts.proofs.cascades.cascade.Tie as tie
 use Rattle.parallelize_sorts.proofs.cascades.cascade.Reads as reads
@@ -9,37 +11,29 @@ use Rattle.parallelize_sorts.proofs.cascades.get_sort_exprs.Reads as ge
 use Rattle.plan_context.proofs.putting.put_over.Reads as put-over-reads
 use Rattle.utils.proofs.add_sort_above_with_check.Reads as add-sort-above-with-check-reads
 
--- src/cascades.rt:57:9
 get-sort-exprs-requires : tie.Need-get-sort-exprs-requires
-get-sort-exprs-requires c κs = ?
+get-sort-exprs-requires c κs = rebuilds-proper ((c .before .before) .args .m .now) ((c .before .before) .args .u) ((c .before .before) .args .r .now) ((c .before .before) .args .h) ((c .before .before) .pre .0)
 
--- src/cascades.rt:60:9
 remove-bottleneck-in-subplan-requires : tie.Need-remove-bottleneck-in-subplan-requires
-remove-bottleneck-in-subplan-requires c κs = ?
+remove-bottleneck-in-subplan-requires c κs = (rebuilds-opens ((c .before .before .before .before .before) .args .m .now) ((c .before .before .before .before .before) .args .u) ((c .before .before .before .before .before) .args .r .now) ((c .before .before .before .before .before) .args .h) ((c .before .before .before .before .before) .pre .0), rebuilds-proper ((c .before .before .before .before .before) .args .m .now) ((c .before .before .before .before .before) .args .u) ((c .before .before .before .before .before) .args .r .now) ((c .before .before .before .before .before) .args .h) ((c .before .before .before .before .before) .pre .0))
 
--- src/cascades.rt:61:9
 add-sort-above-with-check-requires : tie.Need-add-sort-above-with-check-requires
-add-sort-above-with-check-requires c κs = ?
+add-sort-above-with-check-requires c κs = sort-asks ((c .before .before .before .before .before .before .before .before .before) .args .m .now) ((c .before .before .before .before .before .before .before .before .before) .args .u) ((c .before .before .before .before .before .before .before .before .before) .args .r .now) ((c .before .before .before .before .before .before .before .before .before) .args .h) ((c .before .before .before .before .before .before .before .before .before) .pre .0) ((is-cascaded ((c .before .before .before .before .before .before .before .before .before) .args .m .now) ((c .before .before .before .before .before .before .before .before .before) .args .u) ((c .before .before .before .before .before .before .before .before .before) .args .r .now) ((c .before .before .before .before .before .before .before .before .before) .args .h) ((c .before .before .before .before .before .before .before .before .before) .pre .0) ((c .before .before .before .before .before .before .get-sort-exprs) .result) ((c .before .before .before .before .before .before .get-sort-exprs) .ensures) ((c .before .before .before .before .before .before .before .before .before) .pre .1)) .pass) _ ((c .before .before .before .remove-bottleneck-in-subplan) .kept .0) ((c .before .before .before .remove-bottleneck-in-subplan) .result) ((c .before .before .before .remove-bottleneck-in-subplan) .ensures) ((c .before .before .before .before .before .before .get-sort-exprs) .result) (is-cascaded ((c .before .before .before .before .before .before .before .before .before) .args .m .now) ((c .before .before .before .before .before .before .before .before .before) .args .u) ((c .before .before .before .before .before .before .before .before .before) .args .r .now) ((c .before .before .before .before .before .before .before .before .before) .args .h) ((c .before .before .before .before .before .before .before .before .before) .pre .0) ((c .before .before .before .before .before .before .get-sort-exprs) .result) ((c .before .before .before .before .before .before .get-sort-exprs) .ensures) ((c .before .before .before .before .before .before .before .before .before) .pre .1))
 
--- src/cascades.rt:62:13
 merge-record-requires : tie.Need-merge-record-requires
-merge-record-requires c κs = ?
+merge-record-requires c κs = (is-cascaded ((c .before .before .before .before .before .before .before .before .before .before .before .before) .args .m .now) ((c .before .before .before .before .before .before .before .before .before .before .before .before) .args .u) ((c .before .before .before .before .before .before .before .before .before .before .before .before) .args .r .now) ((c .before .before .before .before .before .before .before .before .before .before .before .before) .args .h) ((c .before .before .before .before .before .before .before .before .before .before .before .before) .pre .0) ((c .before .before .before .before .before .before .before .before .before .get-sort-exprs) .result) ((c .before .before .before .before .before .before .before .before .before .get-sort-exprs) .ensures) ((c .before .before .before .before .before .before .before .before .before .before .before .before) .pre .1)) .few
 
--- src/cascades.rt:63:25
 slice-aggregate-put-over : tie.Need-slice-aggregate-put-over
 slice-aggregate-put-over c = search needs
 
--- src/cascades.rt:63:5
 put-over-requires : tie.Need-put-over-requires
-put-over-requires c κs = ?
+put-over-requires c κs = merge-puts ((c .before .before .before .before .before .before .before .before .before .before .before .before .before .before .before) .args .m .now) ((c .before .before .before .before .before .before .before .before .before .before .before .before .before .before .before) .args .u) ((c .before .before .before .before .before .before .before .before .before .before .before .before .before .before .before) .args .r .now) ((c .before .before .before .before .before .before .before .before .before .before .before .before .before .before .before) .args .h) ((c .before .before .before .before .before .before .before .before .before .before .before .before .before .before .before) .pre .0) ((is-cascaded ((c .before .before .before .before .before .before .before .before .before .before .before .before .before .before .before) .args .m .now) ((c .before .before .before .before .before .before .before .before .before .before .before .before .before .before .before) .args .u) ((c .before .before .before .before .before .before .before .before .before .before .before .before .before .before .before) .args .r .now) ((c .before .before .before .before .before .before .before .before .before .before .before .before .before .before .before) .args .h) ((c .before .before .before .before .before .before .before .before .before .before .before .before .before .before .before) .pre .0) ((c .before .before .before .before .before .before .before .before .before .before .before .before .get-sort-exprs) .result) ((c .before .before .before .before .before .before .before .before .before .before .before .before .get-sort-exprs) .ensures) ((c .before .before .before .before .before .before .before .before .before .before .before .before .before .before .before) .pre .1)) .pass) _ ((c .before .before .before .before .before .before .before .before .before .remove-bottleneck-in-subplan) .kept .0) ((c .before .before .before .before .before .before .before .before .before .remove-bottleneck-in-subplan) .result) ((c .before .before .before .before .before .before .before .before .before .remove-bottleneck-in-subplan) .ensures) ((c .before .before .before .before .before .before .before .before .before .before .before .before .get-sort-exprs) .result) (is-cascaded ((c .before .before .before .before .before .before .before .before .before .before .before .before .before .before .before) .args .m .now) ((c .before .before .before .before .before .before .before .before .before .before .before .before .before .before .before) .args .u) ((c .before .before .before .before .before .before .before .before .before .before .before .before .before .before .before) .args .r .now) ((c .before .before .before .before .before .before .before .before .before .before .before .before .before .before .before) .args .h) ((c .before .before .before .before .before .before .before .before .before .before .before .before .before .before .before) .pre .0) ((c .before .before .before .before .before .before .before .before .before .before .before .before .get-sort-exprs) .result) ((c .before .before .before .before .before .before .before .before .before .before .before .before .get-sort-exprs) .ensures) ((c .before .before .before .before .before .before .before .before .before .before .before .before .before .before .before) .pre .1)) _ ((c .before .before .before .before .before .add-sort-above-with-check) .kept .0) ((c .before .before .before .before .before .add-sort-above-with-check) .result) ((c .before .before .before .before .before .add-sort-above-with-check) .ensures) _ ((c .before .before .merge-record) .ensures)
 
--- src/cascades.rt:53:1
 same-length : tie.Need-same-length
 same-length c = search needs
 
--- src/cascades.rt:53:1
 returns : tie.Need-returns
-returns c = ?
+returns c = merge-grown ((c .before .before .before .before .before .before .before .before .before .before .before .before .before .before .before .before .before .before) .args .m .now) ((c .before .before .before .before .before .before .before .before .before .before .before .before .before .before .before .before .before .before) .args .u) ((c .before .before .before .before .before .before .before .before .before .before .before .before .before .before .before .before .before .before) .args .r .now) ((c .before .before .before .before .before .before .before .before .before .before .before .before .before .before .before .before .before .before) .args .h) ((c .before .before .before .before .before .before .before .before .before .before .before .before .before .before .before .before .before .before) .pre .0) ((is-cascaded ((c .before .before .before .before .before .before .before .before .before .before .before .before .before .before .before .before .before .before) .args .m .now) ((c .before .before .before .before .before .before .before .before .before .before .before .before .before .before .before .before .before .before) .args .u) ((c .before .before .before .before .before .before .before .before .before .before .before .before .before .before .before .before .before .before) .args .r .now) ((c .before .before .before .before .before .before .before .before .before .before .before .before .before .before .before .before .before .before) .args .h) ((c .before .before .before .before .before .before .before .before .before .before .before .before .before .before .before .before .before .before) .pre .0) ((c .before .before .before .before .before .before .before .before .before .before .before .before .before .before .before .get-sort-exprs) .result) ((c .before .before .before .before .before .before .before .before .before .before .before .before .before .before .before .get-sort-exprs) .ensures) ((c .before .before .before .before .before .before .before .before .before .before .before .before .before .before .before .before .before .before) .pre .1)) .pass) _ ((c .before .before .before .before .before .before .before .before .before .before .before .before .remove-bottleneck-in-subplan) .kept .0) ((c .before .before .before .before .before .before .before .before .before .before .before .before .remove-bottleneck-in-subplan) .result) ((c .before .before .before .before .before .before .before .before .before .before .before .before .remove-bottleneck-in-subplan) .ensures) ((c .before .before .before .before .before .before .before .before .before .before .before .before .before .before .before .get-sort-exprs) .result) (is-cascaded ((c .before .before .before .before .before .before .before .before .before .before .before .before .before .before .before .before .before .before) .args .m .now) ((c .before .before .before .before .before .before .before .before .before .before .before .before .before .before .before .before .before .before) .args .u) ((c .before .before .before .before .before .before .before .before .before .before .before .before .before .before .before .before .before .before) .args .r .now) ((c .before .before .before .before .before .before .before .before .before .before .before .before .before .before .before .before .before .before) .args .h) ((c .before .before .before .before .before .before .before .before .before .before .before .before .before .before .before .before .before .before) .pre .0) ((c .before .before .before .before .before .before .before .before .before .before .before .before .before .before .before .get-sort-exprs) .result) ((c .before .before .before .before .before .before .before .before .before .before .before .before .before .before .before .get-sort-exprs) .ensures) ((c .before .before .before .before .before .before .before .before .before .before .before .before .before .before .before .before .before .before) .pre .1)) _ ((c .before .before .before .before .before .before .before .before .add-sort-above-with-check) .kept .0) ((c .before .before .before .before .before .before .before .before .add-sort-above-with-check) .result) ((c .before .before .before .before .before .before .before .before .add-sort-above-with-check) .ensures) _ ((c .before .before .before .before .before .merge-record) .ensures) _ ((c .before .before .put-over) .result) ((c .before .before .put-over) .ensures)
 
 pub cascade-spec : {M : Type 1} → statement M
 cascade-spec =

@@ -1,4 +1,11 @@
 use borrow.Author.Needs.{needs}
+use native.Mathlib.Omega.{arith}
+use mathlib.Core.Path.{sym, ap, _∙_}
+use borrow.Author.Tests.{not-true, not-false}
+use lib.Dec.{ltb}
+use Rattle.walks.specs.Marks.{fact}
+use Rattle.plan_context.specs.View.{treeOf}
+use Rattle.parallelize_sorts.specs.Exprs.{merge-cascades, no-cascade, sort-cascades}
 use Rattle.parallelize_sorts.proofs.cascades.sorts_one_stream.Statement.{statement}
 use Rattle.parallelize_sorts.proofs.cascades.sorts_one_stream.Tie as tie
 use Rattle.parallelize_sorts.proofs.cascades.sorts_one_stream.Reads as reads
@@ -9,37 +16,29 @@ use Rattle.node_properties.proofs.preserve_mark.Reads as preserve-mark-reads
 use Rattle.plan_context.proofs.kept.row.Reads as row-reads
 use Rattle.row_facts.proofs.asked.several_streams.Reads as several-streams-reads
 
--- src/cascades.rt:43:8
 is-sort-preserving-merge-requires : tie.Need-is-sort-preserving-merge-requires
 is-sort-preserving-merge-requires c κs = search needs
 
--- src/cascades.rt:44:9
 returns : tie.Need-returns
-returns c = ?
+returns c = merge-cascades ((c .before .before .before .before) .args .r .now) (fact (treeOf ((c .before .before .before .before) .args .m .now) ((c .before .before .before .before) .args .h))) (sym ((c .before .is-sort-preserving-merge) .ensures) ∙ (c .if1) .taken)
 
--- src/cascades.rt:46:9
 is-sort-requires : tie.Need-is-sort-requires
 is-sort-requires c κs = search needs
 
--- src/cascades.rt:47:9
 returns-2 : tie.Need-returns-2
-returns-2 c = ?
+returns-2 c = no-cascade ((c .before .before .before .before .before .before) .args .r .now) (fact (treeOf ((c .before .before .before .before .before .before) .args .m .now) ((c .before .before .before .before .before .before) .args .h))) (sym ((c .before .before .before .is-sort-preserving-merge) .ensures) ∙ (c .before .before .if1) .left) (sym ((c .before .is-sort) .ensures) ∙ not-true _ ((c .if2) .taken))
 
--- src/cascades.rt:49:7
 preserve-mark-requires : tie.Need-preserve-mark-requires
 preserve-mark-requires c κs = search needs
 
--- src/cascades.rt:49:42
 row-requires : tie.Need-row-requires
 row-requires c κs = search needs
 
--- src/cascades.rt:49:26
 several-streams-requires : tie.Need-several-streams-requires
 several-streams-requires c κs = search needs
 
--- src/cascades.rt:39:1
 returns-3 : tie.Need-returns-3
-returns-3 c = ?
+returns-3 c = sort-cascades ((c .before .before .before .before .before .before .before .before .before) .args .r .now) (fact (treeOf ((c .before .before .before .before .before .before .before .before .before) .args .m .now) ((c .before .before .before .before .before .before .before .before .before) .args .h))) (sym ((c .before .before .before .before .is-sort) .ensures) ∙ not-false _ ((c .before .before .before .if2) .left)) ((c .before .before .preserve-mark) .result) ((c .before .before .preserve-mark) .ensures) ((c .several-streams) .result) ((c .several-streams) .ensures ∙ ap (λ G. ltb 1 (G .streams)) ((c .before .row) .ensures .1 .is))
 
 pub sorts-one-stream-spec : {M : Type 1} → statement M
 sorts-one-stream-spec =
