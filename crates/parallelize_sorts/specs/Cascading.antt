@@ -1,6 +1,6 @@
 -- A sort, a merge or a coalesce rebuilt over what is left below it, and the step.
 use mathlib.Core.Path.{_≡_, refl, sym, ap, ap₂, _∙_, subst}
-use mathlib.Core.Bool.{Bool, true, false, cond, _&&_}
+use mathlib.Core.Bool.{Bool, true, false, cond}
 use mathlib.Core.List.{List, [], _∷_}
 use Prim.Native.Nat.{ℕ, suc, _+_, _*_, _≤_, _<_}
 use native.Mathlib.Omega.{arith}
@@ -14,17 +14,17 @@ use Rattle.plan.specs.WellFormed.{fetchOk, nodeOk}
 use Rattle.plan.specs.declared.Fetch.{Fetch}
 use Rattle.plan_codec.specs.Decode.{decode}
 use Rattle.plan_codec.specs.Encode.{encode}
-use Rattle.semantics.specs.Facts.{Facts, met}
+use Rattle.semantics.specs.Facts.{met}
 use Rattle.semantics.specs.Properties.{cuts, freshKeys}
 use Rattle.key_lists.specs.Keys.{keysOf}
 use Rattle.record_fields.specs.Proper.{Proper}
 use Rattle.arena.specs.Arena.{slotSize}
 use Rattle.arena.specs.Laws.{below-at}
 use Rattle.arena.specs.declared.At.{At}
-use Rattle.walks.specs.Marks.{Marked, Tree, strip, known, node, plant, over, cover, opT, fact, sizeT, setMark, headMark, shape}
+use Rattle.walks.specs.Marks.{Marked, Tree, strip, node, plant, over, cover, fact, sizeT, headMark, shape}
 use Rattle.walks.specs.Utils.{isCoalescePartitions, newSort, addSortAboveWithCheck}
 use Rattle.walks.specs.Terms.{passing}
-use Rattle.walks.specs.Trees.{OkT, FitT, arity, ok-fit, children-fit, FitsA}
+use Rattle.walks.specs.Trees.{OkT, FitT, ok-fit, children-fit, FitsA}
 use Rattle.walks.specs.NewNodes.{coalesce-ok, narrowT, node-fetch}
 use Rattle.walks.specs.Keeps.{Keeps, pass-one}
 use Rattle.walks.specs.Base.{ease-blank}
@@ -33,7 +33,7 @@ use Rattle.walks.specs.ParallelizeKept.{freed-kept}
 use Rattle.walks.specs.ParallelizeSorts.{freed, parallelBy, parallelizeSorts, updateCoalesceCtxChildren}
 use Rattle.plan_context.specs.View.{treeOf, forest, mostSlots, Arena, Grown, Here, Puts}
 use Rattle.plan_context.specs.Covering.{Under, cover-puts, cover-grown, ok-of}
-use Rattle.plan_context.specs.Laws.{here, theres}
+use Rattle.plan_context.specs.Laws.{here}
 use Rattle.plan_context.specs.Nodes.{rule}
 use Rattle.plan_context.specs.Opened.{Opened, stepRoom}
 use Rattle.plan_context.specs.Opening.{opened-over, grown-more, grown-then}
@@ -42,7 +42,7 @@ use Rattle.parallelize_sorts.specs.declared.SortExprs.{SortExprs}
 use Rattle.parallelize_sorts.specs.Connecting.{some-first}
 use Rattle.parallelize_sorts.specs.Shown.{record-proper}
 use Rattle.parallelize_sorts.specs.Removing.{Opens, freed-size}
-use Rattle.parallelize_sorts.specs.Exprs.{Exprs, cascades, Cascaded, cascaded, merge-keys, Coalesced, coalesced, stays-else}
+use Rattle.parallelize_sorts.specs.Exprs.{Exprs, cascades, Cascaded, cascaded, merge-keys, Coalesced, stays-else}
 
 -- A node with the record r over the tree at h, that stands in no slot
 pub record Rebuilds (m : List ℕ) (u : ℕ) (r : List ℕ) (h : ℕ) : Type 0 where
@@ -95,9 +95,6 @@ module _ (m : List ℕ) (u : ℕ) (r : List ℕ) (h : ℕ) (p : Rebuilds m u r h
   module _ (pass : passing (decode r) ≡ true) where
     kept : Keeps false true true (over (decode r) false (treeOf m h)) (freed (over (decode r) false (treeOf m h)))
     kept = freed-kept (over o false T) pass fitting
-
-    freed-ok : OkT (freed (over (decode r) false (treeOf m h)))
-    freed-ok = kept .ok refl (p .ok)
 
     freed-width : fact (freed (over (decode r) false (treeOf m h))) .width ≡ fact (treeOf m h) .width
     freed-width = ap (λ F. F .width) (kept .base ∙ ease-blank o (fact T ∷ []) (pass-ease o pass))

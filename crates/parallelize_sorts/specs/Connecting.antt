@@ -2,15 +2,13 @@
 use mathlib.Core.Path.{_≡_, refl, sym, ap, ap₂, _∙_}
 use mathlib.Core.Bool.{Bool, true, false, cond, not, _&&_, _||_}
 use mathlib.Core.List.{List, [], _∷_}
-use Prim.Native.Nat.{ℕ, zero, suc, _+_, _≤_, _<_}
+use Prim.Native.Nat.{ℕ, suc, _+_, _≤_, _<_}
 use native.Mathlib.Omega.{arith}
 use native.Mathlib.Numerals.{add-one}
 use lib.ListN.{length, getD, drop, drop-of-length-le}
 use lib.Seq.{drop-cons}
 use Rattle.row_order.specs.Order.{no-bool}
-use Rattle.plan.specs.Forest.{roots}
 use Rattle.plan.specs.Op.{Op}
-use Rattle.semantics.specs.Facts.{isNil}
 use Rattle.semantics.specs.Properties.{singles}
 use Rattle.arena.specs.Arena.{marked}
 use Rattle.walks.specs.Marks.{headMark}

@@ -2,7 +2,7 @@
 use mathlib.Core.Path.{_≡_, refl, sym, ap, ap₂, _∙_, subst}
 use mathlib.Core.Bool.{Bool, true, false, cond, not, _&&_, _||_}
 use mathlib.Core.List.{List, [], _∷_}
-use Prim.Native.Nat.{ℕ, _≤_, _<_}
+use Prim.Native.Nat.{ℕ, _≤_}
 use native.Mathlib.Omega.{arith}
 use lib.Dec.{eqb, leb, ltb}
 use lib.ListN.{length, getD}
@@ -11,12 +11,11 @@ use Rattle.row_order.specs.Iso.{Key}
 use Rattle.row_order.specs.Order.{no-bool}
 use Rattle.plan.specs.Forest.{Forest, none}
 use Rattle.plan.specs.Op.{Op, source, filter, projection, union, repartition, coalesce, sortOp, mergeOp, globalLimit, localLimit, sortMergeJoin, hashJoin, outputRequirement, partialSort}
-use Rattle.plan.specs.Numbers.{code, kindNumber, kindOf}
+use Rattle.plan.specs.Numbers.{code, kindOf}
 use Rattle.plan.specs.WellFormed.{fetchOk, keysFit, nodeOk}
 use Rattle.plan.specs.declared.Fetch.{Fetch}
 use Rattle.plan.specs.declared.Kind.{Kind}
 use Rattle.plan.specs.declared.Kind.the-variants.{Source, Filter, Projection, Union, Repartition, Coalesce, Sort, Merge, GlobalLimit, LocalLimit, SortMergeJoin, HashJoin, OutputRequirement, PartialSort}
-use Rattle.plan_codec.specs.NodeRecord.{NodeRecord}
 use Rattle.plan_codec.specs.Decode.{decode, fromBytes, operatorOf}
 use Rattle.semantics.specs.Facts.{Facts, factsOp, sortStreams}
 use Rattle.semantics.specs.Properties.{cuts}
@@ -118,20 +117,20 @@ pub cascaded : (o : Op) (s : SortExprs) (w : ℕ) (t : Tree) → Exprs (shape o)
 cascaded o s w t =
     by-kind (λ p. Exprs (shape p) s → nodeOk p (w ∷ []) ≡ true → cascades p (fact t) ≡ true → Cascaded p s w t)
     (λ p ks f x k c.
-      record {
-        pass = refl;
-        few = x .0 .few;
-        merge = ap₂ (λ l g. nodeOk (mergeOp l g) (w ∷ [])) (x .0 .is) (x .1) ∙ k;
-        is = λ y. ap (λ b. cond b (over (mergeOp ks f) false (addSortAboveWithCheck ks f (freed (over (sortOp p ks f) y t)))) (over (sortOp p ks f) y t)) c
-            ∙ ap₂ (λ l g. over (mergeOp l g) false (addSortAboveWithCheck l g (freed (over (sortOp p ks f) y t)))) (sym (x .0 .is)) (sym (x .1));
-      })
+    record {
+      pass = refl;
+      few = x .0 .few;
+      merge = ap₂ (λ l g. nodeOk (mergeOp l g) (w ∷ [])) (x .0 .is) (x .1) ∙ k;
+      is = λ y. ap (λ b. cond b (over (mergeOp ks f) false (addSortAboveWithCheck ks f (freed (over (sortOp p ks f) y t)))) (over (sortOp p ks f) y t)) c
+          ∙ ap₂ (λ l g. over (mergeOp l g) false (addSortAboveWithCheck l g (freed (over (sortOp p ks f) y t)))) (sym (x .0 .is)) (sym (x .1));
+    })
     (λ ks f x k c.
-      record {
-        pass = refl;
-        few = x .0 .few;
-        merge = ap₂ (λ l g. nodeOk (mergeOp l g) (w ∷ [])) (x .0 .is) (x .1) ∙ k;
-        is = λ y. ap₂ (λ l g. over (mergeOp l g) false (addSortAboveWithCheck l g (freed (over (mergeOp ks f) y t)))) (sym (x .0 .is)) (sym (x .1));
-      })
+    record {
+      pass = refl;
+      few = x .0 .few;
+      merge = ap₂ (λ l g. nodeOk (mergeOp l g) (w ∷ [])) (x .0 .is) (x .1) ∙ k;
+      is = λ y. ap₂ (λ l g. over (mergeOp l g) false (addSortAboveWithCheck l g (freed (over (mergeOp ks f) y t)))) (sym (x .0 .is)) (sym (x .1));
+    })
     (λ f x k c. no-bool c)
     (λ p e x k c. no-bool (sym (ap₂ (λ a b. (a || b) && leb (factsOp p (fact t ∷ []) .streams) 1) (e .sort) (e .merge)) ∙ c))
     o
@@ -176,9 +175,9 @@ pub cascades-alike : (o : Op) (x : Bool) (t : Tree) → cascades o (fact t) ≡ 
 cascades-alike o x t =
     by-kind (λ p. cascades p (fact t) ≡ true → parallelBy (shape p) (over p false t) ≡ parallelBy (shape p) (over p x t))
     (λ p ks f c.
-      ap (λ b. cond b (over (mergeOp ks f) false (addSortAboveWithCheck ks f (freed (over (sortOp p ks f) false t)))) (over (sortOp p ks f) false t)) c
-      ∙ ap (λ v. over (mergeOp ks f) false (addSortAboveWithCheck ks f v)) (sym (same-freed (sortOp p ks f) x t))
-      ∙ sym (ap (λ b. cond b (over (mergeOp ks f) false (addSortAboveWithCheck ks f (freed (over (sortOp p ks f) x t)))) (over (sortOp p ks f) x t)) c))
+    ap (λ b. cond b (over (mergeOp ks f) false (addSortAboveWithCheck ks f (freed (over (sortOp p ks f) false t)))) (over (sortOp p ks f) false t)) c
+    ∙ ap (λ v. over (mergeOp ks f) false (addSortAboveWithCheck ks f v)) (sym (same-freed (sortOp p ks f) x t))
+    ∙ sym (ap (λ b. cond b (over (mergeOp ks f) false (addSortAboveWithCheck ks f (freed (over (sortOp p ks f) x t)))) (over (sortOp p ks f) x t)) c))
     (λ ks f c. ap (λ v. over (mergeOp ks f) false (addSortAboveWithCheck ks f v)) (sym (same-freed (mergeOp ks f) x t)))
     (λ f c. no-bool c)
     (λ p e c. no-bool (sym (ap₂ (λ a b. (a || b) && leb (factsOp p (fact t ∷ []) .streams) 1) (e .sort) (e .merge)) ∙ c))

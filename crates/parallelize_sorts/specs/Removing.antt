@@ -14,23 +14,22 @@ use Rattle.plan_format.specs.Record.{children}
 use Rattle.plan_codec.specs.Decode.{decode}
 use Rattle.plan_codec.specs.Encode.{encode}
 use Rattle.semantics.specs.Properties.{singles}
-use Rattle.record_fields.specs.Proper.{Proper}
 use Rattle.arena.specs.Arena.{slotSize, index, marked, slot, Below}
-use Rattle.arena.specs.Laws.{below-at, below-more}
+use Rattle.arena.specs.Laws.{below-at}
 use Rattle.arena.specs.declared.At.{At}
-use Rattle.walks.specs.Marks.{Marked, Tree, strip, known, node, plant, over, opT, sizeT, setMark, kid0, rebuild}
+use Rattle.walks.specs.Marks.{Marked, Tree, strip, node, plant, over, opT, sizeT, kid0}
 use Rattle.walks.specs.Terms.{_⊕_}
 use Rattle.walks.specs.Trees.{OkT, ok-fit}
 use Rattle.walks.specs.Keeps.{kept-node, like-refl, KeepsAll}
 use Rattle.walks.specs.ParallelizeKept.{openEach-kept}
 use Rattle.walks.specs.ParallelizeSorts.{bottleneck, firstIs, freed, liftFirst, openEach, opened, removeBottleneckInSubplan, settle, skipSame}
-use Rattle.plan_context.specs.View.{treeOf, forest, mostSlots, Arena, Same, Grown, Puts}
+use Rattle.plan_context.specs.View.{treeOf, forest, mostSlots, Arena, Grown, Puts}
 use Rattle.plan_context.specs.Kids.{Kids, kids-none, kids-more, kids-forest, plus-none}
-use Rattle.plan_context.specs.Laws.{slot-same, forest-same, tree-same, same-trans}
+use Rattle.plan_context.specs.Laws.{slot-same, tree-same, same-trans}
 use Rattle.plan_context.specs.Nodes.{Seen}
 use Rattle.plan_context.specs.Opening.{grown-none, grown-more}
 use Rattle.parallelize_sorts.specs.From.{from, from-first, from-next}
-use Rattle.parallelize_sorts.specs.Shown.{Held, held-at, view, held-proper, tree-of}
+use Rattle.parallelize_sorts.specs.Shown.{Held, held-at, view, tree-of}
 use Rattle.parallelize_sorts.specs.Skipping.{Skips}
 use Rattle.parallelize_sorts.specs.Sizes.{skip-size, one-size, each-size}
 use Rattle.parallelize_sorts.specs.Settling.{Lifts}

@@ -12,15 +12,6 @@ use Rattle.parallelize_sorts.specs.Exprs.{coalesced, cascades-alike, coa
 use Rattle.parallelize_sorts.specs.Cascading.{step-proper, unconnected, first-here, step-rebuilds, rebuilt-grown, left-grown}
 use Rattle.parallelize_sorts.proofs.parallelize_sorts.Statement.{statement}
 use Rattle.parallelize_sorts.proofs.parallelize_sorts.Tie as tie
-use Rattle.parallelize_sorts.proofs.parallelize_sorts.Reads as reads
-use Rattle.parallelize_sorts.proofs.parallelize_sorts.Lts as lts
-use Rattle.node_properties.proofs.is_coalesce_partitions.Reads as is-coalesce-partitions-reads
-use Rattle.parallelize_sorts.proofs.cascades.cascade.Reads as cascade-reads
-use Rattle.parallelize_sorts.proofs.cascades.coalesce_again.Reads as coalesce-again-reads
-use Rattle.parallelize_sorts.proofs.cascades.sorts_one_stream.Reads as sorts-one-stream-reads
-use Rattle.parallelize_sorts.proofs.marks.first_connected.Reads as first-connected-reads
-use Rattle.parallelize_sorts.proofs.marks.update_coalesce_ctx_children.Reads as update-coalesce-ctx-children-reads
-use Rattle.parallelize_sorts.proofs.stay.Reads as stay-reads
 
 update-coalesce-ctx-children-requires : tie.Need-update-coalesce-ctx-children-requires
 update-coalesce-ctx-children-requires c κs = step-proper ((c .before .before .before) .args .m .now) ((c .before .before .before) .args .u) ((c .before .before .before) .args .r .now) ((c .before .before .before) .args .ks .now) ((c .before .before .before) .args .i) ((c .before .before .before) .pre)

@@ -1,12 +1,7 @@
 use borrow.Author.Needs.{needs}
-use native.Mathlib.Omega.{arith}
 use Rattle.parallelize_sorts.specs.Settling.{marked-grown, root-small}
 use Rattle.parallelize_sorts.proofs.stay.Statement.{statement}
 use Rattle.parallelize_sorts.proofs.stay.Tie as tie
-use Rattle.parallelize_sorts.proofs.stay.Reads as reads
-use Rattle.parallelize_sorts.proofs.stay.Lts as lts
-use Rattle.plan_context.proofs.handles.set_mark.Reads as set-mark-reads
-use Rattle.plan_context.proofs.putting.put_again.Reads as put-again-reads
 
 put-again-requires : tie.Need-put-again-requires
 put-again-requires c κs = search needs

@@ -1,15 +1,7 @@
 use borrow.Author.Needs.{needs}
-use native.Mathlib.Omega.{arith}
 use Rattle.parallelize_sorts.specs.Cascading.{rebuilds-opens, rebuilds-proper, is-cascaded, sort-asks, merge-puts, merge-grown}
 use Rattle.parallelize_sorts.proofs.cascades.cascade.Statement.{statement}
 use Rattle.parallelize_sorts.proofs.cascades.cascade.Tie as tie
-use Rattle.parallelize_sorts.proofs.cascades.cascade.Reads as reads
-use Rattle.parallelize_sorts.proofs.cascades.cascade.Lts as lts
-use Rattle.new_records.proofs.merge_record.Reads as merge-record-reads
-use Rattle.parallelize_sorts.proofs.bottlenecks.remove_bottleneck_in_subplan.Reads as remove-bottleneck-in-subplan-reads
-use Rattle.parallelize_sorts.proofs.cascades.get_sort_exprs.Reads as get-sort-exprs-reads
-use Rattle.plan_context.proofs.putting.put_over.Reads as put-over-reads
-use Rattle.utils.proofs.add_sort_above_with_check.Reads as add-sort-above-with-check-reads
 
 get-sort-exprs-requires : tie.Need-get-sort-exprs-requires
 get-sort-exprs-requires c κs = rebuilds-proper ((c .before .before) .args .m .now) ((c .before .before) .args .u) ((c .before .before) .args .r .now) ((c .before .before) .args .h) ((c .before .before) .pre .0)

@@ -1,17 +1,10 @@
 use borrow.Author.Needs.{needs}
-use native.Mathlib.Omega.{arith}
 use Rattle.plan_codec.specs.Decode.{decode}
 use Rattle.plan_context.specs.View.{treeOf}
 use Rattle.parallelize_sorts.specs.Exprs.{coalesced}
 use Rattle.parallelize_sorts.specs.Cascading.{rebuilds-opens, rebuilds-proper, again-puts, again-grown}
 use Rattle.parallelize_sorts.proofs.cascades.coalesce_again.Statement.{statement}
 use Rattle.parallelize_sorts.proofs.cascades.coalesce_again.Tie as tie
-use Rattle.parallelize_sorts.proofs.cascades.coalesce_again.Reads as reads
-use Rattle.parallelize_sorts.proofs.cascades.coalesce_again.Lts as lts
-use Rattle.new_records.proofs.coalesce_record.Reads as coalesce-record-reads
-use Rattle.node_properties.proofs.fetch.Reads as fetch-reads
-use Rattle.parallelize_sorts.proofs.bottlenecks.remove_bottleneck_in_subplan.Reads as remove-bottleneck-in-subplan-reads
-use Rattle.plan_context.proofs.putting.put_over.Reads as put-over-reads
 
 fetch-requires : tie.Need-fetch-requires
 fetch-requires c κs = rebuilds-proper ((c .before .before) .args .m .now) ((c .before .before) .args .u) ((c .before .before) .args .r .now) ((c .before .before) .args .h) ((c .before .before) .pre .0)

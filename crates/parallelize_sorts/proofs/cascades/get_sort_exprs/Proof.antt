@@ -1,12 +1,7 @@
 use borrow.Author.Needs.{needs}
-use native.Mathlib.Omega.{arith}
 use Rattle.parallelize_sorts.specs.Exprs.{exprs-are}
 use Rattle.parallelize_sorts.proofs.cascades.get_sort_exprs.Statement.{statement}
 use Rattle.parallelize_sorts.proofs.cascades.get_sort_exprs.Tie as tie
-use Rattle.parallelize_sorts.proofs.cascades.get_sort_exprs.Reads as reads
-use Rattle.parallelize_sorts.proofs.cascades.get_sort_exprs.Lts as lts
-use Rattle.node_properties.proofs.fetch_field.Reads as fetch-field-reads
-use Rattle.node_properties.proofs.keys.Reads as keys-reads
 
 keys-requires : tie.Need-keys-requires
 keys-requires c κs = search needs

@@ -1,5 +1,4 @@
 use borrow.Author.Needs.{needs}
-use native.Mathlib.Omega.{arith}
 use mathlib.Core.Path.{sym, ap, _∙_}
 use borrow.Author.Tests.{not-true, not-false}
 use lib.Dec.{ltb}
@@ -8,13 +7,6 @@ use Rattle.plan_context.specs.View.{treeOf}
 use Rattle.parallelize_sorts.specs.Exprs.{merge-cascades, no-cascade, sort-cascades}
 use Rattle.parallelize_sorts.proofs.cascades.sorts_one_stream.Statement.{statement}
 use Rattle.parallelize_sorts.proofs.cascades.sorts_one_stream.Tie as tie
-use Rattle.parallelize_sorts.proofs.cascades.sorts_one_stream.Reads as reads
-use Rattle.parallelize_sorts.proofs.cascades.sorts_one_stream.Lts as lts
-use Rattle.node_properties.proofs.is_sort.Reads as is-sort-reads
-use Rattle.node_properties.proofs.is_sort_preserving_merge.Reads as is-sort-preserving-merge-reads
-use Rattle.node_properties.proofs.preserve_mark.Reads as preserve-mark-reads
-use Rattle.plan_context.proofs.kept.row.Reads as row-reads
-use Rattle.row_facts.proofs.asked.several_streams.Reads as several-streams-reads
 
 is-sort-preserving-merge-requires : tie.Need-is-sort-preserving-merge-requires
 is-sort-preserving-merge-requires c κs = search needs

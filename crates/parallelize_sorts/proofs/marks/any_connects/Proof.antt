@@ -1,6 +1,5 @@
-use borrow.Author.Needs.{needs}
 use native.Mathlib.Omega.{arith}
-use mathlib.Core.Path.{sym, ap, _∙_}
+use mathlib.Core.Path.{sym, _∙_}
 use mathlib.Core.Bool.{not}
 use Prim.Native.Nat.{_≤_, _-_}
 use lib.ListN.{length}
@@ -9,9 +8,6 @@ use Rattle.plan_codec.specs.Decode.{decode}
 use Rattle.parallelize_sorts.specs.Connecting.{Passed, passed-none, passed-more, passed-found, passed-all}
 use Rattle.parallelize_sorts.proofs.marks.any_connects.Statement.{statement}
 use Rattle.parallelize_sorts.proofs.marks.any_connects.Tie as tie
-use Rattle.parallelize_sorts.proofs.marks.any_connects.Reads as reads
-use Rattle.parallelize_sorts.proofs.marks.any_connects.Lts as lts
-use Rattle.parallelize_sorts.proofs.marks.connects.Reads as connects-reads
 
 abbrev Inv-loop : tie.InvT-loop
 Inv-loop r ks j₀ j = (j ≤ length ks) × Passed (λ i. not (singles (decode r) i)) ks j

@@ -1,16 +1,11 @@
 use borrow.Author.Needs.{needs}
-use native.Mathlib.Omega.{arith}
-use mathlib.Core.Path.{sym, ap, ap₂, _∙_}
+use mathlib.Core.Path.{sym, ap, _∙_}
 use mathlib.Core.Bool.{not, _&&_}
 use borrow.Author.Tests.{not-true, not-false}
 use Rattle.semantics.specs.Properties.{singles}
 use Rattle.plan_codec.specs.Decode.{decode}
 use Rattle.parallelize_sorts.proofs.marks.connects.Statement.{statement}
 use Rattle.parallelize_sorts.proofs.marks.connects.Tie as tie
-use Rattle.parallelize_sorts.proofs.marks.connects.Reads as reads
-use Rattle.parallelize_sorts.proofs.marks.connects.Lts as lts
-use Rattle.node_properties.proofs.wants_single.Reads as wants-single-reads
-use Rattle.plan_context.proofs.handles.is_marked.Reads as is-marked-reads
 
 is-marked-requires : tie.Need-is-marked-requires
 is-marked-requires c κs = search needs

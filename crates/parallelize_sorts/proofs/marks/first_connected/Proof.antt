@@ -1,12 +1,8 @@
 use borrow.Author.Needs.{needs}
-use native.Mathlib.Omega.{arith}
 use mathlib.Core.Path.{_∙_}
 use Rattle.parallelize_sorts.specs.Connecting.{no-first, first-mark}
 use Rattle.parallelize_sorts.proofs.marks.first_connected.Statement.{statement}
 use Rattle.parallelize_sorts.proofs.marks.first_connected.Tie as tie
-use Rattle.parallelize_sorts.proofs.marks.first_connected.Reads as reads
-use Rattle.parallelize_sorts.proofs.marks.first_connected.Lts as lts
-use Rattle.plan_context.proofs.handles.is_marked.Reads as is-marked-reads
 
 returns : tie.Need-returns
 returns c = λ m. no-first ((c .before .before) .args .ks .now) m ((c .if1) .taken)

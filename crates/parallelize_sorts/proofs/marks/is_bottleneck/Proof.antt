@@ -1,15 +1,9 @@
 use borrow.Author.Needs.{needs}
-use native.Mathlib.Omega.{arith}
 use mathlib.Core.Path.{ap, ap₂, _∙_}
 use mathlib.Core.Bool.{not, _&&_}
 use Rattle.plan.specs.WellFormed.{someFetch}
 use Rattle.parallelize_sorts.proofs.marks.is_bottleneck.Statement.{statement}
 use Rattle.parallelize_sorts.proofs.marks.is_bottleneck.Tie as tie
-use Rattle.parallelize_sorts.proofs.marks.is_bottleneck.Reads as reads
-use Rattle.parallelize_sorts.proofs.marks.is_bottleneck.Lts as lts
-use Rattle.node_properties.proofs.fetch.Reads as fetch-reads
-use Rattle.node_properties.proofs.is_coalesce_partitions.Reads as is-coalesce-partitions-reads
-use Rattle.node_properties.proofs.some_fetch.Reads as some-fetch-reads
 
 is-coalesce-partitions-requires : tie.Need-is-coalesce-partitions-requires
 is-coalesce-partitions-requires c κs = search needs

@@ -1,5 +1,4 @@
 use borrow.Author.Needs.{needs}
-use native.Mathlib.Omega.{arith}
 use mathlib.Core.Path.{sym, _∙_}
 use Rattle.plan_codec.specs.Decode.{decode}
 use Rattle.parallelize_sorts.specs.Connecting.{alone-unmarked, coalesce-marked, other-marked}
@@ -7,11 +6,6 @@ use Rattle.parallelize_sorts.proofs.marks.update_coalesce_ctx_children.
   statement,
 }
 use Rattle.parallelize_sorts.proofs.marks.update_coalesce_ctx_children.Tie as tie
-use Rattle.parallelize_sorts.proofs.marks.update_coalesce_ctx_children.Reads as reads
-use Rattle.parallelize_sorts.proofs.marks.update_coalesce_ctx_children.Lts as lts
-use Rattle.node_properties.proofs.is_coalesce_partitions.Reads as is-coalesce-partitions-reads
-use Rattle.parallelize_sorts.proofs.marks.any_connects.Reads as any-connects-reads
-use Rattle.parallelize_sorts.proofs.marks.is_bottleneck.Reads as is-bottleneck-reads
 
 returns : tie.Need-returns
 returns c = λ m. alone-unmarked (decode ((c .before .before .before) .args .r .now)) ((c .before .before .before) .args .ks .now) m ((c .if1) .taken)
