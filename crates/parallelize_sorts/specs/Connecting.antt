@@ -2,16 +2,16 @@
 use mathlib.Core.Path.{_≡_, refl, sym, ap, ap₂, _∙_}
 use mathlib.Core.Bool.{Bool, true, false, cond, not, _&&_, _||_}
 use mathlib.Core.List.{List, [], _∷_}
-use Prim.Native.Nat.{ℕ, zero, suc, _+_, _≤_, _<_}
+use Prim.Native.Nat.{ℕ, suc, _+_, _≤_, _<_}
 use native.Mathlib.Omega.{arith}
 use native.Mathlib.Numerals.{add-one}
 use lib.ListN.{length, getD, drop, drop-of-length-le}
 use lib.Seq.{drop-cons}
-use Rattle.plan.specs.Forest.{roots}
+use Rattle.row_order.specs.Order.{no-bool}
 use Rattle.plan.specs.Op.{Op}
-use Rattle.semantics.specs.Facts.{isNil}
 use Rattle.semantics.specs.Properties.{singles}
 use Rattle.arena.specs.Arena.{marked}
+use Rattle.walks.specs.Marks.{headMark}
 use Rattle.walks.specs.Utils.{isCoalescePartitions}
 use Rattle.walks.specs.ParallelizeSorts.{anyMarkAt, bottleneck, updateCoalesceCtxChildren}
 use Rattle.plan_context.specs.View.{forest}
@@ -60,3 +60,20 @@ module _ (o : Op) where
 
   pub other-marked : (ks m : List ℕ) → (length ks ≡ 0 → ⊥) → isCoalescePartitions o ≡ false → anyMarkAt (λ i. not (singles o i)) (forest m ks) ≡ updateCoalesceCtxChildren o (forest m ks)
   other-marked ks m n e = sym (with-children ks m n ∙ ap (λ b. cond b (bottleneck o) (anyMarkAt (λ i. not (singles o i)) (forest m ks))) e)
+
+-- ---- the first child's mark
+
+pub no-first : (ks m : List ℕ) → length ks ≡ 0 → false ≡ headMark (forest m ks)
+unfolding forest
+no-first [] m e = refl
+no-first (k ∷ ks) m e = absurd (omega arith)
+
+pub first-mark : (ks m : List ℕ) → (length ks ≡ 0 → ⊥) → marked (getD ks 0 0) ≡ headMark (forest m ks)
+unfolding forest
+first-mark [] m e = absurd (e refl)
+first-mark (k ∷ ks) m e = refl
+
+pub some-first : (ks m : List ℕ) → headMark (forest m ks) ≡ true → 0 < length ks
+unfolding forest
+some-first [] m e = no-bool e
+some-first (k ∷ ks) m e = omega arith

@@ -5,3 +5,5 @@ pub mod Skipping
 pub mod Sizes
 pub mod Settling
 pub mod Removing
+pub mod Exprs
+pub mod Cascading

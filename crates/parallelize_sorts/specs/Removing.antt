@@ -14,25 +14,24 @@ use Rattle.plan_format.specs.Record.{children}
 use Rattle.plan_codec.specs.Decode.{decode}
 use Rattle.plan_codec.specs.Encode.{encode}
 use Rattle.semantics.specs.Properties.{singles}
-use Rattle.record_fields.specs.Proper.{Proper}
 use Rattle.arena.specs.Arena.{slotSize, index, marked, slot, Below}
-use Rattle.arena.specs.Laws.{below-at, below-more}
+use Rattle.arena.specs.Laws.{below-at}
 use Rattle.arena.specs.declared.At.{At}
-use Rattle.walks.specs.Marks.{Marked, Tree, strip, known, node, plant, over, opT, sizeT, setMark, kid0, rebuild}
+use Rattle.walks.specs.Marks.{Marked, Tree, strip, node, plant, over, opT, sizeT, kid0}
 use Rattle.walks.specs.Terms.{_⊕_}
 use Rattle.walks.specs.Trees.{OkT, ok-fit}
 use Rattle.walks.specs.Keeps.{kept-node, like-refl, KeepsAll}
 use Rattle.walks.specs.ParallelizeKept.{openEach-kept}
 use Rattle.walks.specs.ParallelizeSorts.{bottleneck, firstIs, freed, liftFirst, openEach, opened, removeBottleneckInSubplan, settle, skipSame}
-use Rattle.plan_context.specs.View.{treeOf, forest, mostSlots, Arena, Same, Grown, Puts}
+use Rattle.plan_context.specs.View.{treeOf, forest, mostSlots, Arena, Grown, Puts}
 use Rattle.plan_context.specs.Kids.{Kids, kids-none, kids-more, kids-forest, plus-none}
-use Rattle.plan_context.specs.Laws.{slot-same, forest-same, tree-same, same-trans}
+use Rattle.plan_context.specs.Laws.{slot-same, tree-same, same-trans}
 use Rattle.plan_context.specs.Nodes.{Seen}
 use Rattle.plan_context.specs.Opening.{grown-none, grown-more}
 use Rattle.parallelize_sorts.specs.From.{from, from-first, from-next}
-use Rattle.parallelize_sorts.specs.Shown.{Held, held-at, view, held-proper, tree-of}
+use Rattle.parallelize_sorts.specs.Shown.{Held, held-at, view, tree-of}
 use Rattle.parallelize_sorts.specs.Skipping.{Skips}
-use Rattle.parallelize_sorts.specs.Sizes.{each-size}
+use Rattle.parallelize_sorts.specs.Sizes.{skip-size, one-size, each-size}
 use Rattle.parallelize_sorts.specs.Settling.{Lifts}
 
 -- One root of openEach; q: it is removable
@@ -218,30 +217,36 @@ module _ (b₀ : List ℕ) (u h : ℕ) (p : Opens b₀ u h) where
 
 -- ---- the root: its own requirement does not constrain the removal
 
+pub freed-by : (o : Op) (x : Bool) (t : Tree) → freed (over o x t) ≡ cond (bottleneck (opT t)) (skipSame o t (t .kids)) (openOne true t)
+freed-by o x t = go (bottleneck (opT t))
+  where
+    go : (y : Bool) → kid0 (removeBottleneckInSubplan (over o x t)) (cond (y && true) (liftFirst o (plant t none)) (openEach (λ i. true) (plant t none))) ≡ cond y (skipSame o t (t .kids)) (openOne true t)
+    go true = refl
+    go false = refl
+
+pub freed-size : (o : Op) (x : Bool) (t : Tree) → sizeT (freed (over o x t)) ≤ sizeT t
+freed-size o x t = subst (λ y. sizeT y ≤ sizeT t) (sym (freed-by o x t)) (go (bottleneck (opT t)))
+  where
+    go : (y : Bool) → sizeT (cond y (skipSame o t (t .kids)) (openOne true t)) ≤ sizeT t
+    go true = skip-size o t (t .kids) (omega arith)
+    go false = one-size true (t .top) (t .kids) (openEach (λ i. not (singles (opT t) i)) (t .kids)) (each-size (λ i. not (singles (opT t) i)) (t .kids))
+
 module _ (m : List ℕ) (u h : ℕ) (p : Opens m u h) (r : List ℕ) where
   abbrev t : Tree
   t = treeOf m h
-
-  freed-by : (b : Bool) → b ≡ bottleneck (opT (treeOf m h)) → freed (over (decode r) false (treeOf m h)) ≡ cond b (skipSame (decode r) (treeOf m h) (treeOf m h .kids)) (openOne true (treeOf m h))
-  freed-by b e =
-      ap (λ x. kid0 (removeBottleneckInSubplan (over (decode r) false t)) (cond (x && true) (liftFirst (decode r) (plant t none)) (openEach (λ i. true) (plant t none)))) (sym e) ∙ go b
-    where
-      go : (x : Bool) → kid0 (removeBottleneckInSubplan (over (decode r) false t)) (cond (x && true) (liftFirst (decode r) (plant t none)) (openEach (λ i. true) (plant t none))) ≡ cond x (skipSame (decode r) t (t .kids)) (openOne true t)
-      go true = refl
-      go false = refl
 
   op-is : decode (slot m (index h) .rec) ≡ opT (treeOf m h)
   op-is = ap opT (sym (tree-of m u h (held-at m u h (p .arena) (p .here))))
 
   module _ (b : Bool) (e : b ≡ bottleneck (decode (slot m (index h) .rec))) where
+    by-first : (x : Bool) → b ≡ x → cond x (skipSame (decode r) (treeOf m h) (treeOf m h .kids)) (openOne true (treeOf m h)) ≡ freed (over (decode r) false (treeOf m h))
+    by-first x f = ap (λ y. cond y (skipSame (decode r) t (t .kids)) (openOne true t)) (sym f ∙ e ∙ ap bottleneck op-is) ∙ sym (freed-by (decode r) false t)
+
     pub root-skips : b ≡ true → Skips m u h
     root-skips x = record { arena = p .arena; here = p .here; coalesce = ap bottleneck (sym op-is) ∙ sym e ∙ x }
 
     pub root-lifted : b ≡ true → (k : ℕ) → (k < 2 * u) × (treeOf m k ≡ skipSame (decode r) (treeOf m h) (treeOf m h .kids)) → Grown m u m (record { used = u; root = k }) (freed (over (decode r) false (treeOf m h))) (u + sizeT (treeOf m h))
-    root-lifted x k q =
-        subst (λ y. Grown m u m (record { used = u; root = k }) y (u + sizeT (treeOf m h))) (q .1 ∙ ap (λ y. cond y (skipSame (decode r) t (t .kids)) (openOne true t)) (sym x) ∙ sym (freed-by b (e ∙ ap bottleneck op-is)))
-        (grown-none m u k (u + sizeT (treeOf m h)) (p .arena) (q .0) (omega arith))
+    root-lifted x k q = subst (λ y. Grown m u m (record { used = u; root = k }) y (u + sizeT (treeOf m h))) (q .1 ∙ by-first true x) (grown-none m u k (u + sizeT (treeOf m h)) (p .arena) (q .0) (omega arith))
 
     pub root-opened : b ≡ false → (m' : List ℕ) (a : At) → Grown m u m' a (openOne true (treeOf m h)) (u + sizeT (treeOf m h)) → Grown m u m' a (freed (over (decode r) false (treeOf m h))) (u + sizeT (treeOf m h))
-    root-opened x m' a g =
-        subst (λ y. Grown m u m' a y (u + sizeT (treeOf m h))) (ap (λ y. cond y (skipSame (decode r) t (t .kids)) (openOne true t)) (sym x) ∙ sym (freed-by b (e ∙ ap bottleneck op-is))) g
+    root-opened x m' a g = subst (λ y. Grown m u m' a y (u + sizeT (treeOf m h))) (by-first false x) g

@@ -7,17 +7,16 @@ use native.Mathlib.Omega.{arith}
 use native.Mathlib.Numerals.{add-one}
 use lib.Dec.{eqb}
 use lib.ListN.{length, getD, take, set, length-set}
-use lib.Seq.{take-suc, take-suc-set, take-set-lt, length-take-le}
+use lib.Seq.{take-suc, take-suc-set, take-set-lt}
 use Rattle.row_order.specs.Order.{no-bool}
 use Rattle.plan.specs.Forest.{Forest, none, tree, size}
 use Rattle.plan.specs.Op.{Op, repartition}
 use Rattle.plan.specs.Numbers.{code}
-use Rattle.plan.specs.WellFormed.{childrenOk}
 use Rattle.plan.specs.declared.Kind.the-variants.{Repartition}
 use Rattle.plan_format.specs.Record.{children}
 use Rattle.plan_codec.specs.Decode.{decode, fromBytes}
 use Rattle.plan_codec.specs.Encode.{encode}
-use Rattle.semantics.specs.Facts.{Facts, at0, nothing}
+use Rattle.semantics.specs.Facts.{at0}
 use Rattle.semantics.specs.Properties.{singles}
 use Rattle.facts.specs.Known.{known as told}
 use Rattle.fact_slots.specs.Slots.{loaded}
@@ -31,7 +30,7 @@ use Rattle.walks.specs.Trees.{OkT, ok-fit, arity, children-fit, FitsA}
 use Rattle.walks.specs.Keeps.{kept-node, like-refl, KeepsAll, all-kept-refl, shape-ind}
 use Rattle.walks.specs.ParallelizeKept.{opened-kept}
 use Rattle.walks.specs.ParallelizeSorts.{bottleneck, firstIs, idle, liftFirst, opened, samePartitioning, settle, skipSame}
-use Rattle.plan_context.specs.View.{treeOf, forest, mostNodes, mostSlots, Arena, Grown, Here, Over, Puts}
+use Rattle.plan_context.specs.View.{treeOf, forest, mostNodes, mostSlots, Grown, Here, Over, Puts}
 use Rattle.plan_context.specs.Facts.{Tells}
 use Rattle.plan_context.specs.Handles.{Marks}
 use Rattle.plan_context.specs.Laws.{facts-at}

@@ -1,30 +1,29 @@
 -- A node in a slot: its record is proper, and its children stand in older slots.
-use mathlib.Core.Path.{_≡_, refl, sym, ap, _∙_}
-use mathlib.Core.Bool.{Bool, true, false, _&&_}
-use mathlib.Core.List.{List, [], _∷_, map}
+use mathlib.Core.Path.{_≡_, sym, ap, _∙_}
+use mathlib.Core.Bool.{true, false, _&&_}
+use mathlib.Core.List.{List, map}
 use Prim.Native.Nat.{ℕ, zero, suc, _+_, _*_, _≤_, _<_}
 use native.Mathlib.Omega.{arith}
-use lib.Dec.{eqb, leb}
+use lib.Dec.{leb}
 use lib.ListN.{length, getD}
-use borrow.Author.Tests.{eqb-true, leb-true}
+use borrow.Author.Tests.{leb-true}
 use Rattle.scan.specs.Below.{and-left, and-right}
 use Rattle.plan.specs.Forest.{Forest, none, tree}
 use Rattle.plan.specs.Op.{Op, Plan}
-use Rattle.plan.specs.Numbers.{code}
-use Rattle.plan.specs.WellFormed.{fieldsOk, childrenOk, unionOk, columnsOk, width, nodeOk}
+use Rattle.plan.specs.WellFormed.{fieldsOk, childrenOk, unionOk, columnsOk, width}
 use Rattle.plan_format.specs.Record.{children}
 use Rattle.plan_codec.specs.Decode.{decode}
 use Rattle.plan_codec.specs.Encode.{encode}
-use Rattle.semantics.specs.Facts.{Facts, facts}
+use Rattle.semantics.specs.Facts.{facts}
 use Rattle.record_fields.specs.Proper.{Proper}
 use Rattle.record_fields.specs.Encoded.{proper}
-use Rattle.arena.specs.Arena.{slotSize, index, marked, slot, Below}
+use Rattle.arena.specs.Arena.{slotSize, index, marked, slot}
 use Rattle.arena.specs.Laws.{below-at}
-use Rattle.walks.specs.Marks.{Marked, Tree, strip, known, node, plant, opT, fact, setMark}
+use Rattle.walks.specs.Marks.{Marked, strip, known, node, setMark}
 use Rattle.walks.specs.NewNodes.{narrow}
 use Rattle.walks.specs.Trees.{Ok, OkT}
-use Rattle.plan_context.specs.View.{treeOf, forest, Arena, Over, Puts}
-use Rattle.plan_context.specs.Nodes.{Counts, counts-of, Seen, seen}
+use Rattle.plan_context.specs.View.{treeOf, forest, Arena, Over}
+use Rattle.plan_context.specs.Nodes.{counts-of, Seen, seen}
 use Rattle.plan_context.specs.Laws.{length-facts}
 
 -- ---- records of plans' nodes

@@ -12,7 +12,7 @@ cond-few : (n : ℕ) (x : Bool) (t u : Tree) → sizeT t ≤ n → sizeT u ≤ n
 cond-few n true t u h k = h
 cond-few n false t u h k = k
 
-skip-size : (o : Op) (d : Tree) (c : Forest Marked) → size c ≤ size (d .kids) → sizeT (skipSame o d c) ≤ sizeT d
+pub skip-size : (o : Op) (d : Tree) (c : Forest Marked) → size c ≤ size (d .kids) → sizeT (skipSame o d c) ≤ sizeT d
 skip-size o d none h = omega arith
 skip-size o d (tree m c r) h = let x = skip-size o (at m c) c (omega arith) in cond-few (sizeT d) (samePartitioning o (m .op)) (skipSame o (at m c) c) (at m c) (omega arith) (omega arith)
 

@@ -1,25 +1,23 @@
 -- A coalesce gives its place to what stands below it, past repartitions that are equal to its parent.
-use mathlib.Core.Path.{_≡_, refl, sym, ap, ap₂, _∙_, subst}
-use mathlib.Core.Bool.{Bool, true, false, cond, _&&_}
+use mathlib.Core.Path.{_≡_, refl, sym, ap, _∙_, subst}
+use mathlib.Core.Bool.{Bool, true, false, cond}
 use mathlib.Core.List.{List, [], _∷_}
-use Prim.Native.Nat.{ℕ, suc, _+_, _*_, _≤_, _<_}
+use Prim.Native.Nat.{ℕ, _+_, _*_, _≤_, _<_}
 use native.Mathlib.Omega.{arith}
-use lib.Dec.{eqb, leb}
 use lib.ListN.{length, getD}
-use borrow.Author.Tests.{eqb-true}
-use Rattle.plan.specs.Forest.{Forest, none, tree}
+use Rattle.plan.specs.Forest.{tree}
 use Rattle.plan.specs.Op.{Op}
 use Rattle.plan_format.specs.Record.{children}
 use Rattle.plan_codec.specs.Decode.{decode}
 use Rattle.arena.specs.Arena.{slotSize, index, slot}
-use Rattle.walks.specs.Marks.{Marked, Tree, strip, known, node, opT, kid0}
+use Rattle.walks.specs.Marks.{Tree, node, opT}
 use Rattle.walks.specs.Terms.{passing}
-use Rattle.walks.specs.Trees.{arity, children-fit, FitsA}
+use Rattle.walks.specs.Trees.{children-fit, FitsA}
 use Rattle.walks.specs.Keeps.{pass-one}
 use Rattle.walks.specs.ParallelizeKept.{bottleneck-pass, part-pass}
 use Rattle.walks.specs.ParallelizeSorts.{bottleneck, samePartitioning, skipSame}
 use Rattle.plan_context.specs.View.{treeOf, forest, Arena}
-use Rattle.parallelize_sorts.specs.Shown.{Held, held-at, view, counted, room, kid-asks, kid-low, tree-of}
+use Rattle.parallelize_sorts.specs.Shown.{Held, held-at, counted, kid-asks, kid-low, tree-of}
 
 -- The tree at h is a coalesce without a fetch
 pub record Skips (m : List ℕ) (u h : ℕ) : Type 0 where
@@ -42,9 +40,6 @@ first-skip o d m [] l = absurd (omega arith)
 first-skip o d m (h ∷ hs) l = refl
 
 module _ (m : List ℕ) (u : ℕ) (a : Arena m u) (o : Op) (h : ℕ) (l : h < 2 * u) where
-  abbrev held : Held m u (index h)
-  held = held-at m u h a l
-
   -- the next handle, below a node of one child
   module _ (p : passing (opT (treeOf m h)) ≡ true) where
     one : length (slot m (index h) .kids) ≡ 1

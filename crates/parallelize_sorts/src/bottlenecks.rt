@@ -116,8 +116,8 @@ fn lift_first(m: &mut [u8], u: usize, r: &[u8], i: usize) -> At
     settle(m, u, r, &kids[..n], i)
 }
 
-// The tree at h, if it is connected: it loses the coalesce that is its first child, or its connected children are rewritten. removable: its parent wants no single
-// stream of it.
+// The tree at h, if it is connected: the coalesce that is its first child goes, or its connected children are rewritten.
+// removable: its parent wants no single stream of it.
 fn remove_bottleneck_in_subplan_impl(m: &mut [u8], u: usize, h: usize, removable: bool) -> At
     requires { ⌜ Opens (now m) u h ⌝ }
     ensures { λ a. ⌜ Grown (now (m .entry)) u (now (m .exit)) a (openOne removable (treeOf (now (m .entry)) h)) (u + sizeT (treeOf (now (m .entry)) h)) ⌝ }

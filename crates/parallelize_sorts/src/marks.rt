@@ -11,6 +11,7 @@ ghost use Prim.Native.Nat.{ℕ};
 ghost use Rattle.semantics.specs.Properties.{singles};
 ghost use Rattle.plan_codec.specs.Decode.{decode};
 ghost use Rattle.record_fields.specs.Proper.{Proper};
+ghost use Rattle.walks.specs.Marks.{headMark};
 ghost use Rattle.walks.specs.ParallelizeSorts.{anyMarkAt, bottleneck, updateCoalesceCtxChildren};
 ghost use Rattle.arena.specs.Arena.{marked};
 ghost use Rattle.plan_context.specs.View.{forest};
@@ -61,4 +62,14 @@ pub fn update_coalesce_ctx_children(r: &[u8], ks: &[usize]) -> bool
         return is_bottleneck(r);
     }
     any_connects(r, ks)
+}
+
+// children[0].data
+pub fn first_connected(ks: &[usize]) -> bool
+    ensures { λ b. ⌜ ((m : List ℕ) → b ≡ headMark (forest m (now (ks .entry)))) ⌝ }
+{
+    if ks.len() == 0 {
+        return false;
+    }
+    is_marked(ks[0])
 }
