@@ -3,4 +3,5 @@ pub mod Kinds
 pub mod Marking
 pub mod Replacing
 pub mod Preserving
+pub mod Breaking
 pub mod Step

@@ -29,6 +29,7 @@ ghost use Rattle.plan_context.specs.Opened.{stepRoom, Opened};
 ghost use Rattle.replace_with_order_preserving_variants.specs.Marking.{Cut, Carrying};
 ghost use Rattle.replace_with_order_preserving_variants.specs.Step.{settingsOf, Sorts, Sorting, acceptOne};
 
+pub mod breaking;
 pub mod marking;
 pub mod preserving;
 
