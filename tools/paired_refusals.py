@@ -89,7 +89,7 @@ def answer(faults):
 
 
 def case(number, data):
-    return bytes([CHECK, number, 255, 0]) + len(data).to_bytes(2, "little") + bytes(2) + data
+    return bytes([CHECK, number, 255, 0]) + len(data).to_bytes(2, "little") + bytes(14) + data
 
 
 def main(out):

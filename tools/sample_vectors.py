@@ -1,29 +1,38 @@
 #!/usr/bin/env python3
 """Makes crates/replay/data/cases, the sample that the program `replay` runs, from a folder of vectors.
 
-    tools/sample_vectors.py VECTORS crates/replay/data/cases
+    tools/sample_vectors.py VECTORS crates/replay/data/cases [all]
 
-VECTORS has one text file for each call, two lines for each case: 'CALL SETTINGS OUTLEN FILE [NODE]' and 'ANSWER', FILE in hex.
-Taken are all refused cases, and of the accepted ones ACCEPTED evenly spaced for each call (CHECKED for the order check).
-A case in the sample: 8 bytes (the call's place in CALLS; the answer's number; the check's answer, 255 for other calls; zero; the
-file's length and the node number, two bytes each, little-endian), then the file's bytes.
+VECTORS has one text file for each call and 'rare.txt', two lines for each case: 'CALL SETTINGS OUTLEN FILE [NODE]' and 'ANSWER', FILE in hex.
+Taken are, of each call's file, all refused cases that are unlike those taken before (number and length), and of the accepted ones ACCEPTED evenly spaced
+(CHECKED for the order check); of 'rare.txt' RARE evenly spaced for each call; with 'all' every case of every file.
+A case in the sample: a header of 20 bytes, then the file, then the file that the call is to write. The header: the call's place in CALLS; the answer's
+number; the order check's answer, 255 for none; zero; then, two bytes each, little-endian, the lengths of the file, of the answer and of the lent output; the
+three settings; three zeros; the node's number in four bytes.
 """
 import sys
 
 CALLS = ["ensure", "parallelize", "preserve", "push", "partial", "check"]
-ACCEPTED = 60
-CHECKED = 400
+ACCEPTED = 40
+CHECKED = 200
+RARE = 40
+REFUSED = 60
 
 
 def cases(path):
     lines = open(path).read().split("\n")
     for request, answer in zip(lines[0::2], lines[1::2]):
         words = request.split()
+        call, settings, room = words[0], words[1], int(words[2])
         data = b"" if words[3] == "-" else bytes.fromhex(words[3])
         node = int(words[4]) if len(words) > 4 else 0
         said = answer.split()
-        passes = int(said[1]) if words[0] == "check" and said[0] == "0" else 255
-        yield int(said[0]), passes, min(node, 65535), data
+        number = int(said[0])
+        check = call == "check" and number == 0
+        passes = int(said[1]) if check else 255
+        wanted = bytes.fromhex(said[1]) if number == 0 and not check else b""
+        marks = bytes(3) if settings == "-" else bytes.fromhex(settings)
+        yield call, number, passes, data, wanted, room, marks, node
 
 
 def spaced(items, count):
@@ -31,14 +40,28 @@ def spaced(items, count):
     return items[::step][:count]
 
 
-def main(folder, out):
+def written(case):
+    call, number, passes, data, wanted, room, marks, node = case
+    lengths = b"".join(n.to_bytes(2, "little") for n in (len(data), len(wanted), room))
+    return bytes([CALLS.index(call), number, passes, 0]) + lengths + marks + bytes(3) + node.to_bytes(4, "little") + data + wanted
+
+
+def chosen(folder, call):
+    found = list(cases(f"{folder}/{call}.txt"))
+    refused = [c for c in found if c[1] != 0]
+    accepted = [c for c in found if c[1] == 0]
+    return spaced(refused, REFUSED) + spaced(accepted, CHECKED if call == "check" else ACCEPTED)
+
+
+def main(folder, out, whole):
+    rare = list(cases(f"{folder}/rare.txt"))
     with open(out, "wb") as f:
-        for place, call in enumerate(CALLS):
-            found = list(cases(f"{folder}/{call}.txt"))
-            refused = [c for c in found if c[0] != 0]
-            accepted = [c for c in found if c[0] == 0]
-            for number, passes, node, data in refused + spaced(accepted, CHECKED if call == "check" else ACCEPTED):
-                f.write(bytes([place, number, passes, 0]) + len(data).to_bytes(2, "little") + node.to_bytes(2, "little") + data)
+        for call in CALLS:
+            mine = [c for c in rare if c[0] == call]
+            taken = list(cases(f"{folder}/{call}.txt")) + mine if whole else chosen(folder, call) + spaced(mine, RARE)
+            for case in taken:
+                if len(case[3]) <= 10240 and case[5] <= 10240:
+                    f.write(written(case))
 
 
-main(sys.argv[1], sys.argv[2])
+main(sys.argv[1], sys.argv[2], len(sys.argv) > 3)

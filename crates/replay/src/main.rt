@@ -1,72 +1,136 @@
-// Replays the cases of data/cases (made by tools/sample_vectors.py and tools/paired_refusals.py) and compares each answer with the one that the case gives.
-// A case is a header of 8 bytes, then the plan file. Each is put to the order check, which reads the file as every call does: what
-// another call answers after reading (20 and above) is read as accepted.
+// Replays the cases of data/cases (made by tools/sample_vectors.py and tools/paired_refusals.py) and compares each answer with the one that the case gives: the number, and
+// every byte of the output that was lent. A case is a header of 20 bytes, then the plan file, then the file that the call is to write.
 use libc::STDOUT_FILENO;
 
 // Longer than the longest file that a case holds, so that a file which is too long is read whole.
 const MOST: usize = 10240;
 
-const STATE: u32 = 20;
+// The calls, by the number that a case has for them.
+const ENSURE: u32 = 0;
+const PARALLELIZE: u32 = 1;
+const PRESERVE: u32 = 2;
+const PUSH: u32 = 3;
+const PARTIAL: u32 = 4;
 
-// Where a case has no answer of the order check. The lent number is this before each call: so where a refusal is to leave it alone
-// it is what the case has.
+// Where a refusal is to leave the lent number of the order check alone, it is this afterwards: it is this before each call.
 const NONE: u32 = 255;
+
+// What each byte of the output is before a call.
+const FRESH: u8 = 165;
 
 pub struct Tally {
     pub cases: u64,
     pub refused: u64,
     pub checks: u64,
+    pub rewrites: u64,
     pub wrong: u64,
 }
 
-// What a case wants: the number that reading is to answer, and what the order check is to leave in the lent number.
-pub struct Wanted {
+// The call with its settings and its node, the lengths of the plan file, of the output and of the file that is to be written, and what is to be answered.
+pub struct Case {
+    pub call: u32,
     pub number: u32,
     pub passes: u32,
+    pub length: usize,
+    pub answer: usize,
+    pub room: usize,
+    pub spr: u8,
+    pub spm: u8,
+    pub prefer: u8,
+    pub node: u32,
 }
 
-pub enum Case {
-    File(usize, Wanted),
+pub enum Next {
+    Found(Case),
     End,
 }
 
-// The length of the next case's file, and what the case wants.
-fn header(fd: i32) -> Case {
-    let mut head = [0u8; 8];
+// The next case's header.
+fn header(fd: i32) -> Next {
+    let mut head = [0u8; 20];
     let got = io::read_full(fd, &mut head);
-    if got < 8 {
-        return Case::End;
+    if got < 20 {
+        return Next::End;
     }
-    let number = scan::byte(&head, 1);
     let length = scan::get16(&head, 4) as usize;
-    if MOST < length {
-        return Case::End;
+    let answer = scan::get16(&head, 6) as usize;
+    let room = scan::get16(&head, 8) as usize;
+    if (MOST < length) | (MOST < answer) | (MOST < room) {
+        return Next::End;
     }
-    let read = if number < STATE { number } else { 0 };
-    let wanted = Wanted {
-        number: read,
+    Next::Found(Case {
+        call: scan::byte(&head, 0),
+        number: scan::byte(&head, 1),
         passes: scan::byte(&head, 2),
-    };
-    Case::File(length, wanted)
+        length: length,
+        answer: answer,
+        room: room,
+        spr: head[10],
+        spm: head[11],
+        prefer: head[12],
+        node: scan::get32(&head, 16),
+    })
 }
 
-// Fills the file, and says whether the order check of it answers what is wanted. Of an accepted file whose case has no answer of the
-// check, any will do.
-fn agrees(fd: i32, file: &mut [u8], wanted: Wanted) -> bool {
-    let got = io::read_full(fd, file);
+fn check_is_right(case: Case, plan: &[u8]) -> bool {
     let mut passes = NONE;
-    let number = sort_placement::check_order(file, &mut passes);
-    let free = (wanted.number == 0) & (wanted.passes == NONE);
-    (got == file.len()) & (number == wanted.number) & (free | (passes == wanted.passes))
+    let number = sort_placement::check_order(plan, &mut passes);
+    (number == case.number) & (passes == case.passes)
 }
 
-fn one(fd: i32, tally: Tally, length: usize, wanted: Wanted) -> Tally {
-    let mut file = [0u8; 10240];
-    if MOST < length {
-        return tally;
+fn rewrite(case: Case, plan: &[u8], out: &mut [u8]) -> u32 {
+    if case.call == ENSURE {
+        return sort_placement::ensure_sorting(plan, out);
     }
-    let right = agrees(fd, &mut file[0..length], wanted);
-    counted(tally, wanted, right)
+    if case.call == PARALLELIZE {
+        return sort_placement::parallelize_sorts(plan, out);
+    }
+    if case.call == PRESERVE {
+        return sort_placement::replace_with_order_preserving_variants(plan, case.spr, case.spm, case.prefer, out);
+    }
+    if case.call == PUSH {
+        return sort_placement::pushdown_sorts(plan, out);
+    }
+    sort_placement::replace_with_partial_sort(plan, case.node, out)
+}
+
+// Whether the output is the wanted file, and fresh behind it.
+fn is_written(out: &[u8], want: &[u8]) -> bool {
+    let mut all = want.len() <= out.len();
+    let mut i = 0;
+    while i < out.len() {
+        let w = if i < want.len() { want[i] } else { FRESH };
+        all = all & (out[i] == w);
+        i += 1;
+    }
+    all
+}
+
+fn rewrite_is_right(fd: i32, case: Case, plan: &[u8]) -> bool {
+    let mut want = [0u8; 10240];
+    let mut out = [165u8; 10240];
+    let answer = case.answer;
+    let room = case.room;
+    if (MOST < answer) | (MOST < room) {
+        return false;
+    }
+    let got = io::read_full(fd, &mut want[0..answer]);
+    let number = rewrite(case, plan, &mut out[0..room]);
+    (got == answer) & (number == case.number) & is_written(&out[0..room], &want[0..answer])
+}
+
+// Whether the case, whose file comes next, is answered as it says.
+fn is_right(fd: i32, case: Case) -> bool {
+    let mut file = [0u8; 10240];
+    let length = case.length;
+    if MOST < length {
+        return false;
+    }
+    let got = io::read_full(fd, &mut file[0..length]);
+    if case.call <= PARTIAL {
+        return (got == length) & rewrite_is_right(fd, case, &file[0..length]);
+    }
+    (got == length) & check_is_right(case, &file[0..length])
 }
 
 fn more(n: u64) -> u64 {
@@ -77,11 +141,13 @@ fn more_if(n: u64, counts: bool) -> u64 {
     if counts { more(n) } else { n }
 }
 
-fn counted(tally: Tally, wanted: Wanted, right: bool) -> Tally {
+fn counted(tally: Tally, case: Case, right: bool) -> Tally {
+    let rewrites = case.call <= PARTIAL;
     Tally {
         cases: more(tally.cases),
-        refused: more_if(tally.refused, wanted.number != 0),
-        checks: more_if(tally.checks, wanted.passes != NONE),
+        refused: more_if(tally.refused, case.number != 0),
+        checks: more_if(tally.checks, !rewrites & (case.number == 0)),
+        rewrites: more_if(tally.rewrites, rewrites & (case.number == 0)),
         wrong: more_if(tally.wrong, !right),
     }
 }
@@ -92,16 +158,18 @@ fn replay(fd: i32) -> Tally {
         cases: 0,
         refused: 0,
         checks: 0,
+        rewrites: 0,
         wrong: 0,
     };
     let mut turns: usize = 1000000;
     while 0 < turns {
         let next = header(fd);
         match next {
-            Case::File(length, wanted) => {
-                tally = one(fd, tally, length, wanted);
+            Next::Found(case) => {
+                let right = is_right(fd, case);
+                tally = counted(tally, case, right);
             }
-            Case::End => {
+            Next::End => {
                 return tally;
             }
         }
@@ -124,7 +192,8 @@ fn main() {
     let tally = replay(fd);
     libc::close(fd);
     line(b" cases\n", tally.cases);
-    line(b" refused on reading\n", tally.refused);
-    line(b" order checks compared\n", tally.checks);
+    line(b" refused\n", tally.refused);
+    line(b" order checks\n", tally.checks);
+    line(b" rewrites\n", tally.rewrites);
     line(b" wrong\n", tally.wrong);
 }

@@ -9,7 +9,7 @@ ghost use mathlib.Core.Path.{_≡_};
 ghost use Rattle.plan.specs.Numbers.{numberOf};
 ghost use Rattle.plan_format.specs.Reading.{refusalOf};
 ghost use Rattle.plan_codec.specs.Reading.{reading};
-ghost use Rattle.walks.specs.Counted.{answered, preserved};
+ghost use Rattle.walks.specs.Counted.{answered, ensured, parallelized, preserved};
 ghost use Rattle.sort_placement.specs.Answers.{checkAnswer, settingsIn, rewrites, refusalIn, outputIn};
 
 // In `passes` 1 where the plan passes the order check, 0 where it doesn't.
@@ -31,6 +31,22 @@ pub extern "C" fn copy_plan(plan: &[u8], out: &mut [u8]) -> u32
     ensures { λ r. ⌜ (r ≡ numberOf (refusalIn (rewrites answered (now (plan .entry))) (now (out .entry)))) × (now (out .exit) ≡ outputIn (rewrites answered (now (plan .entry))) (now (out .entry))) ⌝ }
 {
     call(Call::CopyPlan, plan, out).number
+}
+
+// The ensuring walk: sorts put where an order is wanted and not met, and taken away where nothing needs them.
+#[no_mangle]
+pub extern "C" fn ensure_sorting(plan: &[u8], out: &mut [u8]) -> u32
+    ensures { λ r. ⌜ (r ≡ numberOf (refusalIn (rewrites ensured (now (plan .entry))) (now (out .entry)))) × (now (out .exit) ≡ outputIn (rewrites ensured (now (plan .entry))) (now (out .entry))) ⌝ }
+{
+    call(Call::TransformUp(Walk::Ensure), plan, out).number
+}
+
+// The parallelizing walk: sorts over coalesced streams made sorts of each stream under a merge.
+#[no_mangle]
+pub extern "C" fn parallelize_sorts(plan: &[u8], out: &mut [u8]) -> u32
+    ensures { λ r. ⌜ (r ≡ numberOf (refusalIn (rewrites parallelized (now (plan .entry))) (now (out .entry)))) × (now (out .exit) ≡ outputIn (rewrites parallelized (now (plan .entry))) (now (out .entry))) ⌝ }
+{
+    call(Call::TransformUp(Walk::Parallelize), plan, out).number
 }
 
 // The order-preserving walk: sorts replaced by nodes that keep their input's order. A setting is off where it is zero.

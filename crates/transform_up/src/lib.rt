@@ -6,6 +6,8 @@ use arena::child;
 use arena::child_count;
 use arena::read64;
 use arena::record_at;
+use ensure_sorting::ensure_sorting;
+use parallelize_sorts::parallelize_sorts;
 use plan_context::copying::copy;
 use plan_context::kept::nodes;
 use plan_context::putting::rebuilt;
@@ -27,6 +29,8 @@ ghost use Rattle.transform_up.specs.Frame.{Walkable, Outcome};
 
 // Which walk it is.
 pub enum Walk {
+    Ensure,
+    Parallelize,
     Preserve(Settings),
 }
 
@@ -54,6 +58,8 @@ fn step(w: Walk, m: &mut [u8], u: usize, r: &[u8], ks: &[usize], i: usize) -> At
     ensures { λ a. ⌜ Grown (now (m .entry)) u (now (m .exit)) a (stepOf w (node (decode (now (r .entry))) false (forest (now (m .entry)) (now (ks .entry))))) (u + stepRoom (suc (size (forest (now (m .entry)) (now (ks .entry)))))) ⌝ }
 {
     match w {
+        Walk::Ensure => ensure_sorting(m, u, r, ks, i),
+        Walk::Parallelize => parallelize_sorts(m, u, r, ks, i),
         Walk::Preserve(s) => replace_with_order_preserving_variants(m, u, r, ks, i, s),
     }
 }

@@ -1,4 +1,0 @@
-use Rattle.transform_up.proofs.step.Statement.{statement}
-
-pub step-spec : {M : Type 1} → statement M
-step-spec 𝓤 H 𝓜 𝓖 𝓡 = ?
