@@ -3,7 +3,7 @@
 
     tools/worked_examples.py
 
-writes crates/worked_examples/data/* and crates/plan_show/stdin. Plans are lists of records, parent first.
+writes crates/worked_examples/data/* and the stdin of crates/plan_show and crates/plan_list. Plans are lists of records, parent first.
 """
 import os
 
@@ -67,6 +67,7 @@ def main():
     }
     for name, data in examples.items():
         write("worked_examples/data/" + name, data)
+    write("plan_list/stdin", plan_file([record(SORT, 1, fetch=NO_FETCH, keys=[2]), source(2, [2, 0])]))
     write("plan_show/stdin", plan_file([record(MERGE, 1, fetch=NO_FETCH, keys=[2]), source(2, [2, 0])]))
 
 

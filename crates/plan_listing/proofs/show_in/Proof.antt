@@ -3,13 +3,12 @@ use native.Mathlib.Omega.{arith}
 use mathlib.Core.Path.{sym, _∙_}
 use Rattle.plan_arena.specs.Answers.{is-accepted}
 use Rattle.plan_context.specs.Reading.{loaded-all}
-use Rattle.plan_show.proofs.show.Statement.{statement}
-use Rattle.plan_show.proofs.show.Tie as tie
+use Rattle.plan_listing.proofs.show_in.Statement.{statement}
+use Rattle.plan_listing.proofs.show_in.Tie as tie
 use Rattle.plan.proofs.number.Reads as number-reads
 use Rattle.plan_arena.proofs.read.Reads as read-reads
-use Rattle.plan_show.proofs.list.Reads as list-reads
-use Rattle.plan_show.proofs.put.Reads as put-reads
-use Rattle.plan_show.proofs.put_number.Reads as put-number-reads
+use Rattle.plan_listing.proofs.list.Reads as list-reads
+use Rattle.plan_listing.proofs.put_refusal.Reads as put-refusal-reads
 
 read-requires : tie.Need-read-requires
 read-requires c κs = search needs
@@ -28,17 +27,8 @@ settle-all-requires c κs =
 list-requires : tie.Need-list-requires
 list-requires c κs = let h = settle-all-requires (c .before .before .before .before) κs .slots in let k = c .before .before .before .settle-all .kept .0 in omega arith
 
-cast-put-number : tie.Need-cast-put-number
-cast-put-number c = search needs
-
-put-number-requires : tie.Need-put-number-requires
-put-number-requires c κs = search needs
-
-slice-aggregate-put : tie.Need-slice-aggregate-put
-slice-aggregate-put c = search needs
-
-put-requires : tie.Need-put-requires
-put-requires c κs = search needs
+put-refusal-requires : tie.Need-put-refusal-requires
+put-refusal-requires c κs = search needs
 
 same-length : tie.Need-same-length
 same-length c = search needs
@@ -52,18 +42,15 @@ same-length-2 c = search needs
 returns-2 : tie.Need-returns-2
 returns-2 c = search needs
 
-pub show-spec : {M : Type 1} → statement M
-show-spec =
+pub show-in-spec : {M : Type 1} → statement M
+show-in-spec =
     tie.close
     (tie.spec
     read-requires
     number-requires
     settle-all-requires
     list-requires
-    cast-put-number
-    put-number-requires
-    slice-aggregate-put
-    put-requires
+    put-refusal-requires
     same-length
     returns
     same-length-2

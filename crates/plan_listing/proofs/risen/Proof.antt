@@ -1,8 +1,8 @@
 use borrow.Author.Needs.{needs}
-use Rattle.plan_show.proofs.risen.Statement.{statement}
-use Rattle.plan_show.proofs.risen.Tie as tie
-use Rattle.plan_show.proofs.risen.Reads as reads
-use Rattle.plan_show.proofs.risen.Lts as lts
+use Rattle.plan_listing.proofs.risen.Statement.{statement}
+use Rattle.plan_listing.proofs.risen.Tie as tie
+use Rattle.plan_listing.proofs.risen.Reads as reads
+use Rattle.plan_listing.proofs.risen.Lts as lts
 
 abbrev Inv-loop : tie.InvT-loop
 Inv-loop left depth d₀ d = Unit {0}
