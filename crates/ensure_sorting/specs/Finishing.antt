@@ -117,16 +117,18 @@ module _ (b : List ℕ) (w h : ℕ) (r ks : List ℕ) (p : Finishes b w h r ks) 
 
     pub settled-puts : Puts b w r ks' × (index h < w)
     settled-puts =
-        let n = p .few in let s = ap size (q .is) ∙ connected-size (forest b ks) in let l = p .here in
-        (record {
-          arena = p .arena;
-          room = p .room;
-          small = p .small;
-          below = q .below;
-          canon = puts .canon ∙ ap (λ n. encode n o) (sym (q .count));
-          ok = subst (λ g. (nodeOk o (map (λ F. F .width) (facts g)) ≡ true) × Ok g) (sym same-strip) (p .opened);
-          few = omega arith;
-        }, omega arith)
+        let n = p .few in let s = ap size (q .is) ∙ connected-size (forest b ks) in let l = p .here in (
+          record {
+            arena = p .arena;
+            room = p .room;
+            small = p .small;
+            below = q .below;
+            canon = puts .canon ∙ ap (λ n. encode n o) (sym (q .count));
+            ok = subst (λ g. (nodeOk o (map (λ F. F .width) (facts g)) ≡ true) × Ok g) (sym same-strip) (p .opened);
+            few = omega arith;
+          },
+          omega arith,
+        )
 
     pub settled-grown : (b' : List ℕ) (a : At) → Grown b w b' a (rebuild (decode r) false (forest b ks')) (w + 1) → Grown b w b' a (updateSortCtxChildrenData false (rebuild (decode r) false (forest b ks))) (w + 1)
     settled-grown b' a g = subst (λ t. Grown b w b' a t (w + 1)) (ap₂ (λ f k. node (rebuilt o (facts f)) false k) same-strip (q .is)) g

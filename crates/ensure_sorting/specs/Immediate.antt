@@ -114,16 +114,18 @@ module _ (b : List ℕ) (w h : ℕ) (p : Unmarks b w h) where
 
     pub unmark-puts : Puts b w r (take n kids) × (index h < w)
     unmark-puts =
-        let s = view .small in let y = ap size all-kids ∙ unmark-size (forest b hs) in let l = p .here in
-        (record {
-          arena = p .arena;
-          room = p .room;
-          small = p .small;
-          below = subst (λ i. Below (2 * w) (take i kids)) (sym e) (q .below);
-          canon = hr ∙ view .canon ∙ ap₂ (λ n k. encode n (decode k)) (sym counted) (sym hr);
-          ok = subst (λ k. OkT (node (decode k) false (forest b (take n kids)))) (sym hr) (subst (λ g. (nodeOk o (map (λ F. F .width) (facts g)) ≡ true) × Ok g) (sym (ap strip all-kids ∙ strip-unmark (forest b hs))) (view .ok));
-          few = omega arith;
-        }, omega arith)
+        let s = view .small in let y = ap size all-kids ∙ unmark-size (forest b hs) in let l = p .here in (
+          record {
+            arena = p .arena;
+            room = p .room;
+            small = p .small;
+            below = subst (λ i. Below (2 * w) (take i kids)) (sym e) (q .below);
+            canon = hr ∙ view .canon ∙ ap₂ (λ n k. encode n (decode k)) (sym counted) (sym hr);
+            ok = subst (λ k. OkT (node (decode k) false (forest b (take n kids)))) (sym hr) (subst (λ g. (nodeOk o (map (λ F. F .width) (facts g)) ≡ true) × Ok g) (sym (ap strip all-kids ∙ strip-unmark (forest b hs))) (view .ok));
+            few = omega arith;
+          },
+          omega arith,
+        )
 
     pub unmark-grown : (b' : List ℕ) (a : At) → Grown b w b' a (node (decode r) false (forest b (take n kids))) (w + 1) → Grown b w b' a (node (opT (treeOf b h)) false (unmark (treeOf b h .kids))) (w + 1)
     unmark-grown b' a g =

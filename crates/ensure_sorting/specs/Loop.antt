@@ -212,10 +212,11 @@ module _ (b₀ : List ℕ) (u h : ℕ) (p : Loops b₀ u h) where
             let x = kid-below in let y = q .made .more in let s = ap size split in let v = q .left in let t = view .few in let m = q .made .long in let z = p .room in let c = p .small in let g = p .few in
             let dl = ap length (drop-cons hs j 0 l) in let d = drop-size b₀ hs j in let n = kids-are in
             let nl = length-facts b₀ hs in
-            let fit = keys-of (getD fs j nothing .width) (W j) (wants-at W fs (wanted-fits o fs (view .ok .0)) j (omega arith)) in
-            (record { arena = q .made .arena; here = omega arith; room = omega arith; small = omega arith; few = omega arith },
-            ho .real,
-            subst (λ ks. Sortable (treeOf b k) ks f) (sym (ho .is)) (subst (λ G. Sortable (treeOf b k) (W j) G) (sym hf) (record { short = fit .short; inside = subst (λ G. All (λ y. y .col < G .width) (W j)) width-is (fit .inside); fetch = output-ok o (map (λ G. G .width) fs) (view .ok .0) })))
+            let fit = keys-of (getD fs j nothing .width) (W j) (wants-at W fs (wanted-fits o fs (view .ok .0)) j (omega arith)) in (
+              record { arena = q .made .arena; here = omega arith; room = omega arith; small = omega arith; few = omega arith },
+              ho .real,
+              subst (λ ks. Sortable (treeOf b k) ks f) (sym (ho .is)) (subst (λ G. Sortable (treeOf b k) (W j) G) (sym hf) (record { short = fit .short; inside = subst (λ G. All (λ y. y .col < G .width) (W j)) width-is (fit .inside); fetch = output-ok o (map (λ G. G .width) fs) (view .ok .0) })),
+            )
 
         pub going-more : (b' : List ℕ) → length b' ≡ length b → (a : At) → Grown b w b' a (ensureChild (orderOf ord) keeps one f (treeOf b k)) (w + 2 * sizeT (treeOf b k) + 1) → Going b₀ u h (j + 1) (a .used) (set kids j (a .root)) b'
         going-more b' lb a g =

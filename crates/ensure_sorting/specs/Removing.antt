@@ -314,16 +314,18 @@ module _ (b : List ℕ) (w h : ℕ) (ks : List ℕ) (q : Bool) (p : Overs b w h 
 
     pub part-puts : Puts b w x ks × (index h < w)
     part-puts =
-        let y = sized in let z = p .few in
-        (record {
-          arena = p .arena;
-          room = p .room;
-          small = p .small;
-          below = p .below;
-          canon = bytes ∙ ap (encode (length ks)) (sym decoded);
-          ok = subst (λ t. OkT (node t false (forest b ks))) (sym decoded) (rule, open-ok .1);
-          few = omega arith;
-        }, half)
+        let y = sized in let z = p .few in (
+          record {
+            arena = p .arena;
+            room = p .room;
+            small = p .small;
+            below = p .below;
+            canon = bytes ∙ ap (encode (length ks)) (sym decoded);
+            ok = subst (λ t. OkT (node t false (forest b ks))) (sym decoded) (rule, open-ok .1);
+            few = omega arith;
+          },
+          half,
+        )
 
     pub part-grown : (b' : List ℕ) (a : At) → Grown b w b' a (node (decode x) false (forest b ks)) (w + 1) → (y : Bool) → y ≡ not q → (k : ℕ) → Marks (a .root) y k → Grown b w b' (record { used = a .used; root = k }) (Removed b h) (w + 1)
     part-grown b' a g y z k m =

@@ -171,16 +171,18 @@ module _ (b : List ℕ) (u : ℕ) (r ks : List ℕ) (i : ℕ) (p : Opened b u r 
 
   pub open-puts : Puts b u r ks' × (i < u)
   open-puts =
-      let f = p .few in let x = p .room in let s = p .small in let z = sizes in
-      (record {
-        arena = p .arena;
-        room = omega arith;
-        small = omega arith;
-        below = q .below;
-        canon = p .canon ∙ ap (λ n. encode n o) (sym (q .count));
-        ok = subst (λ g. (nodeOk o (map (λ F. F .width) (facts g)) ≡ true) × Ok g) (sym (ap strip (q .is) ∙ strip-connected (forest b ks))) (p .ok);
-        few = omega arith;
-      }, p .hint)
+      let f = p .few in let x = p .room in let s = p .small in let z = sizes in (
+        record {
+          arena = p .arena;
+          room = omega arith;
+          small = omega arith;
+          below = q .below;
+          canon = p .canon ∙ ap (λ n. encode n o) (sym (q .count));
+          ok = subst (λ g. (nodeOk o (map (λ F. F .width) (facts g)) ≡ true) × Ok g) (sym (ap strip (q .is) ∙ strip-connected (forest b ks))) (p .ok);
+          few = omega arith;
+        },
+        p .hint,
+      )
 
   module _ (b' : List ℕ) (l : length b' ≡ length b) (a : At) (g : Grown b u b' a (node (decode r) false (forest b ks')) (u + 1)) where
     pub open-marks : Marks b' (a .used) (a .root)

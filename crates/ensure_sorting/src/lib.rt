@@ -106,7 +106,15 @@ fn ensure_ordered(m: &mut [u8], u: usize, h: usize, keys: Keys, single: bool, fe
 }
 
 // The tree at h, of which the order is wanted. Keeps: the node maintains its order; single: it requires one stream; fetch: of a new sort.
-fn ensure_child(m: &mut [u8], u: usize, h: usize, order: Order, keeps: bool, single: bool, fetch: Fetch) -> At
+fn ensure_child(
+    m: &mut [u8],
+    u: usize,
+    h: usize,
+    order: Order,
+    keeps: bool,
+    single: bool,
+    fetch: Fetch,
+) -> At
     requires { ⌜ Ensures (now m) u h × Real order × Sortable (treeOf (now m) h) (orderOf order) fetch ⌝ }
     ensures { λ a. ⌜ Grown (now (m .entry)) u (now (m .exit)) a (ensureChild (orderOf order) keeps single fetch (treeOf (now (m .entry)) h)) (u + 2 * sizeT (treeOf (now (m .entry)) h) + 1) ⌝ }
 {
