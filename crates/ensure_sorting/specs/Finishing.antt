@@ -1,7 +1,7 @@
 -- The end of ensure_sorting: the node at h, with the record r, over its children after the loop.
 use mathlib.Core.Path.{_≡_, refl, sym, ap, ap₂, _∙_, subst}
 use mathlib.Core.Bool.{Bool, true, false, cond, not}
-use mathlib.Core.List.{List, [], _∷_, map}
+use mathlib.Core.List.{List, [], map}
 use Prim.Native.Nat.{ℕ, zero, suc, _+_, _*_, _≤_, _<_}
 use native.Mathlib.Omega.{arith}
 use borrow.Author.Tests.{lt-leb, lt-ltb}
@@ -36,10 +36,10 @@ use Rattle.plan_context.specs.Laws.{here, facts-at}
 use Rattle.plan_context.specs.Nodes.{counts-of}
 use Rattle.plan_context.specs.Facts.{Tells}
 use Rattle.plan_context.specs.Putting.{put-over}
-use Rattle.ensure_sorting.specs.Standing.{Standing, view, own-proper, merge-op, one-kid}
-use Rattle.ensure_sorting.specs.Connection.{Connected}
-use Rattle.ensure_sorting.specs.Sizes.{connected-size}
-use Rattle.ensure_sorting.specs.Removing.{first-is}
+use Rattle.sort_removal.specs.Standing.{Standing, view, own-proper, merge-op, one-kid}
+use Rattle.sort_removal.specs.Connection.{Connected}
+use Rattle.sort_removal.specs.Sizes.{connected-size}
+use Rattle.sort_removal.specs.Removing.{first-is}
 
 pub record Finishes (b : List ℕ) (w h : ℕ) (r ks : List ℕ) : Type 0 where
   pub arena : Arena b w

@@ -25,27 +25,27 @@ use Rattle.key_lists.specs.Keys.{orderOf, Ordered, Real}
 use Rattle.key_lists.specs.declared.Order.{Order}
 use Rattle.arena.specs.Arena.{slotSize, index, slot, Below}
 use Rattle.arena.specs.declared.At.{At}
-use Rattle.arena.specs.Laws.{below-at, below-more}
+use Rattle.arena.specs.Laws.{below-at}
 use Rattle.walks.specs.Marks.{Marked, Tree, strip, known, at, node, plant, cover, opT, fact, sizeT, shape, rebuild}
 use Rattle.walks.specs.Terms.{_⊕_}
 use Rattle.walks.specs.Base.{blank-widths}
-use Rattle.walks.specs.Trees.{Ok, OkT, ok-fit}
+use Rattle.walks.specs.Trees.{OkT, ok-fit}
 use Rattle.walks.specs.Utils.{newSort, addSortAbove}
 use Rattle.walks.specs.Keys.{keysOk, keys-of}
 use Rattle.walks.specs.NewNodes.{wanted-fits, wantsFit, node-fetch}
 use Rattle.walks.specs.OutputRequirements.{outputFetch}
 use Rattle.walks.specs.EnsureSorting.{updateSortCtxChildrenData, updateChildToRemoveUnnecessarySort, ensureChild, ensureEach, ensuredKids, afterLoop, finish}
 use Rattle.walks.specs.EnsureKept.{ensureEach-kept}
-use Rattle.plan_context.specs.View.{treeOf, forest, mostNodes, mostSlots, Arena, Same, Grown}
+use Rattle.plan_context.specs.View.{treeOf, forest, mostNodes, mostSlots, Arena, Grown}
 use Rattle.plan_context.specs.Laws.{slot-same, tree-same, facts-at, length-facts, same-trans}
 use Rattle.plan_context.specs.Nodes.{Seen}
 use Rattle.plan_context.specs.Kids.{Kids, kids-none, kids-more, kids-forest, plus-none}
 use Rattle.utils.specs.Sorting.{Sortable}
-use Rattle.ensure_sorting.specs.Standing.{Standing, view as shown, tree-is}
-use Rattle.ensure_sorting.specs.Connection.{count-roots}
-use Rattle.ensure_sorting.specs.Sizes.{cond-le, connected-size}
-use Rattle.ensure_sorting.specs.Removing.{from, from-first, from-next}
-use Rattle.ensure_sorting.specs.Recursion.{drop-size}
+use Rattle.sort_removal.specs.Standing.{Standing, view as shown, tree-is}
+use Rattle.sort_removal.specs.Connection.{count-roots}
+use Rattle.sort_removal.specs.Sizes.{cond-le, connected-size}
+use Rattle.sort_removal.specs.Removing.{from, from-first, from-next}
+use Rattle.sort_removal.specs.Recursion.{drop-size}
 use Rattle.ensure_sorting.specs.Child.{Ensures, update-size}
 use Rattle.ensure_sorting.specs.Finishing.{Finishes}
 
