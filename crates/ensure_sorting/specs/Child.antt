@@ -12,14 +12,14 @@ use Rattle.row_order.specs.Order.{no-bool}
 use Rattle.plan.specs.Forest.{none, tree}
 use Rattle.plan.specs.declared.Fetch.{Fetch}
 use Rattle.plan.specs.declared.Fetch.the-variants.{Unlimited}
-use Rattle.semantics.specs.Facts.{Facts, isNil, met, nf, prefixb, at0, knownOrder}
+use Rattle.semantics.specs.Facts.{isNil, met, nf, prefixb, at0, knownOrder}
 use Rattle.semantics.specs.Properties.{freshKeys}
 use Rattle.key_lists.specs.Keys.{keysIn, keysOf, orderOf, Real}
 use Rattle.key_lists.specs.declared.Keys.{Keys}
 use Rattle.key_lists.specs.declared.Order.{Order}
 use Rattle.key_lists.specs.declared.Order.the-variants.{Unordered, By}
 use Rattle.row_facts.specs.Asked.{told}
-use Rattle.arena.specs.Arena.{slotSize, index}
+use Rattle.arena.specs.Arena.{slotSize}
 use Rattle.arena.specs.declared.At.{At}
 use Rattle.walks.specs.Marks.{Tree, strip, plant, cover, opT, fact, sizeT, setMark}
 use Rattle.walks.specs.Terms.{blank}
@@ -36,10 +36,10 @@ use Rattle.plan_context.specs.Handles.{Marks}
 use Rattle.plan_context.specs.Covering.{Under, ok-of}
 use Rattle.plan_context.specs.Opening.{grown-none, grown-more, grown-then}
 use Rattle.utils.specs.Sorting.{Sortable}
-use Rattle.ensure_sorting.specs.Standing.{Standing}
-use Rattle.ensure_sorting.specs.Sizes.{kids-size}
-use Rattle.ensure_sorting.specs.Removing.{removeOne, marked-grown}
-use Rattle.ensure_sorting.specs.Recursion.{Removes}
+use Rattle.sort_removal.specs.Standing.{Standing}
+use Rattle.sort_removal.specs.Sizes.{kids-size}
+use Rattle.sort_removal.specs.Removing.{removeOne, marked-grown}
+use Rattle.sort_removal.specs.Recursion.{Removes}
 
 -- ---- a marked sort over a tree, whose mark is put right
 
@@ -73,9 +73,6 @@ module _ (b : List ℕ) (w h : ℕ) (ks : List Key) (f : Fetch) (p : Sorts b w h
         (marked-grown b w b' a (addSortAbove ks f (treeOf b k)) (w + 1) g true r m)
 
 -- ---- removing below one child
-
-pub update-grown : (b : List ℕ) (u : ℕ) (b' : List ℕ) (a : At) (s : Bool) (t : Tree) (top : ℕ) → Grown b u b' a (removeOne s t) top → (r : ℕ) → Marks (a .root) false r → Grown b u b' (record { used = a .used; root = r }) (updateChildToRemoveUnnecessarySort s t) top
-update-grown b u b' a s t top g r m = marked-grown b u b' a (removeOne s t) top g false r m
 
 pub update-size : (s : Bool) (t : Tree) → sizeT (updateChildToRemoveUnnecessarySort s t) ≤ 2 * sizeT t
 update-size s t = let x = kids-size (λ i. s) (plant t none) in omega arith

@@ -1,7 +1,7 @@
 -- The end of ensure_sorting: the node at h, with the record r, over its children after the loop.
 use mathlib.Core.Path.{_≡_, refl, sym, ap, ap₂, _∙_, subst}
 use mathlib.Core.Bool.{Bool, true, false, cond, not}
-use mathlib.Core.List.{List, [], _∷_, map}
+use mathlib.Core.List.{List, [], map}
 use Prim.Native.Nat.{ℕ, zero, suc, _+_, _*_, _≤_, _<_}
 use native.Mathlib.Omega.{arith}
 use borrow.Author.Tests.{lt-leb, lt-ltb}
@@ -36,10 +36,10 @@ use Rattle.plan_context.specs.Laws.{here, facts-at}
 use Rattle.plan_context.specs.Nodes.{counts-of}
 use Rattle.plan_context.specs.Facts.{Tells}
 use Rattle.plan_context.specs.Putting.{put-over}
-use Rattle.ensure_sorting.specs.Standing.{Standing, view, own-proper, merge-op, one-kid}
-use Rattle.ensure_sorting.specs.Connection.{Connected}
-use Rattle.ensure_sorting.specs.Sizes.{connected-size}
-use Rattle.ensure_sorting.specs.Removing.{first-is}
+use Rattle.sort_removal.specs.Standing.{Standing, view, own-proper, merge-op, one-kid}
+use Rattle.sort_removal.specs.Connection.{Connected}
+use Rattle.sort_removal.specs.Sizes.{connected-size}
+use Rattle.sort_removal.specs.Removing.{first-is}
 
 pub record Finishes (b : List ℕ) (w h : ℕ) (r ks : List ℕ) : Type 0 where
   pub arena : Arena b w
@@ -117,16 +117,18 @@ module _ (b : List ℕ) (w h : ℕ) (r ks : List ℕ) (p : Finishes b w h r ks) 
 
     pub settled-puts : Puts b w r ks' × (index h < w)
     settled-puts =
-        let n = p .few in let s = ap size (q .is) ∙ connected-size (forest b ks) in let l = p .here in
-        (record {
-          arena = p .arena;
-          room = p .room;
-          small = p .small;
-          below = q .below;
-          canon = puts .canon ∙ ap (λ n. encode n o) (sym (q .count));
-          ok = subst (λ g. (nodeOk o (map (λ F. F .width) (facts g)) ≡ true) × Ok g) (sym same-strip) (p .opened);
-          few = omega arith;
-        }, omega arith)
+        let n = p .few in let s = ap size (q .is) ∙ connected-size (forest b ks) in let l = p .here in (
+          record {
+            arena = p .arena;
+            room = p .room;
+            small = p .small;
+            below = q .below;
+            canon = puts .canon ∙ ap (λ n. encode n o) (sym (q .count));
+            ok = subst (λ g. (nodeOk o (map (λ F. F .width) (facts g)) ≡ true) × Ok g) (sym same-strip) (p .opened);
+            few = omega arith;
+          },
+          omega arith,
+        )
 
     pub settled-grown : (b' : List ℕ) (a : At) → Grown b w b' a (rebuild (decode r) false (forest b ks')) (w + 1) → Grown b w b' a (updateSortCtxChildrenData false (rebuild (decode r) false (forest b ks))) (w + 1)
     settled-grown b' a g = subst (λ t. Grown b w b' a t (w + 1)) (ap₂ (λ f k. node (rebuilt o (facts f)) false k) same-strip (q .is)) g

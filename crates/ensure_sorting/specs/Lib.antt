@@ -1,11 +1,4 @@
-pub mod Standing
-pub mod Connection
-pub mod Sizes
-pub mod Gathering
-pub mod Removing
-pub mod Recursion
 pub mod Child
 pub mod Finishing
 pub mod Loop
-pub mod Immediate
 pub mod Step

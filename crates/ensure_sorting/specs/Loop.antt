@@ -25,27 +25,27 @@ use Rattle.key_lists.specs.Keys.{orderOf, Ordered, Real}
 use Rattle.key_lists.specs.declared.Order.{Order}
 use Rattle.arena.specs.Arena.{slotSize, index, slot, Below}
 use Rattle.arena.specs.declared.At.{At}
-use Rattle.arena.specs.Laws.{below-at, below-more}
+use Rattle.arena.specs.Laws.{below-at}
 use Rattle.walks.specs.Marks.{Marked, Tree, strip, known, at, node, plant, cover, opT, fact, sizeT, shape, rebuild}
 use Rattle.walks.specs.Terms.{_⊕_}
 use Rattle.walks.specs.Base.{blank-widths}
-use Rattle.walks.specs.Trees.{Ok, OkT, ok-fit}
+use Rattle.walks.specs.Trees.{OkT, ok-fit}
 use Rattle.walks.specs.Utils.{newSort, addSortAbove}
 use Rattle.walks.specs.Keys.{keysOk, keys-of}
 use Rattle.walks.specs.NewNodes.{wanted-fits, wantsFit, node-fetch}
 use Rattle.walks.specs.OutputRequirements.{outputFetch}
 use Rattle.walks.specs.EnsureSorting.{updateSortCtxChildrenData, updateChildToRemoveUnnecessarySort, ensureChild, ensureEach, ensuredKids, afterLoop, finish}
 use Rattle.walks.specs.EnsureKept.{ensureEach-kept}
-use Rattle.plan_context.specs.View.{treeOf, forest, mostNodes, mostSlots, Arena, Same, Grown}
+use Rattle.plan_context.specs.View.{treeOf, forest, mostNodes, mostSlots, Arena, Grown}
 use Rattle.plan_context.specs.Laws.{slot-same, tree-same, facts-at, length-facts, same-trans}
 use Rattle.plan_context.specs.Nodes.{Seen}
 use Rattle.plan_context.specs.Kids.{Kids, kids-none, kids-more, kids-forest, plus-none}
 use Rattle.utils.specs.Sorting.{Sortable}
-use Rattle.ensure_sorting.specs.Standing.{Standing, view as shown, tree-is}
-use Rattle.ensure_sorting.specs.Connection.{count-roots}
-use Rattle.ensure_sorting.specs.Sizes.{cond-le, connected-size}
-use Rattle.ensure_sorting.specs.Removing.{from, from-first, from-next}
-use Rattle.ensure_sorting.specs.Recursion.{drop-size}
+use Rattle.sort_removal.specs.Standing.{Standing, view as shown, tree-is}
+use Rattle.sort_removal.specs.Connection.{count-roots}
+use Rattle.sort_removal.specs.Sizes.{cond-le, connected-size}
+use Rattle.sort_removal.specs.Removing.{from, from-first, from-next}
+use Rattle.sort_removal.specs.Recursion.{drop-size}
 use Rattle.ensure_sorting.specs.Child.{Ensures, update-size}
 use Rattle.ensure_sorting.specs.Finishing.{Finishes}
 
@@ -212,10 +212,11 @@ module _ (b₀ : List ℕ) (u h : ℕ) (p : Loops b₀ u h) where
             let x = kid-below in let y = q .made .more in let s = ap size split in let v = q .left in let t = view .few in let m = q .made .long in let z = p .room in let c = p .small in let g = p .few in
             let dl = ap length (drop-cons hs j 0 l) in let d = drop-size b₀ hs j in let n = kids-are in
             let nl = length-facts b₀ hs in
-            let fit = keys-of (getD fs j nothing .width) (W j) (wants-at W fs (wanted-fits o fs (view .ok .0)) j (omega arith)) in
-            (record { arena = q .made .arena; here = omega arith; room = omega arith; small = omega arith; few = omega arith },
-            ho .real,
-            subst (λ ks. Sortable (treeOf b k) ks f) (sym (ho .is)) (subst (λ G. Sortable (treeOf b k) (W j) G) (sym hf) (record { short = fit .short; inside = subst (λ G. All (λ y. y .col < G .width) (W j)) width-is (fit .inside); fetch = output-ok o (map (λ G. G .width) fs) (view .ok .0) })))
+            let fit = keys-of (getD fs j nothing .width) (W j) (wants-at W fs (wanted-fits o fs (view .ok .0)) j (omega arith)) in (
+              record { arena = q .made .arena; here = omega arith; room = omega arith; small = omega arith; few = omega arith },
+              ho .real,
+              subst (λ ks. Sortable (treeOf b k) ks f) (sym (ho .is)) (subst (λ G. Sortable (treeOf b k) (W j) G) (sym hf) (record { short = fit .short; inside = subst (λ G. All (λ y. y .col < G .width) (W j)) width-is (fit .inside); fetch = output-ok o (map (λ G. G .width) fs) (view .ok .0) })),
+            )
 
         pub going-more : (b' : List ℕ) → length b' ≡ length b → (a : At) → Grown b w b' a (ensureChild (orderOf ord) keeps one f (treeOf b k)) (w + 2 * sizeT (treeOf b k) + 1) → Going b₀ u h (j + 1) (a .used) (set kids j (a .root)) b'
         going-more b' lb a g =

@@ -33,12 +33,12 @@ use Rattle.plan_context.specs.Nodes.{few-over}
 use Rattle.plan_context.specs.Facts.{Tells}
 use Rattle.plan_context.specs.Opened.{stepRoom, Opened}
 use Rattle.plan_context.specs.Opening.{opened-over, grown-none, grown-more, grown-then}
-use Rattle.ensure_sorting.specs.Standing.{Standing, view, tree-is, op-is, own-proper, sort-op, is-code, not-code}
-use Rattle.ensure_sorting.specs.Connection.{Connected, count-roots}
-use Rattle.ensure_sorting.specs.Sizes.{connected-size}
-use Rattle.ensure_sorting.specs.Removing.{roots-none}
+use Rattle.sort_removal.specs.Standing.{Standing, view, tree-is, op-is, own-proper, sort-op, is-code, not-code}
+use Rattle.sort_removal.specs.Connection.{Connected}
+use Rattle.sort_removal.specs.Sizes.{connected-size}
+use Rattle.sort_removal.specs.Removing.{roots-none}
 use Rattle.ensure_sorting.specs.Loop.{Loops}
-use Rattle.ensure_sorting.specs.Immediate.{Immediates, immediateAt}
+use Rattle.sort_removal.specs.Immediate.{Immediates, immediateAt}
 
 -- ---- the node at h, whose children's marks are right
 
@@ -171,16 +171,18 @@ module _ (b : List ℕ) (u : ℕ) (r ks : List ℕ) (i : ℕ) (p : Opened b u r 
 
   pub open-puts : Puts b u r ks' × (i < u)
   open-puts =
-      let f = p .few in let x = p .room in let s = p .small in let z = sizes in
-      (record {
-        arena = p .arena;
-        room = omega arith;
-        small = omega arith;
-        below = q .below;
-        canon = p .canon ∙ ap (λ n. encode n o) (sym (q .count));
-        ok = subst (λ g. (nodeOk o (map (λ F. F .width) (facts g)) ≡ true) × Ok g) (sym (ap strip (q .is) ∙ strip-connected (forest b ks))) (p .ok);
-        few = omega arith;
-      }, p .hint)
+      let f = p .few in let x = p .room in let s = p .small in let z = sizes in (
+        record {
+          arena = p .arena;
+          room = omega arith;
+          small = omega arith;
+          below = q .below;
+          canon = p .canon ∙ ap (λ n. encode n o) (sym (q .count));
+          ok = subst (λ g. (nodeOk o (map (λ F. F .width) (facts g)) ≡ true) × Ok g) (sym (ap strip (q .is) ∙ strip-connected (forest b ks))) (p .ok);
+          few = omega arith;
+        },
+        p .hint,
+      )
 
   module _ (b' : List ℕ) (l : length b' ≡ length b) (a : At) (g : Grown b u b' a (node (decode r) false (forest b ks')) (u + 1)) where
     pub open-marks : Marks b' (a .used) (a .root)

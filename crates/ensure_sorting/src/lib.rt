@@ -1,14 +1,4 @@
-// enforce_sorting/mod.rs: the ensuring walk's step at one node, and what it removes below.
-pub mod analyze_immediate_sort_removal;
-pub mod remove_corresponding_sort_from_sub_plan;
-pub mod update_child_to_remove_unnecessary_sort;
-pub mod update_sort_ctx_children_data;
-
-use crate::analyze_immediate_sort_removal::analyze_immediate_sort_removal;
-use crate::update_child_to_remove_unnecessary_sort::update_child_to_remove_unnecessary_sort;
-use crate::update_sort_ctx_children_data::is_connected;
-use crate::update_sort_ctx_children_data::maintains_child;
-use crate::update_sort_ctx_children_data::update_sort_ctx_children_data;
+// enforce_sorting/mod.rs: the ensuring walk's step at one node.
 use arena::At;
 use arena::child;
 use arena::child_count;
@@ -37,6 +27,11 @@ use row_facts::asked::meets;
 use row_facts::asked::meets_order;
 use row_facts::asked::normal_form;
 use row_facts::asked::several_streams;
+use sort_removal::analyze_immediate_sort_removal::analyze_immediate_sort_removal;
+use sort_removal::update_child_to_remove_unnecessary_sort::update_child_to_remove_unnecessary_sort;
+use sort_removal::update_sort_ctx_children_data::is_connected;
+use sort_removal::update_sort_ctx_children_data::maintains_child;
+use sort_removal::update_sort_ctx_children_data::update_sort_ctx_children_data;
 use utils::add_sort_above;
 ghost use mathlib.Core.Path.{_≡_};
 ghost use mathlib.Core.Bool.{true, false};
@@ -106,7 +101,15 @@ fn ensure_ordered(m: &mut [u8], u: usize, h: usize, keys: Keys, single: bool, fe
 }
 
 // The tree at h, of which the order is wanted. Keeps: the node maintains its order; single: it requires one stream; fetch: of a new sort.
-fn ensure_child(m: &mut [u8], u: usize, h: usize, order: Order, keeps: bool, single: bool, fetch: Fetch) -> At
+fn ensure_child(
+    m: &mut [u8],
+    u: usize,
+    h: usize,
+    order: Order,
+    keeps: bool,
+    single: bool,
+    fetch: Fetch,
+) -> At
     requires { ⌜ Ensures (now m) u h × Real order × Sortable (treeOf (now m) h) (orderOf order) fetch ⌝ }
     ensures { λ a. ⌜ Grown (now (m .entry)) u (now (m .exit)) a (ensureChild (orderOf order) keeps single fetch (treeOf (now (m .entry)) h)) (u + 2 * sizeT (treeOf (now (m .entry)) h) + 1) ⌝ }
 {

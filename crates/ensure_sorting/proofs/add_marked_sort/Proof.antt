@@ -1,14 +1,8 @@
 use borrow.Author.Needs.{needs}
-use native.Mathlib.Omega.{arith}
 use Rattle.key_lists.specs.Keys.{keysOf}
 use Rattle.ensure_sorting.specs.Child.{sort-standing, sort-small, sort-asks, sort-grown}
 use Rattle.ensure_sorting.proofs.add_marked_sort.Statement.{statement}
 use Rattle.ensure_sorting.proofs.add_marked_sort.Tie as tie
-use Rattle.ensure_sorting.proofs.add_marked_sort.Reads as reads
-use Rattle.ensure_sorting.proofs.add_marked_sort.Lts as lts
-use Rattle.ensure_sorting.proofs.update_sort_ctx_children_data.is_connected.Reads as is-connected-reads
-use Rattle.plan_context.proofs.handles.set_mark.Reads as set-mark-reads
-use Rattle.utils.proofs.add_sort_above.Reads as add-sort-above-reads
 
 is-connected-requires : tie.Need-is-connected-requires
 is-connected-requires c κs = let s = c .before .before in sort-standing (s .args .m .now) (s .args .u) (s .args .h) (keysOf (s .args .keys)) (s .args .fetch) (s .pre)

@@ -1,13 +1,9 @@
-use borrow.Author.Needs.{needs}
 use native.Mathlib.Omega.{arith}
-use mathlib.Core.Path.{_∙_}
 use Prim.Native.Nat.{_-_}
 use lib.ListN.{length}
 use Rattle.ensure_sorting.specs.Step.{Copied, copied-none, copied-more, copied-all}
 use Rattle.ensure_sorting.proofs.copied.Statement.{statement}
 use Rattle.ensure_sorting.proofs.copied.Tie as tie
-use Rattle.ensure_sorting.proofs.copied.Reads as reads
-use Rattle.ensure_sorting.proofs.copied.Lts as lts
 
 abbrev Inv-loop : tie.InvT-loop
 Inv-loop ks out₀ j₀ out j = Copied ks j out

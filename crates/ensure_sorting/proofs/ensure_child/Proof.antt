@@ -1,13 +1,8 @@
 use borrow.Author.Needs.{needs}
-use native.Mathlib.Omega.{arith}
 use Rattle.plan_context.specs.View.{treeOf}
 use Rattle.ensure_sorting.specs.Child.{child-unordered, child-ordered, ordered-asks}
 use Rattle.ensure_sorting.proofs.ensure_child.Statement.{statement}
 use Rattle.ensure_sorting.proofs.ensure_child.Tie as tie
-use Rattle.ensure_sorting.proofs.ensure_child.Reads as reads
-use Rattle.ensure_sorting.proofs.ensure_child.Lts as lts
-use Rattle.ensure_sorting.proofs.ensure_ordered.Reads as ensure-ordered-reads
-use Rattle.ensure_sorting.proofs.ensure_unordered.Reads as ensure-unordered-reads
 
 enum-told : tie.Need-enum-told
 enum-told c = search needs

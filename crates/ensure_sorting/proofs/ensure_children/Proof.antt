@@ -9,22 +9,10 @@ use Rattle.semantics.specs.Properties.{wanted, singles}
 use Rattle.key_lists.specs.Keys.{Ordered}
 use Rattle.arena.specs.Arena.{index, slot}
 use Rattle.walks.specs.OutputRequirements.{outputFetch}
-use Rattle.ensure_sorting.specs.Standing.{view, slot-room, own-proper}
+use Rattle.sort_removal.specs.Standing.{view, slot-room, own-proper}
 use Rattle.ensure_sorting.specs.Loop.{Going, standing, going-none, node-room, few-kids, still, still-kid, child-asks, going-more, going-ends, end-grown}
 use Rattle.ensure_sorting.proofs.ensure_children.Statement.{statement}
 use Rattle.ensure_sorting.proofs.ensure_children.Tie as tie
-use Rattle.ensure_sorting.proofs.ensure_children.Reads as reads
-use Rattle.ensure_sorting.proofs.ensure_children.Lts as lts
-use Rattle.arena.proofs.child.Reads as child-reads
-use Rattle.arena.proofs.child_count.Reads as child-count-reads
-use Rattle.arena.proofs.read64.Reads as read64-reads
-use Rattle.arena.proofs.record_at.Reads as record-at-reads
-use Rattle.ensure_sorting.proofs.ensure_child.Reads as ensure-child-reads
-use Rattle.ensure_sorting.proofs.finish.Reads as finish-reads
-use Rattle.ensure_sorting.proofs.update_sort_ctx_children_data.maintains_child.Reads as maintains-child-reads
-use Rattle.node_properties.proofs.output_fetch.Reads as output-fetch-reads
-use Rattle.node_properties.proofs.wanted_order.Reads as wanted-order-reads
-use Rattle.node_properties.proofs.wants_single.Reads as wants-single-reads
 
 abbrev Inv-loop : tie.InvT-loop
 Inv-loop m₀ u h i r fetch n kids₀ w₀ j₀ m kids w j = (n ≡ length (slot m₀ (index h) .kids)) × (j ≤ n) × Going m₀ u h j w kids m

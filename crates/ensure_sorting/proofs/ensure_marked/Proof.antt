@@ -1,20 +1,8 @@
 use borrow.Author.Needs.{needs}
-use native.Mathlib.Omega.{arith}
-use Rattle.ensure_sorting.specs.Standing.{is-here, own-proper, kid-asks, kid-standing}
+use Rattle.sort_removal.specs.Standing.{is-here, own-proper, kid-asks, kid-standing}
 use Rattle.ensure_sorting.specs.Step.{marks-standing, sort-code, other-code, leaf-grown, first-some, loop-asks, loop-grown, other-kind, not-met, met-asks, met-grown}
 use Rattle.ensure_sorting.proofs.ensure_marked.Statement.{statement}
 use Rattle.ensure_sorting.proofs.ensure_marked.Tie as tie
-use Rattle.ensure_sorting.proofs.ensure_marked.Reads as reads
-use Rattle.ensure_sorting.proofs.ensure_marked.Lts as lts
-use Rattle.arena.proofs.child.Reads as child-reads
-use Rattle.arena.proofs.child_count.Reads as child-count-reads
-use Rattle.arena.proofs.record_at.Reads as record-at-reads
-use Rattle.ensure_sorting.proofs.analyze_immediate_sort_removal.analyze_immediate_sort_removal.Reads as analyze-immediate-sort-removal-reads
-use Rattle.ensure_sorting.proofs.ensure_children.Reads as ensure-children-reads
-use Rattle.node_properties.proofs.is_sort.Reads as is-sort-reads
-use Rattle.plan_context.proofs.kept.row.Reads as row-reads
-use Rattle.row_facts.proofs.asked.known_order.Reads as known-order-reads
-use Rattle.row_facts.proofs.asked.meets_order.Reads as meets-order-reads
 
 child-count-requires : tie.Need-child-count-requires
 child-count-requires c κs = search needs

@@ -1,13 +1,7 @@
 use borrow.Author.Needs.{needs}
-use native.Mathlib.Omega.{arith}
 use Rattle.ensure_sorting.specs.Step.{open-puts, open-marks, open-grown}
 use Rattle.ensure_sorting.proofs.ensure_open.Statement.{statement}
 use Rattle.ensure_sorting.proofs.ensure_open.Tie as tie
-use Rattle.ensure_sorting.proofs.ensure_open.Reads as reads
-use Rattle.ensure_sorting.proofs.ensure_open.Lts as lts
-use Rattle.ensure_sorting.proofs.ensure_marked.Reads as ensure-marked-reads
-use Rattle.ensure_sorting.proofs.update_sort_ctx_children_data.update_sort_ctx_children_data.Reads as update-sort-ctx-children-data-reads
-use Rattle.plan_context.proofs.putting.put_again.Reads as put-again-reads
 
 update-sort-ctx-children-data-requires : tie.Need-update-sort-ctx-children-data-requires
 update-sort-ctx-children-data-requires c κs = search needs

@@ -5,10 +5,6 @@ use lib.Seq.{length-take-le}
 use Rattle.ensure_sorting.specs.Step.{few-kids, copied-opened, copied-grown}
 use Rattle.ensure_sorting.proofs.ensure_sorting.Statement.{statement}
 use Rattle.ensure_sorting.proofs.ensure_sorting.Tie as tie
-use Rattle.ensure_sorting.proofs.ensure_sorting.Reads as reads
-use Rattle.ensure_sorting.proofs.ensure_sorting.Lts as lts
-use Rattle.ensure_sorting.proofs.copied.Reads as copied-reads
-use Rattle.ensure_sorting.proofs.ensure_open.Reads as ensure-open-reads
 
 copied-requires : tie.Need-copied-requires
 copied-requires c κs = let s = c .before .before .before in few-kids (s .args .m .now) (s .args .u) (s .args .r .now) (s .args .ks .now) (s .args .i) (s .pre)

@@ -1,14 +1,8 @@
 use borrow.Author.Needs.{needs}
-use native.Mathlib.Omega.{arith}
-use Rattle.ensure_sorting.specs.Standing.{is-here}
+use Rattle.sort_removal.specs.Standing.{is-here}
 use Rattle.ensure_sorting.specs.Child.{child-standing, updated, kept-free}
 use Rattle.ensure_sorting.proofs.ensure_unordered.Statement.{statement}
 use Rattle.ensure_sorting.proofs.ensure_unordered.Tie as tie
-use Rattle.ensure_sorting.proofs.ensure_unordered.Reads as reads
-use Rattle.ensure_sorting.proofs.ensure_unordered.Lts as lts
-use Rattle.ensure_sorting.proofs.update_child_to_remove_unnecessary_sort.update_child_to_remove_unnecessary_sort.Reads as update-child-to-remove-unnecessary-sort-reads
-use Rattle.plan_context.proofs.kept.row.Reads as row-reads
-use Rattle.row_facts.proofs.asked.is_ordered.Reads as is-ordered-reads
 
 row-requires : tie.Need-row-requires
 row-requires c κs = let s = c .before .before in is-here (s .args .m .now) (s .args .u) (s .args .h) (child-standing (s .args .m .now) (s .args .u) (s .args .h) (s .pre))

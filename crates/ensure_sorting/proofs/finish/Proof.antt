@@ -1,17 +1,9 @@
 use borrow.Author.Needs.{needs}
-use native.Mathlib.Omega.{arith}
 use Rattle.plan_codec.specs.Decode.{decode}
-use Rattle.ensure_sorting.specs.Standing.{is-code, not-code}
+use Rattle.sort_removal.specs.Standing.{is-code, not-code}
 use Rattle.ensure_sorting.specs.Finishing.{end-proper, merge-some, merge-here, one-ok, one-end, more-end, other-end}
 use Rattle.ensure_sorting.proofs.finish.Statement.{statement}
 use Rattle.ensure_sorting.proofs.finish.Tie as tie
-use Rattle.ensure_sorting.proofs.finish.Reads as reads
-use Rattle.ensure_sorting.proofs.finish.Lts as lts
-use Rattle.ensure_sorting.proofs.unmerge.Reads as unmerge-reads
-use Rattle.ensure_sorting.proofs.update_over.Reads as update-over-reads
-use Rattle.node_properties.proofs.is_sort_preserving_merge.Reads as is-sort-preserving-merge-reads
-use Rattle.plan_context.proofs.kept.row.Reads as row-reads
-use Rattle.row_facts.proofs.asked.several_streams.Reads as several-streams-reads
 
 is-sort-preserving-merge-requires : tie.Need-is-sort-preserving-merge-requires
 is-sort-preserving-merge-requires c κs = let s = c .before .before .before in end-proper (s .args .m .now) (s .args .u) (s .args .h) (s .args .r .now) (s .args .ks .now) (s .pre)

@@ -1,18 +1,8 @@
 use borrow.Author.Needs.{needs}
-use native.Mathlib.Omega.{arith}
 use mathlib.Core.Path.{sym, _∙_}
 use Rattle.ensure_sorting.specs.Finishing.{end-proper, merge-some, merge-here, goes-grown, limit-puts, limit-grown}
 use Rattle.ensure_sorting.proofs.unmerge.Statement.{statement}
 use Rattle.ensure_sorting.proofs.unmerge.Tie as tie
-use Rattle.ensure_sorting.proofs.unmerge.Reads as reads
-use Rattle.ensure_sorting.proofs.unmerge.Lts as lts
-use Rattle.new_records.proofs.local_limit_record.Reads as local-limit-record-reads
-use Rattle.node_properties.proofs.fetch_field.Reads as fetch-field-reads
-use Rattle.node_properties.proofs.keys.Reads as keys-reads
-use Rattle.node_properties.proofs.some_fetch.Reads as some-fetch-reads
-use Rattle.plan_context.proofs.kept.row.Reads as row-reads
-use Rattle.plan_context.proofs.putting.put.Reads as put-reads
-use Rattle.row_facts.proofs.asked.normal_form.Reads as normal-form-reads
 
 fetch-field-requires : tie.Need-fetch-field-requires
 fetch-field-requires c κs = let s = c .before .before .before in end-proper (s .args .m .now) (s .args .u) (s .args .h) (s .args .r .now) (s .args .ks .now) (s .pre .0)

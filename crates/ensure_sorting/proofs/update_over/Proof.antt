@@ -1,12 +1,7 @@
 use borrow.Author.Needs.{needs}
-use native.Mathlib.Omega.{arith}
 use Rattle.ensure_sorting.specs.Finishing.{settled-puts, settled-grown}
 use Rattle.ensure_sorting.proofs.update_over.Statement.{statement}
 use Rattle.ensure_sorting.proofs.update_over.Tie as tie
-use Rattle.ensure_sorting.proofs.update_over.Reads as reads
-use Rattle.ensure_sorting.proofs.update_over.Lts as lts
-use Rattle.ensure_sorting.proofs.update_sort_ctx_children_data.update_sort_ctx_children_data.Reads as update-sort-ctx-children-data-reads
-use Rattle.plan_context.proofs.putting.update_plan_from_children.Reads as update-plan-from-children-reads
 
 update-sort-ctx-children-data-requires : tie.Need-update-sort-ctx-children-data-requires
 update-sort-ctx-children-data-requires c κs = search needs

@@ -1,0 +1,174 @@
+// The sorts below a node removed: those that it is connected to.
+use crate::update_sort_ctx_children_data::any_marked;
+use crate::update_sort_ctx_children_data::is_connected;
+use crate::update_sort_ctx_children_data::update_sort_ctx_children_data;
+use arena::At;
+use arena::child;
+use arena::child_count;
+use arena::read64;
+use arena::record_at;
+use key_lists::Order;
+use new_records::coalesce_record;
+use new_records::merge_record;
+use new_records::with_mark;
+use node_properties::fetch_field;
+use node_properties::is_repartition;
+use node_properties::is_sort;
+use node_properties::is_sort_preserving_merge;
+use node_properties::some_fetch;
+use node_properties::wants_single;
+use plan::Fetch;
+use plan_context::handles::is_marked;
+use plan_context::handles::set_mark;
+use plan_context::kept::row;
+use plan_context::kept::summary;
+use plan_context::putting::put_again;
+use plan_context::putting::put_over;
+use plan_context::putting::update_plan_from_children;
+use row_facts::asked::known_order;
+use row_facts::asked::several_streams;
+ghost use mathlib.Core.Path.{_≡_};
+ghost use mathlib.Core.Bool.{true};
+ghost use Prim.Native.Nat.{_+_, _*_};
+ghost use Rattle.plan.specs.Numbers.{code};
+ghost use Rattle.plan_codec.specs.Decode.{decode};
+ghost use Rattle.plan_codec.specs.Encode.{encode};
+ghost use Rattle.key_lists.specs.Keys.{orderOf, Real};
+ghost use Rattle.arena.specs.Arena.{index, marked, slot};
+ghost use Rattle.walks.specs.Marks.{fetchT, sizeT};
+ghost use Rattle.walks.specs.EnsureSorting.{gatherOp, gather as gathered};
+ghost use Rattle.plan_context.specs.View.{treeOf, Grown};
+ghost use Rattle.sort_removal.specs.Standing.{Standing};
+ghost use Rattle.sort_removal.specs.Gathering.{Gathers};
+ghost use Rattle.sort_removal.specs.Removing.{Rems, Overs, Removed, removeOne};
+ghost use Rattle.sort_removal.specs.Recursion.{Removes};
+
+// The plan's fetch at h.
+fn plan_fetch(m: &[u8], u: usize, h: usize) -> Fetch
+    requires { ⌜ Standing (now m) u h ⌝ }
+    ensures { λ f. ⌜ f ≡ fetchT (treeOf (now (m .entry)) h) ⌝ }
+{
+    let s = summary(m, h);
+    let n = s.fetch;
+    if n == 4294967295 {
+        return Fetch::Unlimited;
+    }
+    Fetch::AtMost(n)
+}
+
+// A merge of the order, or a coalesce where there is none.
+fn gather_record(order: Order, fetch: Fetch) -> [u8; 64]
+    requires { ⌜ Real order ⌝ }
+    ensures { λ x. ⌜ x ≡ encode 1 (gatherOp (orderOf order) fetch) ⌝ }
+{
+    match order {
+        Order::Unordered => coalesce_record(Fetch::Unlimited),
+        Order::By(k) => merge_record(k, fetch),
+    }
+}
+
+// One stream of the tree at h, where a single one is required.
+fn gather(m: &mut [u8], u: usize, h: usize, single: bool) -> At
+    requires { ⌜ Gathers (now m) u h single ⌝ }
+    ensures { λ a. ⌜ Grown (now (m .entry)) u (now (m .exit)) a (gathered single (treeOf (now (m .entry)) h)) (u + 1) ⌝ }
+{
+    if !single {
+        return At { used: u, root: h };
+    }
+    let own = row(m, h);
+    if !several_streams(own) {
+        return At { used: u, root: h };
+    }
+    let r = gather_record(known_order(own), plan_fetch(m, u, h));
+    let k = set_mark(h, is_connected(m, u, h));
+    put_over(m, u, &r, k)
+}
+
+// The marks of the new children ks put right where an old one was marked or there is none; whether they were.
+fn settle_marks(m: &[u8], u: usize, h: usize, ks: &mut [usize]) -> bool
+    requires { ⌜ Rems (now m) u h (now ks) ⌝ }
+    ensures { λ q. ⌜ Overs (now (m .entry)) u h (now (ks .exit)) q ⌝ }
+{
+    let x = any_marked(m, u, h);
+    if x | (ks.len() == 0) {
+        update_sort_ctx_children_data(m, u, ks);
+        return true;
+    }
+    false
+}
+
+// The node at h, not a sort, with the record r, over its new children ks; settled: their marks were put right.
+fn remove_over(m: &mut [u8], u: usize, h: usize, r: &[u8], ks: &[usize], settled: bool) -> At
+    requires { ⌜ Overs (now m) u h (now ks) settled × (now r ≡ slot (now m) (index h) .rec) × (code (decode (now r)) ≡ 7 → ⊥) ⌝ }
+    ensures { λ a. ⌜ Grown (now (m .entry)) u (now (m .exit)) a (Removed (now (m .entry)) h) (u + 1) ⌝ }
+{
+    if is_sort_preserving_merge(r) {
+        let k = set_mark(ks[0], !settled);
+        return At { used: u, root: k };
+    }
+    if is_repartition(r) {
+        let x = with_mark(r, false);
+        let a = put_again(m, u, &x, ks, h / 2);
+        let k = set_mark(a.root, !settled);
+        return At {
+            used: a.used,
+            root: k,
+        };
+    }
+    let a = update_plan_from_children(m, u, r, ks, h / 2);
+    let k = set_mark(a.root, !settled);
+    At {
+        used: a.used,
+        root: k,
+    }
+}
+
+// The same, with their marks put right.
+fn remove_by(m: &mut [u8], u: usize, h: usize, r: &[u8], ks: &mut [usize]) -> At
+    requires { ⌜ Rems (now m) u h (now ks) × (now r ≡ slot (now m) (index h) .rec) × (code (decode (now r)) ≡ 7 → ⊥) ⌝ }
+    ensures { λ a. ⌜ Grown (now (m .entry)) u (now (m .exit)) a (Removed (now (m .entry)) h) (u + 1) ⌝ }
+{
+    let settled = settle_marks(m, u, h, ks);
+    remove_over(m, u, h, r, ks, settled)
+}
+
+// A marked sort at h, with the record r: it goes, unless it has a fetch.
+fn remove_sort(m: &mut [u8], u: usize, h: usize, r: &[u8], single: bool) -> At
+    requires { ⌜ Removes (now m) u h × (marked h ≡ true) × (now r ≡ slot (now m) (index h) .rec) × (code (decode (now r)) ≡ 7) ⌝ }
+    ensures { λ a. ⌜ Grown (now (m .entry)) u (now (m .exit)) a (removeOne single (treeOf (now (m .entry)) h)) (u + 2 * sizeT (treeOf (now (m .entry)) h)) ⌝ }
+{
+    if some_fetch(fetch_field(r)) {
+        return gather(m, u, h, single);
+    }
+    let k = child(m, h / 2, 0);
+    gather(m, u, k, single)
+}
+
+// The tree at h: where it is marked, its connected children first. Single: one stream is required of it.
+pub fn remove_corresponding_sort_from_sub_plan(m: &mut [u8], u: usize, h: usize, single: bool) -> At
+    requires { ⌜ Removes (now m) u h ⌝ }
+    ensures { λ a. ⌜ Grown (now (m .entry)) u (now (m .exit)) a (removeOne single (treeOf (now (m .entry)) h)) (u + 2 * sizeT (treeOf (now (m .entry)) h)) ⌝ }
+{
+    if !is_marked(h) {
+        return At { used: u, root: h };
+    }
+    let i = h / 2;
+    let r = read64(record_at(m, i));
+    if is_sort(&r) {
+        return remove_sort(m, u, h, &r, single);
+    }
+    let n = child_count(m, i);
+    let mut kids = [0usize; 8];
+    let mut w = u;
+    let mut j = 0;
+    while j < n {
+        let k = child(m, i, j);
+        let one = wants_single(&r, j);
+        let a = remove_corresponding_sort_from_sub_plan(m, w, k, one);
+        w = a.used;
+        kids[j] = a.root;
+        j += 1;
+    }
+    let x = remove_by(m, w, h, &r, &mut kids[..n]);
+    gather(m, x.used, x.root, single)
+}
