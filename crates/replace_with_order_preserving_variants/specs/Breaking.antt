@@ -2,7 +2,7 @@
 use mathlib.Core.Path.{_≡_, refl, sym, ap, ap₂, _∙_, subst}
 use mathlib.Core.Bool.{Bool, true, false, cond, not, _&&_, _||_}
 use mathlib.Core.List.{List, [], _∷_, map}
-use Prim.Native.Nat.{ℕ, zero, suc, _+_, _*_, _/_, _≤_, _<_}
+use Prim.Native.Nat.{ℕ, zero, suc, _+_, _*_, _≤_, _<_}
 use native.Mathlib.Omega.{arith}
 use native.Mathlib.Numerals.{add-one}
 use lib.Dec.{eqb}
@@ -25,7 +25,7 @@ use Rattle.key_lists.specs.declared.Order.the-variants.{Unordered, By}
 use Rattle.arena.specs.Arena.{slotSize, index, marked, slot, Below}
 use Rattle.arena.specs.declared.At.{At}
 use Rattle.arena.specs.Laws.{below-at, below-more}
-use Rattle.walks.specs.Marks.{Marked, Tree, strip, known, at, node, plant, opT, sizeT, setMark, Shape, aSort, aMerge, aRepartition, aCoalesce, another, shape, rebuild}
+use Rattle.walks.specs.Marks.{Marked, Tree, strip, known, at, node, plant, sizeT, setMark, Shape, aSort, aMerge, aRepartition, aCoalesce, another, shape, rebuild}
 use Rattle.walks.specs.Terms.{_⊕_}
 use Rattle.walks.specs.Trees.{OkT, Fit, FitsA, arity, count, ok-fit}
 use Rattle.walks.specs.NewNodes.{coalesce-ok, node-fetch, over-of}

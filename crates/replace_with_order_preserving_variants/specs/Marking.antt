@@ -7,7 +7,6 @@ use native.Mathlib.Omega.{arith}
 use native.Mathlib.Numerals.{add-one}
 use lib.ListN.{length, getD, take, drop, set, drop-of-length-le}
 use lib.Seq.{drop-cons, length-take-le}
-use Rattle.row_order.specs.Order.{no-bool}
 use Rattle.plan.specs.Forest.{Forest, none, tree, roots, size}
 use Rattle.plan.specs.Op.{Op, Plan}
 use Rattle.plan.specs.WellFormed.{someFetch, nodeOk}
@@ -25,7 +24,7 @@ use Rattle.walks.specs.Utils.{isCoalescePartitions}
 use Rattle.walks.specs.OrderPreserving.{inspectChild, masked, inspected, initiates, carries, carryEach}
 use Rattle.walks.specs.OrderPreservingKept.{strip-masked}
 use Rattle.plan_context.specs.View.{treeOf, forest, mostSlots, Arena, Grown, Puts}
-use Rattle.plan_context.specs.Laws.{fewer, same-trans, tree-same}
+use Rattle.plan_context.specs.Laws.{fewer, tree-same}
 use Rattle.plan_context.specs.Handles.{Marks}
 use Rattle.plan_context.specs.Kids.{Kids, kids-none, kids-more, kids-forest, plus-none}
 use Rattle.replace_with_order_preserving_variants.specs.Nodes.{shown, kid-below}

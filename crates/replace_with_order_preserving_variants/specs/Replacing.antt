@@ -2,20 +2,18 @@
 use mathlib.Core.Path.{_≡_, refl, sym, ap, ap₂, _∙_, subst}
 use mathlib.Core.Bool.{Bool, true, false}
 use mathlib.Core.List.{List, [], _∷_, map}
-use Prim.Native.Nat.{ℕ, suc, _+_, _*_, _≤_, _<_}
+use Prim.Native.Nat.{ℕ, _*_, _<_}
 use native.Mathlib.Omega.{arith}
 use lib.ListN.{length, getD}
 use Rattle.plan.specs.Forest.{Forest, none, tree, size}
 use Rattle.plan.specs.Op.{Op}
-use Rattle.plan.specs.WellFormed.{nodeOk}
 use Rattle.plan_codec.specs.Decode.{decode}
 use Rattle.plan_codec.specs.Encode.{encode}
 use Rattle.plan_codec.specs.OneRecord.{decode-encode}
 use Rattle.semantics.specs.Properties.{remark}
-use Rattle.arena.specs.Arena.{index}
 use Rattle.arena.specs.declared.At.{At}
 use Rattle.arena.specs.Laws.{below-at}
-use Rattle.walks.specs.Marks.{Marked, Tree, known, strip, node, plant, setMark, rebuild}
+use Rattle.walks.specs.Marks.{Marked, Tree, known, node, plant, setMark, rebuild}
 use Rattle.walks.specs.Trees.{OkT}
 use Rattle.walks.specs.Keeps.{remark-like}
 use Rattle.walks.specs.OrderPreserving.{markFirst}

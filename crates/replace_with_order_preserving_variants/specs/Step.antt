@@ -2,43 +2,39 @@
 use mathlib.Core.Path.{_≡_, refl, sym, ap, ap₂, _∙_, subst}
 use mathlib.Core.Bool.{Bool, true, false, cond, not, _&&_, _||_}
 use mathlib.Core.List.{List, [], _∷_, map}
-use Prim.Native.Nat.{ℕ, zero, suc, _+_, _*_, _≤_, _<_}
+use Prim.Native.Nat.{ℕ, suc, _+_, _*_, _≤_, _<_}
 use native.Mathlib.Omega.{arith}
 use borrow.Author.Tests.{eqb-true}
 use lib.Dec.{eqb}
 use lib.ListN.{length, getD, take}
 use lib.Seq.{length-take-le}
-use Rattle.row_order.specs.Order.{no-bool}
-use Rattle.plan.specs.Forest.{Forest, none, tree, size}
+use Rattle.plan.specs.Forest.{Forest, tree, size}
 use Rattle.plan.specs.Op.{Op, sortOp}
 use Rattle.plan.specs.Numbers.{code, kindOf}
 use Rattle.plan.specs.WellFormed.{fetchOk, childrenOk}
 use Rattle.plan.specs.declared.Fetch.{Fetch}
-use Rattle.plan.specs.declared.Kind.the-variants.{Sort}
 use Rattle.plan_codec.specs.Decode.{fromBytes, operatorOf, decode}
 use Rattle.plan_codec.specs.Encode.{encode}
 use Rattle.semantics.specs.Facts.{factsOp, nf, met, knownOrder}
-use Rattle.semantics.specs.Properties.{cuts, isFinal}
+use Rattle.semantics.specs.Properties.{cuts}
 use Rattle.record_fields.specs.Proper.{Proper}
 use Rattle.key_lists.specs.Keys.{keysOf, Keyed}
 use Rattle.key_lists.specs.declared.Keys.{Keys}
 use Rattle.row_facts.specs.Asked.{told}
-use Rattle.arena.specs.Arena.{slotSize, marked, Below}
+use Rattle.arena.specs.Arena.{slotSize, marked}
 use Rattle.arena.specs.declared.At.{At}
-use Rattle.walks.specs.Marks.{Marked, Tree, strip, known, node, plant, opT, fact, sizeT, unmark, kid0, headMark, shape}
+use Rattle.walks.specs.Marks.{Marked, Tree, strip, known, node, opT, fact, sizeT, unmark, kid0, headMark, shape}
 use Rattle.walks.specs.Trees.{OkT}
 use Rattle.walks.specs.NewNodes.{node-fetch}
 use Rattle.walks.specs.OrderPreserving as walk
-use Rattle.walks.specs.OrderPreserving.{carryEach, alternatePlan, accepted, replaceBy, useOrderPreservingVariant, planWithOrderPreservingVariants, replaceWithOrderPreservingVariants}
+use Rattle.walks.specs.OrderPreserving.{alternatePlan, accepted, replaceBy, useOrderPreservingVariant, planWithOrderPreservingVariants, replaceWithOrderPreservingVariants}
 use Rattle.walks.specs.OrderPreservingKept.{strip-carry}
 use Rattle.plan_context.specs.declared.Summary.{Summary}
-use Rattle.plan_context.specs.View.{treeOf, forest, mostNodes, mostSlots, Sums, Arena, Same, Grown, Here, Puts}
+use Rattle.plan_context.specs.View.{treeOf, forest, mostSlots, Sums, Grown, Here, Puts}
 use Rattle.plan_context.specs.Laws.{here, fewer, same-trans, forest-same, length-facts}
 use Rattle.plan_context.specs.Opened.{stepRoom, Opened}
-use Rattle.plan_context.specs.Opening.{grown-more}
 use Rattle.plan_context.specs.Facts.{Tells}
 use Rattle.plan_context.specs.Nodes.{counts-of, few-any}
-use Rattle.plan_context.specs.Kids.{Kids}
 use Rattle.plan_context.specs.Covering.{one}
 use Rattle.replace_with_order_preserving_variants.specs.declared.Settings.{Settings}
 use Rattle.replace_with_order_preserving_variants.specs.Nodes.{record-proper}
