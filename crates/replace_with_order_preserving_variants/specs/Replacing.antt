@@ -1,8 +1,8 @@
 -- A node with one child, and another node in its place, over the same child with another mark.
 use mathlib.Core.Path.{_≡_, refl, sym, ap, ap₂, _∙_, subst}
-use mathlib.Core.Bool.{Bool, true, false}
+use mathlib.Core.Bool.{Bool, true, false, cond}
 use mathlib.Core.List.{List, [], _∷_, map}
-use Prim.Native.Nat.{ℕ, _*_, _<_}
+use Prim.Native.Nat.{ℕ, _*_, _≤_, _<_}
 use native.Mathlib.Omega.{arith}
 use lib.ListN.{length, getD}
 use Rattle.plan.specs.Forest.{Forest, none, tree, size}
@@ -13,7 +13,7 @@ use Rattle.plan_codec.specs.OneRecord.{decode-encode}
 use Rattle.semantics.specs.Properties.{remark}
 use Rattle.arena.specs.declared.At.{At}
 use Rattle.arena.specs.Laws.{below-at}
-use Rattle.walks.specs.Marks.{Marked, Tree, known, node, plant, setMark, rebuild}
+use Rattle.walks.specs.Marks.{Marked, Tree, known, node, plant, sizeT, setMark, rebuild}
 use Rattle.walks.specs.Trees.{OkT}
 use Rattle.walks.specs.Keeps.{remark-like}
 use Rattle.walks.specs.OrderPreserving.{markFirst}
@@ -28,6 +28,10 @@ use Rattle.replace_with_order_preserving_variants.specs.Marking.{marks-o
 
 pub grown-as : {m : List ℕ} {u : ℕ} {m' : List ℕ} {a : At} {t t' : Tree} {top : ℕ} → t ≡ t' → Grown m u m' a t top → Grown m u m' a t' top
 grown-as {m} {u} {m'} {a} {t} {t'} {top} e g = subst (λ x. Grown m u m' a x top) e g
+
+pub cond-le : (n : ℕ) (x : Bool) (t u : Tree) → sizeT t ≤ n → sizeT u ≤ n → sizeT (cond x t u) ≤ n
+cond-le n true t u h k = h
+cond-le n false t u h k = k
 
 pub first-size : (b : Bool) (d : Forest Marked) → size (markFirst b d) ≡ size d
 first-size b none = refl

@@ -102,10 +102,7 @@ module _ (m : List ℕ) (u : ℕ) (r : List ℕ) (h i : ℕ) (p : Sorting m u r 
     sorting-asks =
         let x = p .room in let y = p .small in
         record {
-          arena = p .puts .arena;
-          here = low;
-          room = omega arith;
-          small = omega arith;
+          enters = record { arena = p .puts .arena; here = low; room = omega arith; small = omega arith };
           fetch = ap fetchOk ef ∙ node-fetch (decode r) (map (λ F. F .width) (known (forest m (h ∷ [])))) (p .puts .ok .0);
         }
 

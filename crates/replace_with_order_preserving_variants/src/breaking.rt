@@ -29,7 +29,8 @@ ghost use Rattle.walks.specs.Marks.{known, sizeT};
 ghost use Rattle.walks.specs.OrderPreserving as walk;
 ghost use Rattle.arena.specs.Arena.{slot};
 ghost use Rattle.plan_context.specs.View.{treeOf, forest, Arena, Grown, Puts};
-ghost use Rattle.replace_with_order_preserving_variants.specs.Breaking.{brokenRepartition, brokenMerge, Broke, breakOne, Breaks};
+ghost use Rattle.replace_with_order_preserving_variants.specs.Breaking.{brokenRepartition, brokenMerge, Broke, breakOne};
+ghost use Rattle.replace_with_order_preserving_variants.specs.Entering.{Enters};
 
 // Whether child j of node i is entered: the node maintains its order, and asks for none that it has, unless the node is a merge.
 fn enters(m: &[u8], i: usize, j: usize) -> bool
@@ -90,7 +91,7 @@ fn break_over(m: &mut [u8], w: usize, i: usize, ks: &[usize]) -> At
 
 // The tree at h, if it is entered; otherwise it stays.
 fn break_entered(m: &mut [u8], u: usize, h: usize, entered: bool) -> At
-    requires { ⌜ Breaks (now m) u h ⌝ }
+    requires { ⌜ Enters (now m) u h ⌝ }
     ensures { λ a. ⌜ Grown (now (m .entry)) u (now (m .exit)) a (breakOne entered (treeOf (now (m .entry)) h)) (u + sizeT (treeOf (now (m .entry)) h)) ⌝ }
 {
     if !entered {
@@ -114,7 +115,7 @@ fn break_entered(m: &mut [u8], u: usize, h: usize, entered: bool) -> At
 
 // The tree at h.
 pub fn plan_with_order_breaking_variants(m: &mut [u8], u: usize, h: usize) -> At
-    requires { ⌜ Breaks (now m) u h ⌝ }
+    requires { ⌜ Enters (now m) u h ⌝ }
     ensures { λ a. ⌜ Grown (now (m .entry)) u (now (m .exit)) a (walk.planWithOrderBreakingVariants (treeOf (now (m .entry)) h)) (u + sizeT (treeOf (now (m .entry)) h)) ⌝ }
 {
     break_entered(m, u, h, true)

@@ -95,7 +95,7 @@ fn preserve_over(
     update_plan_from_children(m, w, &r, ks, i)
 }
 
-// The tree at h, if it is marked; any other stays. A fetched coalesce stays, and nothing below it is entered.
+// The tree at h, if it is marked; any other stays. A fetched coalesce stays too, unmarked, and nothing below it is entered.
 fn preserve_marked(m: &mut [u8], u: usize, h: usize, spr: bool, spm: bool, fetch: Fetch) -> At
     requires { ⌜ Preserves (now m) u h fetch ⌝ }
     ensures { λ a. ⌜ Grown (now (m .entry)) u (now (m .exit)) a (preserveOne spr spm fetch (treeOf (now (m .entry)) h)) (u + sizeT (treeOf (now (m .entry)) h)) ⌝ }
@@ -107,7 +107,7 @@ fn preserve_marked(m: &mut [u8], u: usize, h: usize, spr: bool, spm: bool, fetch
     if is_fetched_coalesce(record_at(m, i)) {
         return At {
             used: u,
-            root: 2 * i,
+            root: set_mark(h, false),
         };
     }
     let n = child_count(m, i);
