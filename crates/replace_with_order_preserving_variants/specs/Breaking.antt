@@ -38,7 +38,8 @@ use Rattle.replace_with_order_preserving_variants.specs.Replacing.{grown
 -- ---- which children are entered
 
 module _ (o : Op) (fs : List Facts) (j : ℕ) where
-  tests : (x y z w : Bool) → x ≡ maintains o fs j → y ≡ isSortPreservingMerge o → z ≡ isNil (wanted o j) → w ≡ met (getD fs j nothing) (wanted o j) → x && (y || (z || not w)) ≡ enters o fs j
+  tests : (x y z w : Bool) → x ≡ maintains o fs j → y ≡ isSortPreservingMerge o → z ≡ isNil (wanted o j) → w ≡ met (getD fs j nothing) (wanted o j)
+      → x && (y || (z || not w)) ≡ enters o fs j
   tests x y z w a b c d = ap₂ _&&_ a (ap₂ _||_ b (ap₂ (λ p q. p || not q) c d))
 
   pub enters-lost : (x : Bool) → x ≡ maintains o fs j → x ≡ false → false ≡ enters o fs j
@@ -123,13 +124,17 @@ each-size q (tree m c r) =
 module _ (m : List ℕ) (w i : ℕ) (r ks : List ℕ) (p : Puts m w r ks) (er : r ≡ slot m i .rec) (e : eqb (code (decode r)) 5 ≡ true) (b : Bool)
     (hb : b ≡ maintains (decode (slot m i .rec)) (known (forest m (slot m i .kids))) 0) where
   parts : (y : Bool) → b ≡ y
-      → cond y (node (remark (λ q. false) (decode r)) false (markFirst false (forest m ks))) (rebuild (decode r) false (forest m ks)) ≡ brokenRepartition (decode r) (forest m (slot m i .kids)) (forest m ks)
-  parts y q = ap (λ z. cond z (node (remark (λ q. false) (decode r)) false (markFirst false (forest m ks))) (rebuild (decode r) false (forest m ks))) (sym q ∙ hb ∙ ap (λ z. maintains (decode z) (known (forest m (slot m i .kids))) 0) (sym er))
+      → cond y (node (remark (λ q. false) (decode r)) false (markFirst false (forest m ks))) (rebuild (decode r) false (forest m ks))
+      ≡ brokenRepartition (decode r) (forest m (slot m i .kids)) (forest m ks)
+  parts y q =
+      ap (λ z. cond z (node (remark (λ q. false) (decode r)) false (markFirst false (forest m ks))) (rebuild (decode r) false (forest m ks))) (sym q ∙ hb ∙ ap (λ z. maintains (decode z) (known (forest m (slot m i .kids))) 0) (sym er))
 
-  pub repartition-kept : b ≡ false → (m' : List ℕ) (a : At) → Grown m w m' a (rebuild (decode r) false (forest m ks)) (w + 1) → Grown m w m' a (brokenRepartition (decode r) (forest m (slot m i .kids)) (forest m ks)) (w + 1)
+  pub repartition-kept : b ≡ false → (m' : List ℕ) (a : At) → Grown m w m' a (rebuild (decode r) false (forest m ks)) (w + 1)
+      → Grown m w m' a (brokenRepartition (decode r) (forest m (slot m i .kids)) (forest m ks)) (w + 1)
   repartition-kept q m' a g = grown-as (parts false q) g
 
-  module _ (x : List ℕ) (hx : (n : ℕ) → r ≡ encode n (decode r) → x ≡ encode n (remark (λ q. false) (decode r))) (k : ℕ) (hk : Marks (getD ks 0 0) false k) where
+  module _ (x : List ℕ) (hx : (n : ℕ) → r ≡ encode n (decode r) → x ≡ encode n (remark (λ q. false) (decode r))) (k : ℕ)
+      (hk : Marks (getD ks 0 0) false k) where
     one-child : length ks ≡ 1
     one-child = single m w r ks p (treated-5 (decode r) e)
 
@@ -137,7 +142,8 @@ module _ (m : List ℕ) (w i : ℕ) (r ks : List ℕ) (p : Puts m w r ks) (er : 
     new-record = hx 1 (p .canon ∙ ap (λ n. encode n (decode r)) one-child)
 
     pub repartition-puts : Puts m w x (k ∷ [])
-    repartition-puts = replaced-puts m w r ks p one-child false k hk (remark (λ q. false) (decode r)) x new-record (remark-ok m w r ks p one-child false (λ q. false))
+    repartition-puts =
+        replaced-puts m w r ks p one-child false k hk (remark (λ q. false) (decode r)) x new-record (remark-ok m w r ks p one-child false (λ q. false))
 
     pub repartition-broken : b ≡ true → (m' : List ℕ) (a : At) → Grown m w m' a (node (decode x) false (forest m (k ∷ []))) (w + 1)
         → Grown m w m' a (brokenRepartition (decode r) (forest m (slot m i .kids)) (forest m ks)) (w + 1)
@@ -160,7 +166,8 @@ module _ (m : List ℕ) (w : ℕ) (r ks : List ℕ) (p : Puts m w r ks) (e : eqb
     pub merge-puts : Puts m w x (k ∷ [])
     merge-puts = replaced-puts m w r ks p one-below false k hk (coalesce (cuts (decode r) .fetch)) x hx coalesced-ok
 
-    pub merge-broken : (m' : List ℕ) (a : At) → Grown m w m' a (node (decode x) false (forest m (k ∷ []))) (w + 1) → Grown m w m' a (brokenMerge (decode r) (forest m ks)) (w + 1)
+    pub merge-broken : (m' : List ℕ) (a : At) → Grown m w m' a (node (decode x) false (forest m (k ∷ []))) (w + 1)
+        → Grown m w m' a (brokenMerge (decode r) (forest m ks)) (w + 1)
     merge-broken m' a g = replaced-grown m w r ks p one-below false k hk (coalesce (cuts (decode r) .fetch)) x hx coalesced-ok m' a (w + 1) g
 
 -- ---- any node
@@ -197,7 +204,8 @@ module _ (m₀ : List ℕ) (u h : ℕ) (p : Enters m₀ u h) where
       record { arena = p .arena; old = refl; more = omega arith; here = p .here; tree = sym (ap (λ x. breakOne x (treeOf m₀ h)) z); room = omega arith }
 
   module _ (j w : ℕ) (kids m : List ℕ) (q : Going (eachOf m₀ h) m₀ u h j w kids m) where
-    pub break-more : (l : j < length (slot m₀ (index h) .kids)) (k : ℕ) → k ≡ getD (slot m (index h) .kids) j 0 → (b : Bool) → b ≡ entering m (index h) j → (m' : List ℕ) → length m' ≡ length m → (r : At)
+    pub break-more : (l : j < length (slot m₀ (index h) .kids)) (k : ℕ) → k ≡ getD (slot m (index h) .kids) j 0 → (b : Bool) → b ≡ entering m (index h) j
+        → (m' : List ℕ) → length m' ≡ length m → (r : At)
         → Grown m w m' r (breakOne b (treeOf m k)) (w + sizeT (treeOf m k)) → Going (eachOf m₀ h) m₀ u h (j + 1) (r .used) (set kids j (r .root)) m'
     break-more l k e b eb =
         let asked : b ≡ q₀ j = (eb ∙ (λ i. enters (decode (same-slot m₀ u h p (eachOf m₀ h) j w kids m q i .rec)) (known (olds m₀ u h p (eachOf m₀ h) j w kids m q i)) j)) in
@@ -217,7 +225,10 @@ module _ (m₀ : List ℕ) (u h : ℕ) (p : Enters m₀ u h) where
       broke =
           (λ i. breakBy (shape (decode (same-slot m₀ u h p (eachOf m₀ h) j w kids m q i .rec))) (record { op = decode (same-slot m₀ u h p (eachOf m₀ h) j w kids m q i .rec); mark = true })
           (olds m₀ u h p (eachOf m₀ h) j w kids m q i) (news m₀ u h p (eachOf m₀ h) j w kids m q n e c refl i))
-          ∙ by-mark true (marked h) o c₀ (breakEach q₀ c₀) (shape o) ∙ sym (ap (λ t. planWithOrderBreakingVariants (setMark (marked h) t)) (view m₀ u h p .tree))
+          ∙ by-mark true (marked h) o c₀ (breakEach q₀ c₀) (shape o)
+          ∙ sym (ap (λ t. planWithOrderBreakingVariants (setMark (marked h) t)) (view m₀ u h p .tree))
 
-      pub break-end : (b : Bool) → b ≡ true → (m' : List ℕ) (r : At) → Grown m w m' r (Broke m (index h) (take n kids)) (w + 1) → Grown m₀ u m' r (breakOne b (treeOf m₀ h)) (u + sizeT (treeOf m₀ h))
-      break-end b eb m' r g = going-end m₀ u h p (eachOf m₀ h) j w kids m q n e c (breakOne b (treeOf m₀ h)) m' r (grown-as (broke ∙ sym (ap (λ z. breakOne z (treeOf m₀ h)) eb)) g)
+      pub break-end : (b : Bool) → b ≡ true → (m' : List ℕ) (r : At) → Grown m w m' r (Broke m (index h) (take n kids)) (w + 1)
+          → Grown m₀ u m' r (breakOne b (treeOf m₀ h)) (u + sizeT (treeOf m₀ h))
+      break-end b eb m' r g =
+          going-end m₀ u h p (eachOf m₀ h) j w kids m q n e c (breakOne b (treeOf m₀ h)) m' r (grown-as (broke ∙ sym (ap (λ z. breakOne z (treeOf m₀ h)) eb)) g)

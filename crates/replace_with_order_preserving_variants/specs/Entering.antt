@@ -93,8 +93,10 @@ module _ (m₀ : List ℕ) (u h : ℕ) (p : Enters m₀ u h) where
               (omega arith, record { arena = q .made .arena; here = omega arith; room = omega arith; small = omega arith })
 
           -- t: what the child becomes
-          pub going-more : (t : Tree) → each j (forest m₀ (drop j (slot m₀ (index h) .kids))) ≡ plant t (each (suc j) (forest m₀ (drop (suc j) (slot m₀ (index h) .kids))))
-              → (m' : List ℕ) → length m' ≡ length m → (r : At) → Grown m w m' r t (w + sizeT (treeOf m k)) → Going each m₀ u h (j + 1) (r .used) (set kids j (r .root)) m'
+          pub going-more : (t : Tree) → each j (forest m₀ (drop j (slot m₀ (index h) .kids)))
+              ≡ plant t (each (suc j) (forest m₀ (drop (suc j) (slot m₀ (index h) .kids))))
+              → (m' : List ℕ) → length m' ≡ length m → (r : At) → Grown m w m' r t (w + sizeT (treeOf m k))
+              → Going each m₀ u h (j + 1) (r .used) (set kids j (r .root)) m'
           going-more t f m' lm r g =
               let y = view .few in let s = ap size split in let v = q .left in let top = g .room in
               record {

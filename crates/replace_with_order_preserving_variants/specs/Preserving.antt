@@ -65,22 +65,26 @@ module _ (spr spm : Bool) (f : Fetch) (x : Bool) (c d : Forest Marked) where
       fetched Unlimited e = no-bool e
       fetched (AtMost n) e = refl
 
-  pub by-coalesce : (o : Op) → eqb (code o) 6 ≡ true → isFetchedCoalesce o ≡ false → preserveBy (shape o) spr spm f (record { op = o; mark = x }) c d ≡ mergeOver spm f (record { op = o; mark = true }) d
+  pub by-coalesce : (o : Op) → eqb (code o) 6 ≡ true → isFetchedCoalesce o ≡ false → preserveBy (shape o) spr spm f (record { op = o; mark = x }) c d
+      ≡ mergeOver spm f (record { op = o; mark = true }) d
   by-coalesce =
       op-ind (λ o. eqb (code o) 6 ≡ true → isFetchedCoalesce o ≡ false → Variant o ≡ mergeOver spm f (record { op = o; mark = true }) d) (λ p ks g e. no-bool e) (λ ks g e. no-bool e) (λ p n h ks e. no-bool e) plain
       (λ o a e. no-bool (sym (a .2) ∙ e))
     where
-      plain : (g : Fetch) → eqb (code (coalesce g)) 6 ≡ true → isFetchedCoalesce (coalesce g) ≡ false → Variant (coalesce g) ≡ mergeOver spm f (record { op = coalesce g; mark = true }) d
+      plain : (g : Fetch) → eqb (code (coalesce g)) 6 ≡ true → isFetchedCoalesce (coalesce g) ≡ false → Variant (coalesce g)
+          ≡ mergeOver spm f (record { op = coalesce g; mark = true }) d
       plain Unlimited e q = refl
       plain (AtMost n) e q = no-bool (sym q)
 
-  pub by-other : (o : Op) → eqb (code o) 5 ≡ false → eqb (code o) 6 ≡ false → preserveBy (shape o) spr spm f (record { op = o; mark = x }) c d ≡ rebuild o false d
+  pub by-other : (o : Op) → eqb (code o) 5 ≡ false → eqb (code o) 6 ≡ false → preserveBy (shape o) spr spm f (record { op = o; mark = x }) c d
+      ≡ rebuild o false d
   by-other =
       op-ind (λ o. eqb (code o) 5 ≡ false → eqb (code o) 6 ≡ false → Variant o ≡ rebuild o false d) (λ p ks g e q. refl) (λ ks g e q. refl) (λ p n h ks e q. no-bool (sym e)) (λ g e q. no-bool (sym q))
       (λ o a e q. ap (λ s. preserveBy s spr spm f (record { op = o; mark = x }) c d) (a .0))
 
 -- the node's own mark does not matter
-by-mark : (spr spm : Bool) (f : Fetch) (x y : Bool) (o : Op) (c d : Forest Marked) (s : Shape) → preserveBy s spr spm f (record { op = o; mark = x }) c d ≡ preserveBy s spr spm f (record { op = o; mark = y }) c d
+by-mark : (spr spm : Bool) (f : Fetch) (x y : Bool) (o : Op) (c d : Forest Marked) (s : Shape) → preserveBy s spr spm f (record { op = o; mark = x }) c d
+    ≡ preserveBy s spr spm f (record { op = o; mark = y }) c d
 by-mark spr spm f x y o c d (aSort p ks g) = refl
 by-mark spr spm f x y o c d (aMerge ks g) = refl
 by-mark spr spm f x y o c d (aRepartition p n h ks) = refl
@@ -134,19 +138,23 @@ module _ (m : List ℕ) (w i : ℕ) (r ks : List ℕ) (p : Puts m w r ks) (h : i
       d = forest m ks
 
       tests : (y : Bool) → not b && spr ≡ y
-          → cond y (rebuild (remark (λ q. true) (decode r)) false (markFirst true (forest m ks))) (rebuild (decode r) false (forest m ks)) ≡ preservedRepartition spr (decode r) (forest m (slot m i .kids)) (forest m ks)
-      tests y q = ap (λ z. cond z (rebuild (remark (λ q. true) (decode r)) false (markFirst true d)) (rebuild (decode r) false d)) (sym q ∙ ap (λ z. not z && spr) (hb ∙ ap (λ z. maintains (decode z) (known (forest m (slot m i .kids))) 0) (sym er)))
+          → cond y (rebuild (remark (λ q. true) (decode r)) false (markFirst true (forest m ks))) (rebuild (decode r) false (forest m ks))
+          ≡ preservedRepartition spr (decode r) (forest m (slot m i .kids)) (forest m ks)
+      tests y q =
+          ap (λ z. cond z (rebuild (remark (λ q. true) (decode r)) false (markFirst true d)) (rebuild (decode r) false d)) (sym q ∙ ap (λ z. not z && spr) (hb ∙ ap (λ z. maintains (decode z) (known (forest m (slot m i .kids))) 0) (sym er)))
 
       pub repartition-kept : not b && spr ≡ false → (m' : List ℕ) (a : At) → Grown m w m' a (rebuild (decode r) false (forest m ks)) (w + 1)
           → Grown m w m' a (preservedRepartition spr (decode r) (forest m (slot m i .kids)) (forest m ks)) (w + 1)
       repartition-kept q m' a g = subst (λ t. Grown m w m' a t (w + 1)) (tests false q) g
 
-      module _ (x : List ℕ) (hx : (n : ℕ) → r ≡ encode n (decode r) → x ≡ encode n (remark (λ q. true) (decode r))) (k : ℕ) (hk : Marks (getD ks 0 0) true k) where
+      module _ (x : List ℕ) (hx : (n : ℕ) → r ≡ encode n (decode r) → x ≡ encode n (remark (λ q. true) (decode r))) (k : ℕ)
+          (hk : Marks (getD ks 0 0) true k) where
         new-record : x ≡ encode 1 (remark (λ q. true) (decode r))
         new-record = hx 1 (p .canon ∙ ap (λ n. encode n (decode r)) one-child)
 
         pub repartition-puts : Puts m w x (k ∷ [])
-        repartition-puts = replaced-puts m w r ks p one-child true k hk (remark (λ q. true) (decode r)) x new-record (remark-ok m w r ks p one-child true (λ q. true))
+        repartition-puts =
+            replaced-puts m w r ks p one-child true k hk (remark (λ q. true) (decode r)) x new-record (remark-ok m w r ks p one-child true (λ q. true))
 
         pub repartition-marked : not b && spr ≡ true → (m' : List ℕ) (a : At) → Grown m w m' a (rebuild (decode x) false (forest m (k ∷ []))) (w + 1)
             → Grown m w m' a (preservedRepartition spr (decode r) (forest m (slot m i .kids)) (forest m ks)) (w + 1)
@@ -167,7 +175,8 @@ module _ (m : List ℕ) (w : ℕ) (r ks : List ℕ) (p : Puts m w r ks) (e : eqb
   one-below = single m w r ks p (treated-6 (decode r) e)
 
   -- a merge is not better
-  pub coalesce-plain : spm ≡ false → (m' : List ℕ) (a : At) → Grown m w m' a (rebuild (decode r) false (forest m ks)) (w + 1) → Grown m w m' a (mergeOver spm f (record { op = decode r; mark = true }) (forest m ks)) (w + 1)
+  pub coalesce-plain : spm ≡ false → (m' : List ℕ) (a : At) → Grown m w m' a (rebuild (decode r) false (forest m ks)) (w + 1)
+      → Grown m w m' a (mergeOver spm f (record { op = decode r; mark = true }) (forest m ks)) (w + 1)
   coalesce-plain q m' a g = subst (λ z. Grown m w m' a (mergeOver z f (record { op = decode r; mark = true }) (forest m ks)) (w + 1)) (sym q) g
 
   -- b: the row of the child
@@ -176,19 +185,23 @@ module _ (m : List ℕ) (w : ℕ) (r ks : List ℕ) (p : Puts m w r ks) (e : eqb
     order-is = let l = one-below in ap knownOrder (t .is ∙ ap (λ z. fact (treeOf m z)) hk ∙ sym (facts-at m ks 0 (omega arith)))
 
     by-order : (l : List Key) → l ≡ knownOrder (at0 (known (forest m ks)))
-        → cond (spm && not (isNil l)) (node (mergeOp l f) false (markFirst true (forest m ks))) (rebuild (decode r) false (forest m ks)) ≡ mergeOver spm f (record { op = decode r; mark = true }) (forest m ks)
+        → cond (spm && not (isNil l)) (node (mergeOp l f) false (markFirst true (forest m ks))) (rebuild (decode r) false (forest m ks))
+        ≡ mergeOver spm f (record { op = decode r; mark = true }) (forest m ks)
     by-order l q = ap (λ z. cond (spm && not (isNil z)) (node (mergeOp z f) false (markFirst true (forest m ks))) (rebuild (decode r) false (forest m ks))) q
 
     -- the child has no order
-    pub coalesce-unordered : (v : Order) → Ordered (knownOrder (told b)) v → v ≡ Unordered → (m' : List ℕ) (a : At) → Grown m w m' a (rebuild (decode r) false (forest m ks)) (w + 1)
+    pub coalesce-unordered : (v : Order) → Ordered (knownOrder (told b)) v → v ≡ Unordered → (m' : List ℕ) (a : At)
+        → Grown m w m' a (rebuild (decode r) false (forest m ks)) (w + 1)
         → Grown m w m' a (mergeOver spm f (record { op = decode r; mark = true }) (forest m ks)) (w + 1)
-    coalesce-unordered v q z m' a g = subst (λ z. Grown m w m' a z (w + 1)) (sym (ap (λ z. cond z (node (mergeOp [] f) false (markFirst true (forest m ks))) (rebuild (decode r) false (forest m ks))) (none spm)) ∙ by-order [] (ap orderOf (sym z) ∙ q .is ∙ order-is)) g
+    coalesce-unordered v q z m' a g =
+        subst (λ z. Grown m w m' a z (w + 1)) (sym (ap (λ z. cond z (node (mergeOp [] f) false (markFirst true (forest m ks))) (rebuild (decode r) false (forest m ks))) (none spm)) ∙ by-order [] (ap orderOf (sym z) ∙ q .is ∙ order-is)) g
       where
         none : (z : Bool) → z && false ≡ false
         none true = refl
         none false = refl
 
-    module _ (v : Order) (q : Ordered (knownOrder (told b)) v) (keys : Keys) (z : v ≡ By keys) (s : spm ≡ true) (ok : OkT (mergeOver spm f (record { op = decode r; mark = true }) (forest m ks)))
+    module _ (v : Order) (q : Ordered (knownOrder (told b)) v) (keys : Keys) (z : v ≡ By keys) (s : spm ≡ true)
+        (ok : OkT (mergeOver spm f (record { op = decode r; mark = true }) (forest m ks)))
         (x : List ℕ) (hx : x ≡ encode 1 (mergeOp (keysOf keys) f)) (h : ℕ) (hh : Marks k true h) where
       some : (n v : ℕ) → 0 < n → not (isNil (keysIn n v)) ≡ true
       some zero v l = absurd (omega arith)
@@ -208,13 +221,16 @@ module _ (m : List ℕ) (w : ℕ) (r ks : List ℕ) (p : Puts m w r ks) (e : eqb
       pub merge-puts : Puts m w x (h ∷ [])
       merge-puts = replaced-puts m w r ks p one-below true h marks (mergeOp (keysOf keys) f) x hx merged-ok
 
-      pub merge-grown : (m' : List ℕ) (a : At) → Grown m w m' a (node (decode x) false (forest m (h ∷ []))) (w + 1) → Grown m w m' a (mergeOver spm f (record { op = decode r; mark = true }) (forest m ks)) (w + 1)
-      merge-grown m' a g = subst (λ t. Grown m w m' a t (w + 1)) merged (replaced-grown m w r ks p one-below true h marks (mergeOp (keysOf keys) f) x hx merged-ok m' a (w + 1) g)
+      pub merge-grown : (m' : List ℕ) (a : At) → Grown m w m' a (node (decode x) false (forest m (h ∷ []))) (w + 1)
+          → Grown m w m' a (mergeOver spm f (record { op = decode r; mark = true }) (forest m ks)) (w + 1)
+      merge-grown m' a g =
+          subst (λ t. Grown m w m' a t (w + 1)) merged (replaced-grown m w r ks p one-below true h marks (mergeOp (keysOf keys) f) x hx merged-ok m' a (w + 1) g)
 
 -- ---- any node
 
 abbrev pub Became : List ℕ → ℕ → List ℕ → Bool → Bool → Fetch → Tree
-Became m i ks spr spm f = preserveBy (shape (decode (slot m i .rec))) spr spm f (record { op = decode (slot m i .rec); mark = true }) (forest m (slot m i .kids)) (forest m ks)
+Became m i ks spr spm f =
+    preserveBy (shape (decode (slot m i .rec))) spr spm f (record { op = decode (slot m i .rec); mark = true }) (forest m (slot m i .kids)) (forest m ks)
 
 -- One root of preserveEach
 abbrev pub preserveOne : Bool → Bool → Fetch → Tree → Tree
@@ -265,12 +281,16 @@ module _ (m₀ : List ℕ) (u h : ℕ) (spr spm : Bool) (f : Fetch) (p : Preserv
       }
 
   module _ (j w : ℕ) (kids m : List ℕ) (q : Going (eachOf spr spm f) m₀ u h j w kids m) where
-    pub preserve-next : (l : j < length (slot m₀ (index h) .kids)) (k : ℕ) → k ≡ getD (slot m (index h) .kids) j 0 → (sizeT (treeOf m k) < sizeT (treeOf m₀ h)) × Preserves m w k f
+    pub preserve-next : (l : j < length (slot m₀ (index h) .kids)) (k : ℕ) → k ≡ getD (slot m (index h) .kids) j 0
+        → (sizeT (treeOf m k) < sizeT (treeOf m₀ h)) × Preserves m w k f
     preserve-next l k e = let x = going-next m₀ u h E (eachOf spr spm f) j w kids m q l k e in (x .0, record { enters = x .1; fetch = p .fetch })
 
-    pub preserve-more : (l : j < length (slot m₀ (index h) .kids)) (k : ℕ) → k ≡ getD (slot m (index h) .kids) j 0 → (m' : List ℕ) → length m' ≡ length m → (r : At)
-        → Grown m w m' r (preserveOne spr spm f (treeOf m k)) (w + sizeT (treeOf m k)) → Going (eachOf spr spm f) m₀ u h (j + 1) (r .used) (set kids j (r .root)) m'
-    preserve-more l k e = going-more m₀ u h E (eachOf spr spm f) j w kids m q l k e (preserveOne spr spm f (treeOf m k)) (ap (preserveEach spr spm f) (split m₀ u h E (eachOf spr spm f) j w kids m q l k e))
+    pub preserve-more : (l : j < length (slot m₀ (index h) .kids)) (k : ℕ) → k ≡ getD (slot m (index h) .kids) j 0 → (m' : List ℕ) → length m' ≡ length m
+        → (r : At)
+        → Grown m w m' r (preserveOne spr spm f (treeOf m k)) (w + sizeT (treeOf m k))
+        → Going (eachOf spr spm f) m₀ u h (j + 1) (r .used) (set kids j (r .root)) m'
+    preserve-more l k e =
+        going-more m₀ u h E (eachOf spr spm f) j w kids m q l k e (preserveOne spr spm f (treeOf m k)) (ap (preserveEach spr spm f) (split m₀ u h E (eachOf spr spm f) j w kids m q l k e))
 
     -- all children are done
     module _ (n : ℕ) (e : n ≡ j) (c : n ≡ length (slot m₀ (index h) .kids)) where
@@ -292,13 +312,17 @@ module _ (m₀ : List ℕ) (u h : ℕ) (spr spm : Bool) (f : Fetch) (p : Preserv
           (olds m₀ u h E (eachOf spr spm f) j w kids m q i) (news m₀ u h E (eachOf spr spm f) j w kids m q n e c refl i)
 
       pub preserve-ok : OkT (Became m (index h) (take n kids) spr spm f)
-      preserve-ok = subst OkT (sym became) (preserveBy-kept spr spm f true c₀ (preserveEach spr spm f c₀) o (fit .0) (fit .1) all-kept .ok (p .fetch) (view m₀ u h E .ok))
+      preserve-ok =
+          subst OkT (sym became) (preserveBy-kept spr spm f true c₀ (preserveEach spr spm f c₀) o (fit .0) (fit .1) all-kept .ok (p .fetch) (view m₀ u h E .ok))
 
-      pub preserve-plain : (b : Bool) → b ≡ isFetchedCoalesce (decode (slot m₀ (index h) .rec)) → b ≡ false → isFetchedCoalesce (decode (slot m (index h) .rec)) ≡ false
+      pub preserve-plain : (b : Bool) → b ≡ isFetchedCoalesce (decode (slot m₀ (index h) .rec)) → b ≡ false
+          → isFetchedCoalesce (decode (slot m (index h) .rec)) ≡ false
       preserve-plain b x y = ap (λ z. isFetchedCoalesce (decode (z .rec))) (same-slot m₀ u h E (eachOf spr spm f) j w kids m q) ∙ sym x ∙ y
 
-      pub preserve-end : marked h ≡ true → (m' : List ℕ) (r : At) → Grown m w m' r (Became m (index h) (take n kids) spr spm f) (w + 1) → Grown m₀ u m' r (preserveOne spr spm f (treeOf m₀ h)) (u + sizeT (treeOf m₀ h))
-      preserve-end z m' r g = going-end m₀ u h E (eachOf spr spm f) j w kids m q n e c (preserveOne spr spm f (treeOf m₀ h)) m' r (grown-as (became ∙ sym (now z)) g)
+      pub preserve-end : marked h ≡ true → (m' : List ℕ) (r : At) → Grown m w m' r (Became m (index h) (take n kids) spr spm f) (w + 1)
+          → Grown m₀ u m' r (preserveOne spr spm f (treeOf m₀ h)) (u + sizeT (treeOf m₀ h))
+      preserve-end z m' r g =
+          going-end m₀ u h E (eachOf spr spm f) j w kids m q n e c (preserveOne spr spm f (treeOf m₀ h)) m' r (grown-as (became ∙ sym (now z)) g)
 
 -- ---- entered whether it is marked or not
 
@@ -308,7 +332,8 @@ module _ (m : List ℕ) (u h : ℕ) (spr spm : Bool) (f : Fetch) (p : Preserves 
       let v = p .enters in let l = v .here in let s = e .slot in let t = ap sizeT (e .tree m) in let r = v .room in let n = v .small in
       record { enters = record { arena = v .arena; here = omega arith; room = omega arith; small = omega arith }; fetch = p .fetch }
 
-  pub entered-grown : (m' : List ℕ) (a : At) → Grown m u m' a (preserveOne spr spm f (treeOf m k)) (u + sizeT (treeOf m k)) → Grown m u m' a (planWithOrderPreservingVariants spr spm f (treeOf m h)) (u + sizeT (treeOf m h))
+  pub entered-grown : (m' : List ℕ) (a : At) → Grown m u m' a (preserveOne spr spm f (treeOf m k)) (u + sizeT (treeOf m k))
+      → Grown m u m' a (planWithOrderPreservingVariants spr spm f (treeOf m h)) (u + sizeT (treeOf m h))
   entered-grown m' a g =
       let t = treeOf m h in
       subst (λ x. Grown m u m' a x (u + sizeT (treeOf m h))) (by-mark spr spm f true (t .top .mark) (opT t) (t .kids) (preserveEach spr spm f (t .kids)) (shape (opT t)))

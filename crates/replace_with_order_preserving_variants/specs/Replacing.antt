@@ -82,8 +82,10 @@ module _ (m : List ℕ) (w : ℕ) (r ks : List ℕ) (p : Puts m w r ks) where
               few = omega arith;
             }
 
-        pub replaced-grown : (m' : List ℕ) (a : At) (top : ℕ) → Grown m w m' a (node (decode x) false (forest m (h ∷ []))) top → Grown m w m' a (node o false (markFirst b (forest m ks))) top
+        pub replaced-grown : (m' : List ℕ) (a : At) (top : ℕ) → Grown m w m' a (node (decode x) false (forest m (h ∷ []))) top
+            → Grown m w m' a (node o false (markFirst b (forest m ks))) top
         replaced-grown m' a top g = subst (λ t. Grown m w m' a t top) tree-is g
 
-        pub rebuilt-grown : (m' : List ℕ) (a : At) (top : ℕ) → Grown m w m' a (rebuild (decode x) false (forest m (h ∷ []))) top → Grown m w m' a (rebuild o false (markFirst b (forest m ks))) top
+        pub rebuilt-grown : (m' : List ℕ) (a : At) (top : ℕ) → Grown m w m' a (rebuild (decode x) false (forest m (h ∷ []))) top
+            → Grown m w m' a (rebuild o false (markFirst b (forest m ks))) top
         rebuilt-grown m' a top g = subst (λ t. Grown m w m' a t top) (ap₂ (λ y f. rebuild y false f) decoded first-is) g
