@@ -182,7 +182,7 @@ breakOne e t = cond e (planWithOrderBreakingVariants t) t
 -- ---- the recursion
 
 -- Which children of node i are entered
-abbrev pub entering : List ℕ → ℕ → ℕ → Bool
+abbrev entering : List ℕ → ℕ → ℕ → Bool
 entering m i = enters (decode (slot m i .rec)) (known (forest m (slot m i .kids)))
 
 -- What its children become, from number j on

@@ -37,7 +37,7 @@ use Rattle.plan_context.specs.Nodes.{seen, counts-of}
 use Rattle.plan_context.specs.Facts.{Tells}
 use Rattle.plan_context.specs.Handles.{Marks}
 use Rattle.replace_with_order_preserving_variants.specs.Kinds.{op-ind, treated, one-kid, treated-5, treated-6}
-use Rattle.replace_with_order_preserving_variants.specs.Marking.{isFetchedCoalesce}
+use Rattle.replace_with_order_preserving_variants.specs.Marking.{isFetchedCoalesce, nothing-left}
 use Rattle.replace_with_order_preserving_variants.specs.Entering.{Enters, Going, view, same-slot, olds, split, going-next, going-more, news, going-puts, going-end}
 use Rattle.replace_with_order_preserving_variants.specs.Replacing.{grown-as, cond-le, first-size, single, remark-ok, replaced-puts, replaced-grown, rebuilt-grown}
 
@@ -56,7 +56,7 @@ module _ (spr spm : Bool) (f : Fetch) (x : Bool) (c d : Forest Marked) where
       op-ind (λ o. eqb (code o) 5 ≡ true → Variant o ≡ preservedRepartition spr o c d) (λ p ks g e. no-bool e) (λ ks g e. no-bool e) (λ p n h ks e. refl) (λ g e. no-bool e)
       (λ o a e. no-bool (sym (a .1) ∙ e))
 
-  pub by-fetched : (o : Op) → isFetchedCoalesce o ≡ true → preserveBy (shape o) spr spm f (record { op = o; mark = x }) c d ≡ node o false c
+  by-fetched : (o : Op) → isFetchedCoalesce o ≡ true → preserveBy (shape o) spr spm f (record { op = o; mark = x }) c d ≡ node o false c
   by-fetched =
       op-ind (λ o. isFetchedCoalesce o ≡ true → Variant o ≡ node o false c) (λ p ks g e. no-bool e) (λ ks g e. no-bool e) (λ p n h ks e. no-bool e) fetched
       (λ o a e. no-bool (ap (λ y. y && someFetch (cuts o .fetch)) (sym (a .2)) ∙ e))
@@ -112,9 +112,6 @@ each-size spr spm f (tree m c r) =
     let x = cond-le (suc (size c)) (m .mark) (preserveBy (shape (m .op)) spr spm f m c (preserveEach spr spm f c)) (at m c) (by-size (shape (m .op)) spr spm f m c (preserveEach spr spm f c) (each-size spr spm f c)) (omega arith) in
     let y = each-size spr spm f r in omega arith
 
-pub variants-size : (spr spm : Bool) (f : Fetch) (t : Tree) → sizeT (planWithOrderPreservingVariants spr spm f t) ≤ sizeT t
-variants-size spr spm f t = by-size (shape (opT t)) spr spm f (t .top) (t .kids) (preserveEach spr spm f (t .kids)) (each-size spr spm f (t .kids))
-
 -- ---- a repartition
 
 module _ (m : List ℕ) (w i : ℕ) (r ks : List ℕ) (p : Puts m w r ks) (h : i < w) where
@@ -145,7 +142,7 @@ module _ (m : List ℕ) (w i : ℕ) (r ks : List ℕ) (p : Puts m w r ks) (h : i
 
       pub repartition-kept : not b && spr ≡ false → (m' : List ℕ) (a : At) → Grown m w m' a (rebuild (decode r) false (forest m ks)) (w + 1)
           → Grown m w m' a (preservedRepartition spr (decode r) (forest m (slot m i .kids)) (forest m ks)) (w + 1)
-      repartition-kept q m' a g = subst (λ t. Grown m w m' a t (w + 1)) (tests false q) g
+      repartition-kept q m' a g = grown-as (tests false q) g
 
       module _ (x : List ℕ) (hx : (n : ℕ) → r ≡ encode n (decode r) → x ≡ encode n (remark (λ q. true) (decode r))) (k : ℕ)
           (hk : Marks (getD ks 0 0) true k) where
@@ -159,7 +156,7 @@ module _ (m : List ℕ) (w i : ℕ) (r ks : List ℕ) (p : Puts m w r ks) (h : i
         pub repartition-marked : not b && spr ≡ true → (m' : List ℕ) (a : At) → Grown m w m' a (rebuild (decode x) false (forest m (k ∷ []))) (w + 1)
             → Grown m w m' a (preservedRepartition spr (decode r) (forest m (slot m i .kids)) (forest m ks)) (w + 1)
         repartition-marked q m' a g =
-            subst (λ t. Grown m w m' a t (w + 1)) (tests true q)
+            grown-as (tests true q)
             (rebuilt-grown m w r ks p one-child true k hk (remark (λ q. true) (decode r)) x new-record (remark-ok m w r ks p one-child true (λ q. true)) m' a (w + 1) g)
 
 -- ---- a coalesce
@@ -168,9 +165,6 @@ pub order-few : (ks : List Key) (v : Order) (k : Keys) → Ordered ks v → v �
 order-few ks v k q z = subst Real z (q .real) .1
 
 module _ (m : List ℕ) (w : ℕ) (r ks : List ℕ) (p : Puts m w r ks) (e : eqb (code (decode r)) 6 ≡ true) (spm : Bool) (f : Fetch) where
-  abbrev M : Tree
-  M = mergeOver spm f (record { op = decode r; mark = true }) (forest m ks)
-
   pub one-below : length ks ≡ 1
   one-below = single m w r ks p (treated-6 (decode r) e)
 
@@ -194,11 +188,7 @@ module _ (m : List ℕ) (w : ℕ) (r ks : List ℕ) (p : Puts m w r ks) (e : eqb
         → Grown m w m' a (rebuild (decode r) false (forest m ks)) (w + 1)
         → Grown m w m' a (mergeOver spm f (record { op = decode r; mark = true }) (forest m ks)) (w + 1)
     coalesce-unordered v q z m' a g =
-        subst (λ z. Grown m w m' a z (w + 1)) (sym (ap (λ z. cond z (node (mergeOp [] f) false (markFirst true (forest m ks))) (rebuild (decode r) false (forest m ks))) (none spm)) ∙ by-order [] (ap orderOf (sym z) ∙ q .is ∙ order-is)) g
-      where
-        none : (z : Bool) → z && false ≡ false
-        none true = refl
-        none false = refl
+        grown-as (sym (ap (λ z. cond z (node (mergeOp [] f) false (markFirst true (forest m ks))) (rebuild (decode r) false (forest m ks))) (nothing-left spm)) ∙ by-order [] (ap orderOf (sym z) ∙ q .is ∙ order-is)) g
 
     module _ (v : Order) (q : Ordered (knownOrder (told b)) v) (keys : Keys) (z : v ≡ By keys) (s : spm ≡ true)
         (ok : OkT (mergeOver spm f (record { op = decode r; mark = true }) (forest m ks)))
@@ -224,7 +214,7 @@ module _ (m : List ℕ) (w : ℕ) (r ks : List ℕ) (p : Puts m w r ks) (e : eqb
       pub merge-grown : (m' : List ℕ) (a : At) → Grown m w m' a (node (decode x) false (forest m (h ∷ []))) (w + 1)
           → Grown m w m' a (mergeOver spm f (record { op = decode r; mark = true }) (forest m ks)) (w + 1)
       merge-grown m' a g =
-          subst (λ t. Grown m w m' a t (w + 1)) merged (replaced-grown m w r ks p one-below true h marks (mergeOp (keysOf keys) f) x hx merged-ok m' a (w + 1) g)
+          grown-as merged (replaced-grown m w r ks p one-below true h marks (mergeOp (keysOf keys) f) x hx merged-ok m' a (w + 1) g)
 
 -- ---- any node
 

@@ -49,7 +49,7 @@ module _ (m : List ℕ) (w : ℕ) (r ks : List ℕ) (p : Puts m w r ks) where
         (remark-like g (decode r) .ok (map (λ F. F .width) (known (markFirst b (forest m ks)))) (x .0), x .1)
 
     module _ (h : ℕ) (k : Marks (getD ks 0 0) b h) where
-      pub first-is : forest m (h ∷ []) ≡ markFirst b (forest m ks)
+      first-is : forest m (h ∷ []) ≡ markFirst b (forest m ks)
       unfolding forest
       first-is = one m h ∙ ap (λ t. plant t none) (k .tree m) ∙ go ks n
         where
@@ -58,7 +58,7 @@ module _ (m : List ℕ) (w : ℕ) (r ks : List ℕ) (p : Puts m w r ks) where
           go (x ∷ []) e = refl
           go (x ∷ y ∷ l) e = absurd (omega arith)
 
-      pub first-low : h < 2 * w
+      first-low : h < 2 * w
       first-low = let s = k .slot in let l = below-at (2 * w) ks 0 (p .below) (omega arith) in omega arith
 
       -- x: the record of the new node o
