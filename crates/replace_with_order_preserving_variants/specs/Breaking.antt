@@ -2,18 +2,15 @@
 use mathlib.Core.Path.{_≡_, refl, sym, ap, ap₂, _∙_, subst}
 use mathlib.Core.Bool.{Bool, true, false, cond, not, _&&_, _||_}
 use mathlib.Core.List.{List, [], _∷_, map}
-use Prim.Native.Nat.{ℕ, zero, suc, _+_, _*_, _/_, _≤_, _<_}
+use Prim.Native.Nat.{ℕ, zero, suc, _+_, _≤_, _<_}
 use native.Mathlib.Omega.{arith}
-use native.Mathlib.Numerals.{add-one}
 use lib.Dec.{eqb}
-use lib.ListN.{length, getD, take, drop, set, drop-of-length-le}
-use lib.Seq.{drop-cons, length-take-le}
+use lib.ListN.{length, getD, take, drop, set}
 use Rattle.row_order.specs.Order.{no-bool}
 use Rattle.plan.specs.Forest.{Forest, none, tree, size}
 use Rattle.plan.specs.Op.{Op, repartition, coalesce, mergeOp}
 use Rattle.plan.specs.Numbers.{code}
 use Rattle.plan.specs.WellFormed.{nodeOk}
-use Rattle.plan_format.specs.Record.{children}
 use Rattle.plan_codec.specs.Decode.{decode}
 use Rattle.plan_codec.specs.Encode.{encode}
 use Rattle.semantics.specs.Facts.{Facts, at0, isNil, keepsOrder, met, nothing}
@@ -22,30 +19,27 @@ use Rattle.key_lists.specs.Keys.{keysIn, keysOf, orderOf, Real, Ordered}
 use Rattle.key_lists.specs.declared.Keys.{Keys}
 use Rattle.key_lists.specs.declared.Order.{Order}
 use Rattle.key_lists.specs.declared.Order.the-variants.{Unordered, By}
-use Rattle.arena.specs.Arena.{slotSize, index, marked, slot, Below}
+use Rattle.arena.specs.Arena.{index, marked, slot}
 use Rattle.arena.specs.declared.At.{At}
-use Rattle.arena.specs.Laws.{below-at, below-more}
-use Rattle.walks.specs.Marks.{Marked, Tree, strip, known, at, node, plant, opT, sizeT, setMark, Shape, aSort, aMerge, aRepartition, aCoalesce, another, shape, rebuild}
-use Rattle.walks.specs.Terms.{_⊕_}
-use Rattle.walks.specs.Trees.{OkT, Fit, FitsA, arity, count, ok-fit}
+use Rattle.walks.specs.Marks.{Marked, Tree, strip, known, at, node, plant, sizeT, setMark, Shape, aSort, aMerge, aRepartition, aCoalesce, another, shape, rebuild}
+use Rattle.walks.specs.Trees.{OkT, ok-fit}
 use Rattle.walks.specs.NewNodes.{coalesce-ok, node-fetch, over-of}
-use Rattle.walks.specs.Keeps.{KeepsAll, kept-node, like-refl}
+use Rattle.walks.specs.Keeps.{kept-node, like-refl}
 use Rattle.walks.specs.Utils.{isSortPreservingMerge}
 use Rattle.walks.specs.OrderPreserving.{markFirst, enters, breakBy, breakEach, planWithOrderBreakingVariants}
 use Rattle.walks.specs.OrderPreservingKept.{strip-first, breakEach-kept}
-use Rattle.plan_context.specs.View.{treeOf, forest, mostSlots, Arena, Grown, Puts}
-use Rattle.plan_context.specs.Laws.{slot-same, forest-same, tree-same, same-trans, fewer}
-use Rattle.plan_context.specs.Nodes.{Seen, seen}
+use Rattle.plan_context.specs.View.{treeOf, forest, Grown, Puts}
 use Rattle.plan_context.specs.Handles.{Marks}
-use Rattle.plan_context.specs.Kids.{Kids, kids-none, kids-more, kids-forest, plus-none}
 use Rattle.replace_with_order_preserving_variants.specs.Kinds.{op-ind, treated-5, treated-8}
 use Rattle.replace_with_order_preserving_variants.specs.Marking.{from, from-first, from-next, marks-ok}
-use Rattle.replace_with_order_preserving_variants.specs.Replacing.{grown-as, first-size, single, remark-ok, replaced-puts, replaced-grown}
+use Rattle.replace_with_order_preserving_variants.specs.Entering.{Enters, Going, view, same-slot, olds, split, going-more, news, going-puts, going-end}
+use Rattle.replace_with_order_preserving_variants.specs.Replacing.{grown-as, cond-le, first-size, single, remark-ok, replaced-puts, replaced-grown}
 
 -- ---- which children are entered
 
 module _ (o : Op) (fs : List Facts) (j : ℕ) where
-  tests : (x y z w : Bool) → x ≡ maintains o fs j → y ≡ isSortPreservingMerge o → z ≡ isNil (wanted o j) → w ≡ met (getD fs j nothing) (wanted o j) → x && (y || (z || not w)) ≡ enters o fs j
+  tests : (x y z w : Bool) → x ≡ maintains o fs j → y ≡ isSortPreservingMerge o → z ≡ isNil (wanted o j) → w ≡ met (getD fs j nothing) (wanted o j)
+      → x && (y || (z || not w)) ≡ enters o fs j
   tests x y z w a b c d = ap₂ _&&_ a (ap₂ _||_ b (ap₂ (λ p q. p || not q) c d))
 
   pub enters-lost : (x : Bool) → x ≡ maintains o fs j → x ≡ false → false ≡ enters o fs j
@@ -110,10 +104,6 @@ merge-coalesce ws =
 
 -- ---- sizes: nothing is added
 
-cond-le : (n : ℕ) (x : Bool) (t u : Tree) → sizeT t ≤ n → sizeT u ≤ n → sizeT (cond x t u) ≤ n
-cond-le n true t u h k = h
-cond-le n false t u h k = k
-
 by-size : (s : Shape) (m : Marked) (c d : Forest Marked) → size d ≤ size c → sizeT (breakBy s m c d) ≤ suc (size c)
 by-size (aSort p ks g) m c d h = omega arith
 by-size (aMerge ks g) m c d h = let x = first-size false d in omega arith
@@ -134,13 +124,17 @@ each-size q (tree m c r) =
 module _ (m : List ℕ) (w i : ℕ) (r ks : List ℕ) (p : Puts m w r ks) (er : r ≡ slot m i .rec) (e : eqb (code (decode r)) 5 ≡ true) (b : Bool)
     (hb : b ≡ maintains (decode (slot m i .rec)) (known (forest m (slot m i .kids))) 0) where
   parts : (y : Bool) → b ≡ y
-      → cond y (node (remark (λ q. false) (decode r)) false (markFirst false (forest m ks))) (rebuild (decode r) false (forest m ks)) ≡ brokenRepartition (decode r) (forest m (slot m i .kids)) (forest m ks)
-  parts y q = ap (λ z. cond z (node (remark (λ q. false) (decode r)) false (markFirst false (forest m ks))) (rebuild (decode r) false (forest m ks))) (sym q ∙ hb ∙ ap (λ z. maintains (decode z) (known (forest m (slot m i .kids))) 0) (sym er))
+      → cond y (node (remark (λ q. false) (decode r)) false (markFirst false (forest m ks))) (rebuild (decode r) false (forest m ks))
+      ≡ brokenRepartition (decode r) (forest m (slot m i .kids)) (forest m ks)
+  parts y q =
+      ap (λ z. cond z (node (remark (λ q. false) (decode r)) false (markFirst false (forest m ks))) (rebuild (decode r) false (forest m ks))) (sym q ∙ hb ∙ ap (λ z. maintains (decode z) (known (forest m (slot m i .kids))) 0) (sym er))
 
-  pub repartition-kept : b ≡ false → (m' : List ℕ) (a : At) → Grown m w m' a (rebuild (decode r) false (forest m ks)) (w + 1) → Grown m w m' a (brokenRepartition (decode r) (forest m (slot m i .kids)) (forest m ks)) (w + 1)
+  pub repartition-kept : b ≡ false → (m' : List ℕ) (a : At) → Grown m w m' a (rebuild (decode r) false (forest m ks)) (w + 1)
+      → Grown m w m' a (brokenRepartition (decode r) (forest m (slot m i .kids)) (forest m ks)) (w + 1)
   repartition-kept q m' a g = grown-as (parts false q) g
 
-  module _ (x : List ℕ) (hx : (n : ℕ) → r ≡ encode n (decode r) → x ≡ encode n (remark (λ q. false) (decode r))) (k : ℕ) (hk : Marks (getD ks 0 0) false k) where
+  module _ (x : List ℕ) (hx : (n : ℕ) → r ≡ encode n (decode r) → x ≡ encode n (remark (λ q. false) (decode r))) (k : ℕ)
+      (hk : Marks (getD ks 0 0) false k) where
     one-child : length ks ≡ 1
     one-child = single m w r ks p (treated-5 (decode r) e)
 
@@ -148,7 +142,8 @@ module _ (m : List ℕ) (w i : ℕ) (r ks : List ℕ) (p : Puts m w r ks) (er : 
     new-record = hx 1 (p .canon ∙ ap (λ n. encode n (decode r)) one-child)
 
     pub repartition-puts : Puts m w x (k ∷ [])
-    repartition-puts = replaced-puts m w r ks p one-child false k hk (remark (λ q. false) (decode r)) x new-record (remark-ok m w r ks p one-child false (λ q. false))
+    repartition-puts =
+        replaced-puts m w r ks p one-child false k hk (remark (λ q. false) (decode r)) x new-record (remark-ok m w r ks p one-child false (λ q. false))
 
     pub repartition-broken : b ≡ true → (m' : List ℕ) (a : At) → Grown m w m' a (node (decode x) false (forest m (k ∷ []))) (w + 1)
         → Grown m w m' a (brokenRepartition (decode r) (forest m (slot m i .kids)) (forest m ks)) (w + 1)
@@ -171,7 +166,8 @@ module _ (m : List ℕ) (w : ℕ) (r ks : List ℕ) (p : Puts m w r ks) (e : eqb
     pub merge-puts : Puts m w x (k ∷ [])
     merge-puts = replaced-puts m w r ks p one-below false k hk (coalesce (cuts (decode r) .fetch)) x hx coalesced-ok
 
-    pub merge-broken : (m' : List ℕ) (a : At) → Grown m w m' a (node (decode x) false (forest m (k ∷ []))) (w + 1) → Grown m w m' a (brokenMerge (decode r) (forest m ks)) (w + 1)
+    pub merge-broken : (m' : List ℕ) (a : At) → Grown m w m' a (node (decode x) false (forest m (k ∷ []))) (w + 1)
+        → Grown m w m' a (brokenMerge (decode r) (forest m ks)) (w + 1)
     merge-broken m' a g = replaced-grown m w r ks p one-below false k hk (coalesce (cuts (decode r) .fetch)) x hx coalesced-ok m' a (w + 1) g
 
 -- ---- any node
@@ -185,164 +181,54 @@ breakOne e t = cond e (planWithOrderBreakingVariants t) t
 
 -- ---- the recursion
 
-pub record Breaks (m : List ℕ) (u h : ℕ) : Type 0 where
-  pub arena : Arena m u
-  pub here : h < 2 * u
-  pub room : (u + sizeT (treeOf m h)) * slotSize ≤ length m
-  pub small : u + sizeT (treeOf m h) ≤ mostSlots
-
 -- Which children of node i are entered
-abbrev pub entering : List ℕ → ℕ → ℕ → Bool
+abbrev entering : List ℕ → ℕ → ℕ → Bool
 entering m i = enters (decode (slot m i .rec)) (known (forest m (slot m i .kids)))
 
--- The first j children are done
-pub record Going (m₀ : List ℕ) (u h : ℕ) (j w : ℕ) (kids m : List ℕ) : Type 0 where
-  pub made : Kids m₀ u j w kids m
-  pub is : forest m (take j kids) ⊕ breakEach (from (entering m₀ (index h)) j) (forest m₀ (drop j (slot m₀ (index h) .kids))) ≡ breakEach (entering m₀ (index h)) (forest m₀ (slot m₀ (index h) .kids))
-  pub left : w + size (forest m₀ (drop j (slot m₀ (index h) .kids))) ≤ u + size (forest m₀ (slot m₀ (index h) .kids))
+-- What its children become, from number j on
+abbrev pub eachOf : List ℕ → ℕ → ℕ → Forest Marked → Forest Marked
+eachOf m h j c = breakEach (from (entering m (index h)) j) c
 
-module _ (m₀ : List ℕ) (u h : ℕ) (p : Breaks m₀ u h) where
-  abbrev hs : List ℕ
-  hs = slot m₀ (index h) .kids
-
+module _ (m₀ : List ℕ) (u h : ℕ) (p : Enters m₀ u h) where
   abbrev q₀ : ℕ → Bool
   q₀ = entering m₀ (index h)
 
-  half : index h < u
-  half = let l = p .here in omega arith
+  abbrev o : Op
+  o = decode (slot m₀ (index h) .rec)
 
-  view : Seen m₀ (index h)
-  view = seen m₀ (index h) (p .arena .all (index h) half .proper)
-
-  whole : sizeT (treeOf m₀ h) ≡ suc (size (forest m₀ (slot m₀ (index h) .kids)))
-  whole = ap sizeT (view .tree)
-
-  pub first-room : (index h + 1) * slotSize ≤ length m₀
-  first-room = let l = half in let s = p .arena .slots in omega arith
+  abbrev c₀ : Forest Marked
+  c₀ = forest m₀ (slot m₀ (index h) .kids)
 
   pub stays : (e : Bool) → e ≡ false → Grown m₀ u m₀ (record { used = u; root = h }) (breakOne e (treeOf m₀ h)) (u + sizeT (treeOf m₀ h))
   stays e z =
       record { arena = p .arena; old = refl; more = omega arith; here = p .here; tree = sym (ap (λ x. breakOne x (treeOf m₀ h)) z); room = omega arith }
 
-  pub going-none : (kids : List ℕ) → length kids ≡ 8 → Going m₀ u h 0 u kids m₀
-  unfolding forest
-  going-none kids l = record { made = kids-none m₀ u kids (p .arena) l; is = refl; left = omega arith }
-
-  module _ (j w : ℕ) (kids m : List ℕ) (q : Going m₀ u h j w kids m) where
-    -- the node is still there
-    same-slot : slot m (index h) ≡ slot m₀ (index h)
-    same-slot = slot-same u m₀ m (q .made .old) (index h) half
-
-    pub node-room : (index h + 1) * slotSize ≤ length m
-    node-room = let l = q .made .long in let s = p .arena .slots in let x = half in omega arith
-
-    pub node-arena : Arena m (index h + 1)
-    node-arena = let x = half in let y = q .made .more in fewer m w (index h + 1) (omega arith) (q .made .arena)
-
-    pub few-kids : (children (slot m (index h) .rec) ≤ 8) × (children (slot m (index h) .rec) ≡ length (slot m₀ (index h) .kids))
-    few-kids = let x = view .few in let y = view .count in let z = ap (λ n. children (n .rec)) same-slot in (omega arith, omega arith)
-
-    olds : forest m (slot m (index h) .kids) ≡ forest m₀ (slot m₀ (index h) .kids)
-    olds = ap (λ x. forest m (x .kids)) same-slot ∙ forest-same u m₀ m (q .made .old) hs (below-more hs (let x = p .here in omega arith) (view .below))
-
-    module _ (l : j < length (slot m₀ (index h) .kids)) where
-      pub kid-there : j < length (slot m (index h) .kids)
-      kid-there = let z = ap (λ n. length (n .kids)) same-slot in omega arith
-
-      module _ (k : ℕ) (e : k ≡ getD (slot m (index h) .kids) j 0) where
-        kid : k ≡ getD (slot m₀ (index h) .kids) j 0
-        kid = e ∙ ap (λ n. getD (n .kids) j 0) same-slot
-
-        kid-below : k < 2 * u
-        kid-below = let x = below-at (2 * index h) hs j (view .below) l in let y = kid in let z = p .here in omega arith
-
-        kid-same : treeOf m k ≡ treeOf m₀ (getD (slot m₀ (index h) .kids) j 0)
-        kid-same = tree-same u m₀ m (q .made .old) k kid-below ∙ ap (treeOf m₀) kid
-
-        split : forest m₀ (drop j (slot m₀ (index h) .kids)) ≡ plant (treeOf m k) (forest m₀ (drop (suc j) (slot m₀ (index h) .kids)))
-        unfolding forest
-        split = ap (forest m₀) (drop-cons hs j 0 l) ∙ ap (λ t. plant t (forest m₀ (drop (suc j) hs))) (sym kid-same)
-
-        pub going-next : (sizeT (treeOf m k) < sizeT (treeOf m₀ h)) × Breaks m w k
-        going-next =
-            let s = ap size split in let t = whole in let v = q .left in let o = q .made .long in let r = p .room in let n = p .small in let x = q .made .more in let y = kid-below in
-            (omega arith, record { arena = q .made .arena; here = omega arith; room = omega arith; small = omega arith })
-
-        module _ (b : Bool) (eb : b ≡ entering m (index h) j) where
-          asked : b ≡ entering m₀ (index h) j
-          asked = eb ∙ (λ i. enters (decode (same-slot i .rec)) (known (olds i)) j)
-
-          split-each : breakEach (from (entering m₀ (index h)) j) (forest m₀ (drop j (slot m₀ (index h) .kids))) ≡ plant (breakOne b (treeOf m k)) (breakEach (from (entering m₀ (index h)) (suc j)) (forest m₀ (drop (suc j) (slot m₀ (index h) .kids))))
-          split-each =
-              ap (breakEach (from q₀ j)) split
-              ∙ ap₂ (λ x g. plant (breakOne x (treeOf m k)) (breakEach g (forest m₀ (drop (suc j) hs)))) (from-first q₀ j ∙ sym asked) (from-next q₀ j)
-
-          pub going-more : (m' : List ℕ) → length m' ≡ length m → (r : At) → Grown m w m' r (breakOne b (treeOf m k)) (w + sizeT (treeOf m k)) → Going m₀ u h (j + 1) (r .used) (set kids j (r .root)) m'
-          going-more m' lm r g =
-              let y = view .few in let s = ap size split in let v = q .left in let top = g .room in
-              record {
-                made = kids-more m₀ u j w kids m (q .made) (omega arith) m' lm r (breakOne b (treeOf m k)) (w + sizeT (treeOf m k)) g;
-                is = kids-forest m₀ u j w kids m (q .made) (omega arith) m' lm r (breakOne b (treeOf m k)) (w + sizeT (treeOf m k)) g (breakEach (from q₀ (j + 1)) (forest m₀ (drop (j + 1) hs)))
-                    ∙ rw (add-one j) (ap (λ x. forest m (take j kids) ⊕ x) (sym split-each)) ∙ q .is;
-                left = rw (add-one j) (omega arith);
-              }
+  module _ (j w : ℕ) (kids m : List ℕ) (q : Going (eachOf m₀ h) m₀ u h j w kids m) where
+    pub break-more : (l : j < length (slot m₀ (index h) .kids)) (k : ℕ) → k ≡ getD (slot m (index h) .kids) j 0 → (b : Bool) → b ≡ entering m (index h) j
+        → (m' : List ℕ) → length m' ≡ length m → (r : At)
+        → Grown m w m' r (breakOne b (treeOf m k)) (w + sizeT (treeOf m k)) → Going (eachOf m₀ h) m₀ u h (j + 1) (r .used) (set kids j (r .root)) m'
+    break-more l k e b eb =
+        let asked : b ≡ q₀ j = (eb ∙ (λ i. enters (decode (same-slot m₀ u h p (eachOf m₀ h) j w kids m q i .rec)) (known (olds m₀ u h p (eachOf m₀ h) j w kids m q i)) j)) in
+        going-more m₀ u h p (eachOf m₀ h) j w kids m q l k e (breakOne b (treeOf m k))
+        (ap (breakEach (from q₀ j)) (split m₀ u h p (eachOf m₀ h) j w kids m q l k e)
+        ∙ ap₂ (λ x g. plant (breakOne x (treeOf m k)) (breakEach g (forest m₀ (drop (suc j) (slot m₀ (index h) .kids))))) (from-first q₀ j ∙ sym asked) (from-next q₀ j))
 
     -- all children are done
     module _ (n : ℕ) (e : n ≡ j) (c : n ≡ length (slot m₀ (index h) .kids)) where
-      abbrev o : Op
-      o = decode (slot m₀ (index h) .rec)
-
-      abbrev c₀ : Forest Marked
-      c₀ = forest m₀ (slot m₀ (index h) .kids)
-
-      counted : length (take n kids) ≡ length (slot m₀ (index h) .kids)
-      counted = let y = view .few in let z = q .made .wide in length-take-le n kids (omega arith) ∙ c
-
-      news : forest m (take n kids) ≡ breakEach (entering m₀ (index h)) (forest m₀ (slot m₀ (index h) .kids))
-      unfolding forest
-      news =
-          let d : drop j hs ≡ [] = drop-of-length-le hs {i = j} (omega arith) in
-          ap (λ i. forest m (take i kids)) e ∙ sym (plus-none (forest m (take j kids))) ∙ ap (λ l. forest m (take j kids) ⊕ breakEach (from q₀ j) (forest m₀ l)) (sym d) ∙ q .is
-
-      fit : FitsA (arity (decode (slot m₀ (index h) .rec))) (count (strip (forest m₀ (slot m₀ (index h) .kids)))) × Fit (strip (forest m₀ (slot m₀ (index h) .kids)))
-      fit = let x = view .ok in let y = ok-fit (tree o (strip c₀) none) (x .0, x .1, tt) in (y .0, y .1)
-
-      all-kept : KeepsAll false true true (forest m₀ (slot m₀ (index h) .kids)) (breakEach (entering m₀ (index h)) (forest m₀ (slot m₀ (index h) .kids)))
-      all-kept = breakEach-kept q₀ c₀ (fit .1)
-
-      open-ok : OkT (node (decode (slot m₀ (index h) .rec)) false (breakEach (entering m₀ (index h)) (forest m₀ (slot m₀ (index h) .kids))))
-      open-ok = kept-node {a = false} {b = true} {h = true} o o false false c₀ (breakEach q₀ c₀) (like-refl o) (fit .0) all-kept .ok refl (view .ok)
-
-      pub going-puts : Puts m w (slot m (index h) .rec) (take n kids)
-      going-puts =
-          let v = q .left in let t = whole in let l = q .made .long in let r = p .room in let s = p .small in let x = q .made .more in
-          let y = ap size news in let z = each-size q₀ c₀ in let k = view .small in
-          record {
-            arena = q .made .arena;
-            room = omega arith;
-            small = omega arith;
-            below = subst (λ i. Below (2 * w) (take i kids)) (sym e) (q .made .below);
-            canon = subst (λ y. y .rec ≡ encode (length (take n kids)) (decode (y .rec))) (sym same-slot) (view .canon ∙ ap (λ i. encode i o) (sym counted));
-            ok = subst OkT (λ i. node (decode (sym same-slot i .rec)) false (sym news i)) open-ok;
-            few = omega arith;
-          }
-
-      pub going-here : index h < w
-      going-here = let x = q .made .more in let y = half in omega arith
+      pub break-puts : Puts m w (slot m (index h) .rec) (take n kids)
+      break-puts =
+          let x = view m₀ u h p .ok in let y = ok-fit (tree o (strip c₀) none) (x .0, x .1, tt) in
+          going-puts m₀ u h p (eachOf m₀ h) j w kids m q n e c refl (each-size q₀ c₀)
+          (kept-node {a = false} {b = true} {h = true} o o false false c₀ (breakEach q₀ c₀) (like-refl o) (y .0) (breakEach-kept q₀ c₀ (y .1)) .ok refl x)
 
       broke : Broke m (index h) (take n kids) ≡ planWithOrderBreakingVariants (treeOf m₀ h)
       broke =
-          (λ i. breakBy (shape (decode (same-slot i .rec))) (record { op = decode (same-slot i .rec); mark = true }) (olds i) (news i))
-          ∙ by-mark true (marked h) o c₀ (breakEach q₀ c₀) (shape o) ∙ sym (ap (λ t. planWithOrderBreakingVariants (setMark (marked h) t)) (view .tree))
+          (λ i. breakBy (shape (decode (same-slot m₀ u h p (eachOf m₀ h) j w kids m q i .rec))) (record { op = decode (same-slot m₀ u h p (eachOf m₀ h) j w kids m q i .rec); mark = true })
+          (olds m₀ u h p (eachOf m₀ h) j w kids m q i) (news m₀ u h p (eachOf m₀ h) j w kids m q n e c refl i))
+          ∙ by-mark true (marked h) o c₀ (breakEach q₀ c₀) (shape o)
+          ∙ sym (ap (λ t. planWithOrderBreakingVariants (setMark (marked h) t)) (view m₀ u h p .tree))
 
-      pub going-end : (b : Bool) → b ≡ true → (m' : List ℕ) (r : At) → Grown m w m' r (Broke m (index h) (take n kids)) (w + 1) → Grown m₀ u m' r (breakOne b (treeOf m₀ h)) (u + sizeT (treeOf m₀ h))
-      going-end b eb m' r g =
-          let v = q .left in let t = whole in let x = q .made .more in let y = g .room in let a = g .more in
-          record {
-            arena = g .arena;
-            old = same-trans u w m₀ m m' x (q .made .old) (g .old);
-            more = omega arith;
-            here = g .here;
-            tree = g .tree ∙ broke ∙ sym (ap (λ z. breakOne z (treeOf m₀ h)) eb);
-            room = omega arith;
-          }
+      pub break-end : (b : Bool) → b ≡ true → (m' : List ℕ) (r : At) → Grown m w m' r (Broke m (index h) (take n kids)) (w + 1)
+          → Grown m₀ u m' r (breakOne b (treeOf m₀ h)) (u + sizeT (treeOf m₀ h))
+      break-end b eb m' r g =
+          going-end m₀ u h p (eachOf m₀ h) j w kids m q n e c (breakOne b (treeOf m₀ h)) m' r (grown-as (broke ∙ sym (ap (λ z. breakOne z (treeOf m₀ h)) eb)) g)

@@ -1,6 +1,6 @@
 -- The kinds that the walk treats apart, by the tests that the code makes.
 use mathlib.Core.Path.{_≡_, refl, sym, ap, ap₂, _∙_}
-use mathlib.Core.Bool.{Bool, true, false, _&&_, _||_}
+use mathlib.Core.Bool.{Bool, true, false, _||_}
 use mathlib.Core.List.{List}
 use Prim.Native.Nat.{ℕ}
 use borrow.Author.Tests.{eqb-true}
@@ -14,7 +14,7 @@ use Rattle.plan.specs.declared.Fetch.{Fetch}
 use Rattle.walks.specs.Marks.{another, shape}
 
 -- None of the four that are treated apart
-abbrev pub Apart : Op → Type 0
+abbrev Apart : Op → Type 0
 Apart o = (shape o ≡ another) × (eqb (code o) 5 ≡ false) × (eqb (code o) 6 ≡ false) × (eqb (code o) 7 ≡ false) × (eqb (code o) 8 ≡ false)
 
 pub op-ind : (P : Op → Type 0) → ((p : Bool) (ks : List Key) (f : Fetch) → P (sortOp p ks f)) → ((ks : List Key) (f : Fetch) → P (mergeOp ks f))

@@ -7,7 +7,6 @@ use native.Mathlib.Omega.{arith}
 use native.Mathlib.Numerals.{add-one}
 use lib.ListN.{length, getD, take, drop, set, drop-of-length-le}
 use lib.Seq.{drop-cons, length-take-le}
-use Rattle.row_order.specs.Order.{no-bool}
 use Rattle.plan.specs.Forest.{Forest, none, tree, roots, size}
 use Rattle.plan.specs.Op.{Op, Plan}
 use Rattle.plan.specs.WellFormed.{someFetch, nodeOk}
@@ -25,7 +24,7 @@ use Rattle.walks.specs.Utils.{isCoalescePartitions}
 use Rattle.walks.specs.OrderPreserving.{inspectChild, masked, inspected, initiates, carries, carryEach}
 use Rattle.walks.specs.OrderPreservingKept.{strip-masked}
 use Rattle.plan_context.specs.View.{treeOf, forest, mostSlots, Arena, Grown, Puts}
-use Rattle.plan_context.specs.Laws.{fewer, same-trans, tree-same}
+use Rattle.plan_context.specs.Laws.{fewer, tree-same}
 use Rattle.plan_context.specs.Handles.{Marks}
 use Rattle.plan_context.specs.Kids.{Kids, kids-none, kids-more, kids-forest, plus-none}
 use Rattle.replace_with_order_preserving_variants.specs.Nodes.{shown, kid-below}
@@ -130,7 +129,8 @@ module _ (m : List ℕ) (i : ℕ) (p : ℕ → Bool) (a : Arena m (i + 1)) where
           let s = c .slot in let b = kid-below m i a j l k e in
           record { arena = a; old = refl; more = omega arith; here = omega arith; tree = c .tree m ∙ ap (λ z. setMark z (treeOf m k)) hx; room = omega arith }
 
-      split : masked (from p j) (forest m (drop j (slot m i .kids))) ≡ plant (setMark (marked k && p j) (treeOf m k)) (masked (from p (suc j)) (forest m (drop (suc j) (slot m i .kids))))
+      split : masked (from p j) (forest m (drop j (slot m i .kids)))
+          ≡ plant (setMark (marked k && p j) (treeOf m k)) (masked (from p (suc j)) (forest m (drop (suc j) (slot m i .kids))))
       unfolding forest
       split =
           ap (λ z. masked (from p j) (forest m z)) (drop-cons hs j 0 l)
@@ -143,7 +143,8 @@ module _ (m : List ℕ) (i : ℕ) (p : ℕ → Bool) (a : Arena m (i + 1)) where
           record {
             low = omega arith;
             made = kids-more m (i + 1) j (i + 1) kids m (q .made) f m refl (record { used = i + 1; root = r }) _ (i + 1) grown;
-            is = kids-forest m (i + 1) j (i + 1) kids m (q .made) f m refl (record { used = i + 1; root = r }) _ (i + 1) grown (masked (from p (j + 1)) (forest m (drop (j + 1) hs)))
+            is =
+                kids-forest m (i + 1) j (i + 1) kids m (q .made) f m refl (record { used = i + 1; root = r }) _ (i + 1) grown (masked (from p (j + 1)) (forest m (drop (j + 1) hs)))
                 ∙ rw (add-one j) (ap (λ z. forest m (take j kids) ⊕ z) (sym split)) ∙ q .is;
           }
 
@@ -167,7 +168,9 @@ module _ (m : List ℕ) (i : ℕ) (ks : List ℕ) (e : forest m ks ≡ inspected
 
   pub count-same : length ks ≡ length (slot m i .kids)
   unfolding forest
-  count-same = counted ks ∙ ap (λ c. length (roots c)) e ∙ roots-masked (inspectChild o (known (forest m (slot m i .kids)))) (forest m (slot m i .kids)) ∙ sym (counted (slot m i .kids))
+  count-same =
+      counted ks ∙ ap (λ c. length (roots c)) e ∙ roots-masked (inspectChild o (known (forest m (slot m i .kids)))) (forest m (slot m i .kids))
+      ∙ sym (counted (slot m i .kids))
     where
       counted : (l : List ℕ) → length l ≡ length (roots (forest m l))
       counted [] = refl
@@ -189,14 +192,17 @@ module _ (m : List ℕ) (i : ℕ) (ks : List ℕ) (e : forest m ks ≡ inspected
       go (h ∷ l) q = absurd (omega arith)
 
   module _ (l : 0 < length ks) where
-    by-tests : (f : Bool) → isFetchedCoalesce (decode (slot m i .rec)) ≡ f → (s : Bool) → not (headMark (forest m ks)) && initiates (decode (slot m i .rec)) (known (forest m ks)) ≡ s
+    by-tests : (f : Bool) → isFetchedCoalesce (decode (slot m i .rec)) ≡ f → (s : Bool)
+        → not (headMark (forest m ks)) && initiates (decode (slot m i .rec)) (known (forest m ks)) ≡ s
         → cond f false (cond s true (anyMark (forest m ks))) ≡ carries (decode (slot m i .rec)) (forest m ks)
-    by-tests f p s q = sym (ap₂ (λ x y. cond (x || y) false (cond (not (headMark (forest m ks)) && initiates o (known (forest m ks))) true (anyMark (forest m ks)))) (roots-some m ks l) p ∙ ap (λ y. cond f false (cond y true (anyMark (forest m ks)))) q)
+    by-tests f p s q =
+        sym (ap₂ (λ x y. cond (x || y) false (cond (not (headMark (forest m ks)) && initiates o (known (forest m ks))) true (anyMark (forest m ks)))) (roots-some m ks l) p ∙ ap (λ y. cond f false (cond y true (anyMark (forest m ks)))) q)
 
     pub carries-fetched : (x : Bool) → x ≡ isFetchedCoalesce (decode (slot m i .rec)) → x ≡ true → false ≡ carries (decode (slot m i .rec)) (forest m ks)
     carries-fetched x p t = by-tests true (sym p ∙ t) _ refl
 
-    module _ (x : Bool) (p : x ≡ isFetchedCoalesce (decode (slot m i .rec))) (t : x ≡ false) (h b : Bool) (hh : h ≡ marked (getD ks 0 0)) (hb : b ≡ initiates (decode (slot m i .rec)) (known (forest m (slot m i .kids)))) where
+    module _ (x : Bool) (p : x ≡ isFetchedCoalesce (decode (slot m i .rec))) (t : x ≡ false) (h b : Bool) (hh : h ≡ marked (getD ks 0 0))
+        (hb : b ≡ initiates (decode (slot m i .rec)) (known (forest m (slot m i .kids)))) where
       begins : not h && b ≡ not (headMark (forest m ks)) && initiates (decode (slot m i .rec)) (known (forest m ks))
       begins = ap₂ (λ z w. not z && w) (hh ∙ head-is m ks l) (hb ∙ ap (initiates o) (sym known-same))
 
@@ -261,7 +267,8 @@ module _ (m : List ℕ) (u h : ℕ) (p : Carrying m u h) where
         }
 
     pub cut-grown : (b : Bool) (m' : List ℕ) (a : At) → Grown m u m' a (node (decode (slot m (index h) .rec)) false (forest m (take n kids))) (u + 1)
-        → (r : ℕ) → Marks (a .root) b r → Grown m u m' (record { used = a .used; root = r }) (node (decode (slot m (index h) .rec)) b (masked q (forest m (slot m (index h) .kids)))) (u + 1)
+        → (r : ℕ) → Marks (a .root) b r
+        → Grown m u m' (record { used = a .used; root = r }) (node (decode (slot m (index h) .rec)) b (masked q (forest m (slot m (index h) .kids)))) (u + 1)
     cut-grown b m' a g r k =
         let s = k .slot in let x = g .here in
         record {
@@ -283,7 +290,8 @@ module _ (m : List ℕ) (u h : ℕ) (p : Carrying m u h) where
       ap (λ z. node o z d) (hb ∙ ap (carries o) (ap (λ z. forest m (take z kids)) en ∙ c .is)) ∙ sym (ap carryOne (shown m (index h) carry-arena .tree))
 
   -- with its own mark and none on its children
-  pub unmarked-is : node (decode (slot m (index h) .rec)) (marked h) (masked (λ j. false) (forest m (slot m (index h) .kids))) ≡ node (opT (treeOf m h)) (treeOf m h .top .mark) (unmark (treeOf m h .kids))
+  pub unmarked-is : node (decode (slot m (index h) .rec)) (marked h) (masked (λ j. false) (forest m (slot m (index h) .kids)))
+      ≡ node (opT (treeOf m h)) (treeOf m h .top .mark) (unmark (treeOf m h .kids))
   unmarked-is =
       ap (node (decode (slot m (index h) .rec)) (marked h)) (mask-none (forest m (slot m (index h) .kids)))
       ∙ sym (ap (λ t. node (opT t) (marked h) (unmark (t .kids))) (shown m (index h) carry-arena .tree))
@@ -325,15 +333,19 @@ module _ (m₀ : List ℕ) (u : ℕ) (ks : List ℕ) (p : Updating m₀ u ks) wh
 
       split-first : carryEach (forest m₀ (drop j ks)) ≡ plant (carryOne (treeOf m (getD ks j 0))) (carryEach (forest m₀ (drop (suc j) ks)))
       unfolding forest
-      split-first = ap (λ z. carryEach (forest m₀ z)) (drop-cons ks j 0 l) ∙ ap (λ t. plant (carryOne t) (carryEach (forest m₀ (drop (suc j) ks)))) (sym (tree-same u m₀ m (q .made .old) (getD ks j 0) kid-low))
+      split-first =
+          ap (λ z. carryEach (forest m₀ z)) (drop-cons ks j 0 l)
+          ∙ ap (λ t. plant (carryOne t) (carryEach (forest m₀ (drop (suc j) ks)))) (sym (tree-same u m₀ m (q .made .old) (getD ks j 0) kid-low))
 
-      pub going-more : (m' : List ℕ) → length m' ≡ length m → (r : At) → Grown m w m' r (carryOne (treeOf m (getD ks j 0))) (w + 1) → Going m₀ u ks (j + 1) (r .used) (set kids j (r .root)) m'
+      pub going-more : (m' : List ℕ) → length m' ≡ length m → (r : At) → Grown m w m' r (carryOne (treeOf m (getD ks j 0))) (w + 1)
+          → Going m₀ u ks (j + 1) (r .used) (set kids j (r .root)) m'
       going-more m' lm r g =
           let f = p .few in let z = q .left in let top = g .room in
           record {
             low = omega arith;
             made = kids-more m₀ u j w kids m (q .made) (omega arith) m' lm r (carryOne (treeOf m (getD ks j 0))) (w + 1) g;
-            is = kids-forest m₀ u j w kids m (q .made) (omega arith) m' lm r (carryOne (treeOf m (getD ks j 0))) (w + 1) g (carryEach (forest m₀ (drop (j + 1) ks)))
+            is =
+                kids-forest m₀ u j w kids m (q .made) (omega arith) m' lm r (carryOne (treeOf m (getD ks j 0))) (w + 1) g (carryEach (forest m₀ (drop (j + 1) ks)))
                 ∙ rw (add-one j) (ap (λ z. forest m (take j kids) ⊕ z) (sym split-first)) ∙ q .is;
             left = omega arith;
           }

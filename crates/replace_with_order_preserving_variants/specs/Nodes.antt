@@ -1,7 +1,7 @@
 -- What a node in a slot shows to those that ask its record and the rows of its children.
-use mathlib.Core.Path.{_≡_, refl, sym, ap, _∙_}
-use mathlib.Core.Bool.{true, false, _&&_}
-use mathlib.Core.List.{List, [], map}
+use mathlib.Core.Path.{_≡_, sym, ap, _∙_}
+use mathlib.Core.Bool.{false, _&&_}
+use mathlib.Core.List.{List, map}
 use Prim.Native.Nat.{ℕ, zero, suc, _+_, _*_, _≤_, _<_}
 use native.Mathlib.Omega.{arith}
 use borrow.Author.Tests.{leb-true}
@@ -70,7 +70,8 @@ module _ (m : List ℕ) (i : ℕ) (a : Arena m (i + 1)) where
     pub kid-facts : (k : ℕ) → k ≡ getD (slot m i .kids) j 0 → fact (treeOf m k) ≡ getD (known (forest m (slot m i .kids))) j nothing
     kid-facts k e = ap (λ y. fact (treeOf m y)) e ∙ sym (facts-at m (slot m i .kids) j l)
 
-    pub among : (k : ℕ) → k ≡ getD (slot m i .kids) j 0 → (b c : List ℕ) → Tells (treeOf m (2 * i)) b → Tells (treeOf m k) c → Among (decode (slot m i .rec)) (known (forest m (slot m i .kids))) j (told b) (told c)
+    pub among : (k : ℕ) → k ≡ getD (slot m i .kids) j 0 → (b c : List ℕ) → Tells (treeOf m (2 * i)) b → Tells (treeOf m k) c
+        → Among (decode (slot m i .rec)) (known (forest m (slot m i .kids))) j (told b) (told c)
     among k e b c s t =
         record {
           own = s .is ∙ own-facts;

@@ -2,12 +2,10 @@
 use mathlib.Core.Path.{_≡_, refl, sym, ap, ap₂, _∙_, subst}
 use mathlib.Core.Bool.{Bool, true, false, cond, not, _&&_}
 use mathlib.Core.List.{List, [], _∷_}
-use Prim.Native.Nat.{ℕ, zero, suc, _+_, _*_, _/_, _%_, _≤_, _<_}
+use Prim.Native.Nat.{ℕ, zero, suc, _+_, _≤_, _<_}
 use native.Mathlib.Omega.{arith}
-use native.Mathlib.Numerals.{add-one}
 use lib.Dec.{eqb}
-use lib.ListN.{length, getD, take, drop, set, drop-of-length-le}
-use lib.Seq.{drop-cons, length-take-le}
+use lib.ListN.{length, getD, take, set}
 use Rattle.row_order.specs.Iso.{Key}
 use Rattle.row_order.specs.Order.{no-bool}
 use Rattle.plan.specs.Forest.{Forest, none, tree, size}
@@ -16,7 +14,6 @@ use Rattle.plan.specs.Numbers.{code}
 use Rattle.plan.specs.WellFormed.{fetchOk, someFetch}
 use Rattle.plan.specs.declared.Fetch.{Fetch}
 use Rattle.plan.specs.declared.Fetch.the-variants.{AtMost, Unlimited}
-use Rattle.plan_format.specs.Record.{children}
 use Rattle.plan_codec.specs.Decode.{decode}
 use Rattle.plan_codec.specs.Encode.{encode}
 use Rattle.semantics.specs.Facts.{at0, isNil, keepsOrder, knownOrder}
@@ -27,24 +24,22 @@ use Rattle.key_lists.specs.declared.Keys.{Keys}
 use Rattle.key_lists.specs.declared.Order.{Order}
 use Rattle.key_lists.specs.declared.Order.the-variants.{Unordered, By}
 use Rattle.row_facts.specs.Asked.{told}
-use Rattle.arena.specs.Arena.{slotSize, index, marked, slot, Below}
+use Rattle.arena.specs.Arena.{index, marked, slot}
 use Rattle.arena.specs.declared.At.{At}
-use Rattle.arena.specs.Laws.{below-at, below-more, index-even}
-use Rattle.walks.specs.Marks.{Marked, Tree, strip, known, at, node, plant, opT, fact, sizeT, setMark, Shape, aSort, aMerge, aRepartition, aCoalesce, another, shape, rebuild}
-use Rattle.walks.specs.Terms.{_⊕_}
+use Rattle.walks.specs.Marks.{Marked, Tree, strip, known, at, node, opT, fact, sizeT, setMark, Shape, aSort, aMerge, aRepartition, aCoalesce, another, shape, rebuild}
 use Rattle.walks.specs.Trees.{OkT, Fit, FitsA, arity, count, ok-fit}
 use Rattle.walks.specs.Keeps.{KeepsAll, kept-node, like-refl}
 use Rattle.walks.specs.OrderPreserving.{markFirst, mergeOver, preserveBy, preserveEach, planWithOrderPreservingVariants}
 use Rattle.walks.specs.OrderPreservingKept.{preserveBy-kept, preserveEach-kept}
-use Rattle.plan_context.specs.View.{treeIn, treeOf, forest, mostSlots, Arena, Grown, Puts}
-use Rattle.plan_context.specs.Laws.{slot-same, forest-same, tree-same, same-trans, fewer, facts-at, length-facts}
-use Rattle.plan_context.specs.Nodes.{Seen, seen, counts-of}
+use Rattle.plan_context.specs.View.{treeOf, forest, Arena, Grown, Puts}
+use Rattle.plan_context.specs.Laws.{fewer, facts-at, length-facts}
+use Rattle.plan_context.specs.Nodes.{seen, counts-of}
 use Rattle.plan_context.specs.Facts.{Tells}
 use Rattle.plan_context.specs.Handles.{Marks}
-use Rattle.plan_context.specs.Kids.{Kids, kids-none, kids-more, kids-forest, plus-none}
 use Rattle.replace_with_order_preserving_variants.specs.Kinds.{op-ind, treated, one-kid, treated-5, treated-6}
-use Rattle.replace_with_order_preserving_variants.specs.Marking.{isFetchedCoalesce}
-use Rattle.replace_with_order_preserving_variants.specs.Replacing.{first-size, single, remark-ok, replaced-puts, replaced-grown, rebuilt-grown}
+use Rattle.replace_with_order_preserving_variants.specs.Marking.{isFetchedCoalesce, nothing-left}
+use Rattle.replace_with_order_preserving_variants.specs.Entering.{Enters, Going, view, same-slot, olds, split, going-next, going-more, news, going-puts, going-end}
+use Rattle.replace_with_order_preserving_variants.specs.Replacing.{grown-as, cond-le, first-size, single, remark-ok, replaced-puts, replaced-grown, rebuilt-grown}
 
 -- ---- kinds
 
@@ -61,7 +56,7 @@ module _ (spr spm : Bool) (f : Fetch) (x : Bool) (c d : Forest Marked) where
       op-ind (λ o. eqb (code o) 5 ≡ true → Variant o ≡ preservedRepartition spr o c d) (λ p ks g e. no-bool e) (λ ks g e. no-bool e) (λ p n h ks e. refl) (λ g e. no-bool e)
       (λ o a e. no-bool (sym (a .1) ∙ e))
 
-  pub by-fetched : (o : Op) → isFetchedCoalesce o ≡ true → preserveBy (shape o) spr spm f (record { op = o; mark = x }) c d ≡ node o false c
+  by-fetched : (o : Op) → isFetchedCoalesce o ≡ true → preserveBy (shape o) spr spm f (record { op = o; mark = x }) c d ≡ node o false c
   by-fetched =
       op-ind (λ o. isFetchedCoalesce o ≡ true → Variant o ≡ node o false c) (λ p ks g e. no-bool e) (λ ks g e. no-bool e) (λ p n h ks e. no-bool e) fetched
       (λ o a e. no-bool (ap (λ y. y && someFetch (cuts o .fetch)) (sym (a .2)) ∙ e))
@@ -70,22 +65,26 @@ module _ (spr spm : Bool) (f : Fetch) (x : Bool) (c d : Forest Marked) where
       fetched Unlimited e = no-bool e
       fetched (AtMost n) e = refl
 
-  pub by-coalesce : (o : Op) → eqb (code o) 6 ≡ true → isFetchedCoalesce o ≡ false → preserveBy (shape o) spr spm f (record { op = o; mark = x }) c d ≡ mergeOver spm f (record { op = o; mark = true }) d
+  pub by-coalesce : (o : Op) → eqb (code o) 6 ≡ true → isFetchedCoalesce o ≡ false → preserveBy (shape o) spr spm f (record { op = o; mark = x }) c d
+      ≡ mergeOver spm f (record { op = o; mark = true }) d
   by-coalesce =
       op-ind (λ o. eqb (code o) 6 ≡ true → isFetchedCoalesce o ≡ false → Variant o ≡ mergeOver spm f (record { op = o; mark = true }) d) (λ p ks g e. no-bool e) (λ ks g e. no-bool e) (λ p n h ks e. no-bool e) plain
       (λ o a e. no-bool (sym (a .2) ∙ e))
     where
-      plain : (g : Fetch) → eqb (code (coalesce g)) 6 ≡ true → isFetchedCoalesce (coalesce g) ≡ false → Variant (coalesce g) ≡ mergeOver spm f (record { op = coalesce g; mark = true }) d
+      plain : (g : Fetch) → eqb (code (coalesce g)) 6 ≡ true → isFetchedCoalesce (coalesce g) ≡ false → Variant (coalesce g)
+          ≡ mergeOver spm f (record { op = coalesce g; mark = true }) d
       plain Unlimited e q = refl
       plain (AtMost n) e q = no-bool (sym q)
 
-  pub by-other : (o : Op) → eqb (code o) 5 ≡ false → eqb (code o) 6 ≡ false → preserveBy (shape o) spr spm f (record { op = o; mark = x }) c d ≡ rebuild o false d
+  pub by-other : (o : Op) → eqb (code o) 5 ≡ false → eqb (code o) 6 ≡ false → preserveBy (shape o) spr spm f (record { op = o; mark = x }) c d
+      ≡ rebuild o false d
   by-other =
       op-ind (λ o. eqb (code o) 5 ≡ false → eqb (code o) 6 ≡ false → Variant o ≡ rebuild o false d) (λ p ks g e q. refl) (λ ks g e q. refl) (λ p n h ks e q. no-bool (sym e)) (λ g e q. no-bool (sym q))
       (λ o a e q. ap (λ s. preserveBy s spr spm f (record { op = o; mark = x }) c d) (a .0))
 
 -- the node's own mark does not matter
-by-mark : (spr spm : Bool) (f : Fetch) (x y : Bool) (o : Op) (c d : Forest Marked) (s : Shape) → preserveBy s spr spm f (record { op = o; mark = x }) c d ≡ preserveBy s spr spm f (record { op = o; mark = y }) c d
+by-mark : (spr spm : Bool) (f : Fetch) (x y : Bool) (o : Op) (c d : Forest Marked) (s : Shape) → preserveBy s spr spm f (record { op = o; mark = x }) c d
+    ≡ preserveBy s spr spm f (record { op = o; mark = y }) c d
 by-mark spr spm f x y o c d (aSort p ks g) = refl
 by-mark spr spm f x y o c d (aMerge ks g) = refl
 by-mark spr spm f x y o c d (aRepartition p n h ks) = refl
@@ -94,10 +93,6 @@ by-mark spr spm f x y o c d (aCoalesce (AtMost n)) = refl
 by-mark spr spm f x y o c d another = refl
 
 -- ---- sizes: nothing is added
-
-cond-le : (n : ℕ) (x : Bool) (t u : Tree) → sizeT t ≤ n → sizeT u ≤ n → sizeT (cond x t u) ≤ n
-cond-le n true t u h k = h
-cond-le n false t u h k = k
 
 by-size : (s : Shape) (spr spm : Bool) (f : Fetch) (m : Marked) (c d : Forest Marked) → size d ≤ size c → sizeT (preserveBy s spr spm f m c d) ≤ suc (size c)
 by-size (aSort p ks g) spr spm f m c d h = omega arith
@@ -116,9 +111,6 @@ each-size spr spm f none = omega arith
 each-size spr spm f (tree m c r) =
     let x = cond-le (suc (size c)) (m .mark) (preserveBy (shape (m .op)) spr spm f m c (preserveEach spr spm f c)) (at m c) (by-size (shape (m .op)) spr spm f m c (preserveEach spr spm f c) (each-size spr spm f c)) (omega arith) in
     let y = each-size spr spm f r in omega arith
-
-pub variants-size : (spr spm : Bool) (f : Fetch) (t : Tree) → sizeT (planWithOrderPreservingVariants spr spm f t) ≤ sizeT t
-variants-size spr spm f t = by-size (shape (opT t)) spr spm f (t .top) (t .kids) (preserveEach spr spm f (t .kids)) (each-size spr spm f (t .kids))
 
 -- ---- a repartition
 
@@ -143,24 +135,28 @@ module _ (m : List ℕ) (w i : ℕ) (r ks : List ℕ) (p : Puts m w r ks) (h : i
       d = forest m ks
 
       tests : (y : Bool) → not b && spr ≡ y
-          → cond y (rebuild (remark (λ q. true) (decode r)) false (markFirst true (forest m ks))) (rebuild (decode r) false (forest m ks)) ≡ preservedRepartition spr (decode r) (forest m (slot m i .kids)) (forest m ks)
-      tests y q = ap (λ z. cond z (rebuild (remark (λ q. true) (decode r)) false (markFirst true d)) (rebuild (decode r) false d)) (sym q ∙ ap (λ z. not z && spr) (hb ∙ ap (λ z. maintains (decode z) (known (forest m (slot m i .kids))) 0) (sym er)))
+          → cond y (rebuild (remark (λ q. true) (decode r)) false (markFirst true (forest m ks))) (rebuild (decode r) false (forest m ks))
+          ≡ preservedRepartition spr (decode r) (forest m (slot m i .kids)) (forest m ks)
+      tests y q =
+          ap (λ z. cond z (rebuild (remark (λ q. true) (decode r)) false (markFirst true d)) (rebuild (decode r) false d)) (sym q ∙ ap (λ z. not z && spr) (hb ∙ ap (λ z. maintains (decode z) (known (forest m (slot m i .kids))) 0) (sym er)))
 
       pub repartition-kept : not b && spr ≡ false → (m' : List ℕ) (a : At) → Grown m w m' a (rebuild (decode r) false (forest m ks)) (w + 1)
           → Grown m w m' a (preservedRepartition spr (decode r) (forest m (slot m i .kids)) (forest m ks)) (w + 1)
-      repartition-kept q m' a g = subst (λ t. Grown m w m' a t (w + 1)) (tests false q) g
+      repartition-kept q m' a g = grown-as (tests false q) g
 
-      module _ (x : List ℕ) (hx : (n : ℕ) → r ≡ encode n (decode r) → x ≡ encode n (remark (λ q. true) (decode r))) (k : ℕ) (hk : Marks (getD ks 0 0) true k) where
+      module _ (x : List ℕ) (hx : (n : ℕ) → r ≡ encode n (decode r) → x ≡ encode n (remark (λ q. true) (decode r))) (k : ℕ)
+          (hk : Marks (getD ks 0 0) true k) where
         new-record : x ≡ encode 1 (remark (λ q. true) (decode r))
         new-record = hx 1 (p .canon ∙ ap (λ n. encode n (decode r)) one-child)
 
         pub repartition-puts : Puts m w x (k ∷ [])
-        repartition-puts = replaced-puts m w r ks p one-child true k hk (remark (λ q. true) (decode r)) x new-record (remark-ok m w r ks p one-child true (λ q. true))
+        repartition-puts =
+            replaced-puts m w r ks p one-child true k hk (remark (λ q. true) (decode r)) x new-record (remark-ok m w r ks p one-child true (λ q. true))
 
         pub repartition-marked : not b && spr ≡ true → (m' : List ℕ) (a : At) → Grown m w m' a (rebuild (decode x) false (forest m (k ∷ []))) (w + 1)
             → Grown m w m' a (preservedRepartition spr (decode r) (forest m (slot m i .kids)) (forest m ks)) (w + 1)
         repartition-marked q m' a g =
-            subst (λ t. Grown m w m' a t (w + 1)) (tests true q)
+            grown-as (tests true q)
             (rebuilt-grown m w r ks p one-child true k hk (remark (λ q. true) (decode r)) x new-record (remark-ok m w r ks p one-child true (λ q. true)) m' a (w + 1) g)
 
 -- ---- a coalesce
@@ -169,14 +165,12 @@ pub order-few : (ks : List Key) (v : Order) (k : Keys) → Ordered ks v → v �
 order-few ks v k q z = subst Real z (q .real) .1
 
 module _ (m : List ℕ) (w : ℕ) (r ks : List ℕ) (p : Puts m w r ks) (e : eqb (code (decode r)) 6 ≡ true) (spm : Bool) (f : Fetch) where
-  abbrev M : Tree
-  M = mergeOver spm f (record { op = decode r; mark = true }) (forest m ks)
-
   pub one-below : length ks ≡ 1
   one-below = single m w r ks p (treated-6 (decode r) e)
 
   -- a merge is not better
-  pub coalesce-plain : spm ≡ false → (m' : List ℕ) (a : At) → Grown m w m' a (rebuild (decode r) false (forest m ks)) (w + 1) → Grown m w m' a (mergeOver spm f (record { op = decode r; mark = true }) (forest m ks)) (w + 1)
+  pub coalesce-plain : spm ≡ false → (m' : List ℕ) (a : At) → Grown m w m' a (rebuild (decode r) false (forest m ks)) (w + 1)
+      → Grown m w m' a (mergeOver spm f (record { op = decode r; mark = true }) (forest m ks)) (w + 1)
   coalesce-plain q m' a g = subst (λ z. Grown m w m' a (mergeOver z f (record { op = decode r; mark = true }) (forest m ks)) (w + 1)) (sym q) g
 
   -- b: the row of the child
@@ -185,19 +179,19 @@ module _ (m : List ℕ) (w : ℕ) (r ks : List ℕ) (p : Puts m w r ks) (e : eqb
     order-is = let l = one-below in ap knownOrder (t .is ∙ ap (λ z. fact (treeOf m z)) hk ∙ sym (facts-at m ks 0 (omega arith)))
 
     by-order : (l : List Key) → l ≡ knownOrder (at0 (known (forest m ks)))
-        → cond (spm && not (isNil l)) (node (mergeOp l f) false (markFirst true (forest m ks))) (rebuild (decode r) false (forest m ks)) ≡ mergeOver spm f (record { op = decode r; mark = true }) (forest m ks)
+        → cond (spm && not (isNil l)) (node (mergeOp l f) false (markFirst true (forest m ks))) (rebuild (decode r) false (forest m ks))
+        ≡ mergeOver spm f (record { op = decode r; mark = true }) (forest m ks)
     by-order l q = ap (λ z. cond (spm && not (isNil z)) (node (mergeOp z f) false (markFirst true (forest m ks))) (rebuild (decode r) false (forest m ks))) q
 
     -- the child has no order
-    pub coalesce-unordered : (v : Order) → Ordered (knownOrder (told b)) v → v ≡ Unordered → (m' : List ℕ) (a : At) → Grown m w m' a (rebuild (decode r) false (forest m ks)) (w + 1)
+    pub coalesce-unordered : (v : Order) → Ordered (knownOrder (told b)) v → v ≡ Unordered → (m' : List ℕ) (a : At)
+        → Grown m w m' a (rebuild (decode r) false (forest m ks)) (w + 1)
         → Grown m w m' a (mergeOver spm f (record { op = decode r; mark = true }) (forest m ks)) (w + 1)
-    coalesce-unordered v q z m' a g = subst (λ z. Grown m w m' a z (w + 1)) (sym (ap (λ z. cond z (node (mergeOp [] f) false (markFirst true (forest m ks))) (rebuild (decode r) false (forest m ks))) (none spm)) ∙ by-order [] (ap orderOf (sym z) ∙ q .is ∙ order-is)) g
-      where
-        none : (z : Bool) → z && false ≡ false
-        none true = refl
-        none false = refl
+    coalesce-unordered v q z m' a g =
+        grown-as (sym (ap (λ z. cond z (node (mergeOp [] f) false (markFirst true (forest m ks))) (rebuild (decode r) false (forest m ks))) (nothing-left spm)) ∙ by-order [] (ap orderOf (sym z) ∙ q .is ∙ order-is)) g
 
-    module _ (v : Order) (q : Ordered (knownOrder (told b)) v) (keys : Keys) (z : v ≡ By keys) (s : spm ≡ true) (ok : OkT (mergeOver spm f (record { op = decode r; mark = true }) (forest m ks)))
+    module _ (v : Order) (q : Ordered (knownOrder (told b)) v) (keys : Keys) (z : v ≡ By keys) (s : spm ≡ true)
+        (ok : OkT (mergeOver spm f (record { op = decode r; mark = true }) (forest m ks)))
         (x : List ℕ) (hx : x ≡ encode 1 (mergeOp (keysOf keys) f)) (h : ℕ) (hh : Marks k true h) where
       some : (n v : ℕ) → 0 < n → not (isNil (keysIn n v)) ≡ true
       some zero v l = absurd (omega arith)
@@ -217,13 +211,16 @@ module _ (m : List ℕ) (w : ℕ) (r ks : List ℕ) (p : Puts m w r ks) (e : eqb
       pub merge-puts : Puts m w x (h ∷ [])
       merge-puts = replaced-puts m w r ks p one-below true h marks (mergeOp (keysOf keys) f) x hx merged-ok
 
-      pub merge-grown : (m' : List ℕ) (a : At) → Grown m w m' a (node (decode x) false (forest m (h ∷ []))) (w + 1) → Grown m w m' a (mergeOver spm f (record { op = decode r; mark = true }) (forest m ks)) (w + 1)
-      merge-grown m' a g = subst (λ t. Grown m w m' a t (w + 1)) merged (replaced-grown m w r ks p one-below true h marks (mergeOp (keysOf keys) f) x hx merged-ok m' a (w + 1) g)
+      pub merge-grown : (m' : List ℕ) (a : At) → Grown m w m' a (node (decode x) false (forest m (h ∷ []))) (w + 1)
+          → Grown m w m' a (mergeOver spm f (record { op = decode r; mark = true }) (forest m ks)) (w + 1)
+      merge-grown m' a g =
+          grown-as merged (replaced-grown m w r ks p one-below true h marks (mergeOp (keysOf keys) f) x hx merged-ok m' a (w + 1) g)
 
 -- ---- any node
 
 abbrev pub Became : List ℕ → ℕ → List ℕ → Bool → Bool → Fetch → Tree
-Became m i ks spr spm f = preserveBy (shape (decode (slot m i .rec))) spr spm f (record { op = decode (slot m i .rec); mark = true }) (forest m (slot m i .kids)) (forest m ks)
+Became m i ks spr spm f =
+    preserveBy (shape (decode (slot m i .rec))) spr spm f (record { op = decode (slot m i .rec); mark = true }) (forest m (slot m i .kids)) (forest m ks)
 
 -- One root of preserveEach
 abbrev pub preserveOne : Bool → Bool → Fetch → Tree → Tree
@@ -232,180 +229,101 @@ preserveOne spr spm f t = cond (t .top .mark) (planWithOrderPreservingVariants s
 -- ---- the recursion
 
 pub record Preserves (m : List ℕ) (u h : ℕ) (f : Fetch) : Type 0 where
-  pub arena : Arena m u
-  pub here : h < 2 * u
-  pub room : (u + sizeT (treeOf m h)) * slotSize ≤ length m
-  pub small : u + sizeT (treeOf m h) ≤ mostSlots
+  pub enters : Enters m u h
   pub fetch : fetchOk f ≡ true
 
--- The first j children are done
-pub record Going (m₀ : List ℕ) (u h : ℕ) (spr spm : Bool) (f : Fetch) (j w : ℕ) (kids m : List ℕ) : Type 0 where
-  pub made : Kids m₀ u j w kids m
-  pub is : forest m (take j kids) ⊕ preserveEach spr spm f (forest m₀ (drop j (slot m₀ (index h) .kids))) ≡ preserveEach spr spm f (forest m₀ (slot m₀ (index h) .kids))
-  pub left : w + size (forest m₀ (drop j (slot m₀ (index h) .kids))) ≤ u + size (forest m₀ (slot m₀ (index h) .kids))
+-- What children become, from any number on
+abbrev pub eachOf : Bool → Bool → Fetch → ℕ → Forest Marked → Forest Marked
+eachOf spr spm f j c = preserveEach spr spm f c
 
 module _ (m₀ : List ℕ) (u h : ℕ) (spr spm : Bool) (f : Fetch) (p : Preserves m₀ u h f) where
-  abbrev hs : List ℕ
-  hs = slot m₀ (index h) .kids
+  abbrev E : Enters m₀ u h
+  E = p .enters
 
-  pub half : index h < u
-  half = let l = p .here in omega arith
+  abbrev o : Op
+  o = decode (slot m₀ (index h) .rec)
 
-  pub half-arena : Arena m₀ (index h + 1)
-  half-arena = let l = half in fewer m₀ u (index h + 1) (omega arith) (p .arena)
-
-  view : Seen m₀ (index h)
-  view = seen m₀ (index h) (p .arena .all (index h) half .proper)
-
-  whole : sizeT (treeOf m₀ h) ≡ suc (size (forest m₀ (slot m₀ (index h) .kids)))
-  whole = ap sizeT (view .tree)
+  abbrev c₀ : Forest Marked
+  c₀ = forest m₀ (slot m₀ (index h) .kids)
 
   -- an unmarked node stays
   pub unmarked : marked h ≡ false → Grown m₀ u m₀ (record { used = u; root = h }) (preserveOne spr spm f (treeOf m₀ h)) (u + sizeT (treeOf m₀ h))
   unmarked z =
-      record { arena = p .arena; old = refl; more = omega arith; here = p .here; tree = sym (ap (λ x. cond x (planWithOrderPreservingVariants spr spm f (treeOf m₀ h)) (treeOf m₀ h)) z); room = omega arith }
+      record { arena = E .arena; old = refl; more = omega arith; here = E .here; tree = sym (ap (λ x. cond x (planWithOrderPreservingVariants spr spm f (treeOf m₀ h)) (treeOf m₀ h)) z); room = omega arith }
 
   -- a marked one
   now : marked h ≡ true → preserveOne spr spm f (treeOf m₀ h)
       ≡ preserveBy (shape (decode (slot m₀ (index h) .rec))) spr spm f (record { op = decode (slot m₀ (index h) .rec); mark = true }) (forest m₀ (slot m₀ (index h) .kids)) (preserveEach spr spm f (forest m₀ (slot m₀ (index h) .kids)))
-  now z = ap₂ (λ x s. preserveOne spr spm f (setMark x s)) z (view .tree)
+  now z = ap₂ (λ x s. preserveOne spr spm f (setMark x s)) z (view m₀ u h E .tree)
 
-  -- a fetched coalesce stays too
-  pub fetched-stays : marked h ≡ true → isFetchedCoalesce (decode (slot m₀ (index h) .rec)) ≡ true → Grown m₀ u m₀ (record { used = u; root = 2 * index h }) (preserveOne spr spm f (treeOf m₀ h)) (u + sizeT (treeOf m₀ h))
-  fetched-stays z e =
-      let l = half in
-      let g : 2 * index h % 2 ≡ 0 = omega arith in
+  -- a fetched coalesce stays too, unmarked
+  pub fetched-stays : marked h ≡ true → isFetchedCoalesce (decode (slot m₀ (index h) .rec)) ≡ true → (r : ℕ) → Marks h false r
+      → Grown m₀ u m₀ (record { used = u; root = r }) (preserveOne spr spm f (treeOf m₀ h)) (u + sizeT (treeOf m₀ h))
+  fetched-stays z e r k =
+      let s = k .slot in let l = E .here in
       record {
-        arena = p .arena;
+        arena = E .arena;
         old = refl;
         more = omega arith;
         here = omega arith;
-        tree = ap₂ (λ y k. setMark (eqb y 1) (treeIn m₀ k)) g (index-even (index h)) ∙ ap (setMark false) (view .tree)
-            ∙ sym (by-fetched spr spm f true (forest m₀ hs) (preserveEach spr spm f (forest m₀ hs)) (decode (slot m₀ (index h) .rec)) e) ∙ sym (now z);
+        tree = k .tree m₀ ∙ ap (setMark false) (view m₀ u h E .tree) ∙ sym (by-fetched spr spm f true c₀ (preserveEach spr spm f c₀) o e) ∙ sym (now z);
         room = omega arith;
       }
 
-  pub going-none : (kids : List ℕ) → length kids ≡ 8 → Going m₀ u h spr spm f 0 u kids m₀
-  unfolding forest
-  going-none kids l = record { made = kids-none m₀ u kids (p .arena) l; is = refl; left = omega arith }
+  module _ (j w : ℕ) (kids m : List ℕ) (q : Going (eachOf spr spm f) m₀ u h j w kids m) where
+    pub preserve-next : (l : j < length (slot m₀ (index h) .kids)) (k : ℕ) → k ≡ getD (slot m (index h) .kids) j 0
+        → (sizeT (treeOf m k) < sizeT (treeOf m₀ h)) × Preserves m w k f
+    preserve-next l k e = let x = going-next m₀ u h E (eachOf spr spm f) j w kids m q l k e in (x .0, record { enters = x .1; fetch = p .fetch })
 
-  module _ (j w : ℕ) (kids m : List ℕ) (q : Going m₀ u h spr spm f j w kids m) where
-    -- the node is still there
-    pub same-slot : slot m (index h) ≡ slot m₀ (index h)
-    same-slot = slot-same u m₀ m (q .made .old) (index h) half
-
-    pub node-room : (index h + 1) * slotSize ≤ length m
-    node-room = let l = q .made .long in let s = p .arena .slots in let x = half in omega arith
-
-    pub few-kids : (children (slot m (index h) .rec) ≤ 8) × (children (slot m (index h) .rec) ≡ length (slot m₀ (index h) .kids))
-    few-kids = let x = view .few in let y = view .count in let z = ap (λ n. children (n .rec)) same-slot in (omega arith, omega arith)
-
-    module _ (l : j < length (slot m₀ (index h) .kids)) (k : ℕ) (e : k ≡ getD (slot m (index h) .kids) j 0) where
-      kid : k ≡ getD (slot m₀ (index h) .kids) j 0
-      kid = e ∙ ap (λ n. getD (n .kids) j 0) same-slot
-
-      kid-below : k < 2 * u
-      kid-below = let x = below-at (2 * index h) hs j (view .below) l in let y = kid in let z = p .here in omega arith
-
-      kid-same : treeOf m k ≡ treeOf m₀ (getD (slot m₀ (index h) .kids) j 0)
-      kid-same = tree-same u m₀ m (q .made .old) k kid-below ∙ ap (treeOf m₀) kid
-
-      split : forest m₀ (drop j (slot m₀ (index h) .kids)) ≡ plant (treeOf m k) (forest m₀ (drop (suc j) (slot m₀ (index h) .kids)))
-      unfolding forest
-      split = ap (forest m₀) (drop-cons hs j 0 l) ∙ ap (λ t. plant t (forest m₀ (drop (suc j) hs))) (sym kid-same)
-
-      pub going-next : (sizeT (treeOf m k) < sizeT (treeOf m₀ h)) × Preserves m w k f
-      going-next =
-          let s = ap size split in let t = whole in let v = q .left in let o = q .made .long in let r = p .room in let n = p .small in let x = q .made .more in let y = kid-below in
-          (omega arith, record { arena = q .made .arena; here = omega arith; room = omega arith; small = omega arith; fetch = p .fetch })
-
-      pub going-more : (m' : List ℕ) → length m' ≡ length m → (r : At) → Grown m w m' r (preserveOne spr spm f (treeOf m k)) (w + sizeT (treeOf m k)) → Going m₀ u h spr spm f (j + 1) (r .used) (set kids j (r .root)) m'
-      going-more m' lm r g =
-          let y = view .few in let s = ap size split in let v = q .left in let top = g .room in
-          record {
-            made = kids-more m₀ u j w kids m (q .made) (omega arith) m' lm r (preserveOne spr spm f (treeOf m k)) (w + sizeT (treeOf m k)) g;
-            is = kids-forest m₀ u j w kids m (q .made) (omega arith) m' lm r (preserveOne spr spm f (treeOf m k)) (w + sizeT (treeOf m k)) g (preserveEach spr spm f (forest m₀ (drop (j + 1) hs)))
-                ∙ rw (add-one j) (ap (λ x. forest m (take j kids) ⊕ preserveEach spr spm f x) (sym split)) ∙ q .is;
-            left = rw (add-one j) (omega arith);
-          }
+    pub preserve-more : (l : j < length (slot m₀ (index h) .kids)) (k : ℕ) → k ≡ getD (slot m (index h) .kids) j 0 → (m' : List ℕ) → length m' ≡ length m
+        → (r : At)
+        → Grown m w m' r (preserveOne spr spm f (treeOf m k)) (w + sizeT (treeOf m k))
+        → Going (eachOf spr spm f) m₀ u h (j + 1) (r .used) (set kids j (r .root)) m'
+    preserve-more l k e =
+        going-more m₀ u h E (eachOf spr spm f) j w kids m q l k e (preserveOne spr spm f (treeOf m k)) (ap (preserveEach spr spm f) (split m₀ u h E (eachOf spr spm f) j w kids m q l k e))
 
     -- all children are done
     module _ (n : ℕ) (e : n ≡ j) (c : n ≡ length (slot m₀ (index h) .kids)) where
-      abbrev o : Op
-      o = decode (slot m₀ (index h) .rec)
-
-      abbrev c₀ : Forest Marked
-      c₀ = forest m₀ (slot m₀ (index h) .kids)
-
-      counted : length (take n kids) ≡ length (slot m₀ (index h) .kids)
-      counted = let y = view .few in let z = q .made .wide in length-take-le n kids (omega arith) ∙ c
-
-      olds : forest m (slot m (index h) .kids) ≡ forest m₀ (slot m₀ (index h) .kids)
-      olds = ap (λ x. forest m (x .kids)) same-slot ∙ forest-same u m₀ m (q .made .old) hs (below-more hs (let x = p .here in omega arith) (view .below))
-
-      news : forest m (take n kids) ≡ preserveEach spr spm f (forest m₀ (slot m₀ (index h) .kids))
-      unfolding forest
-      news =
-          let d : drop j hs ≡ [] = drop-of-length-le hs {i = j} (omega arith) in
-          ap (λ i. forest m (take i kids)) e ∙ sym (plus-none (forest m (take j kids))) ∙ ap (λ l. forest m (take j kids) ⊕ preserveEach spr spm f (forest m₀ l)) (sym d) ∙ q .is
-
       fit : FitsA (arity (decode (slot m₀ (index h) .rec))) (count (strip (forest m₀ (slot m₀ (index h) .kids)))) × Fit (strip (forest m₀ (slot m₀ (index h) .kids)))
-      fit = let x = view .ok in let y = ok-fit (tree o (strip c₀) none) (x .0, x .1, tt) in (y .0, y .1)
+      fit = let x = view m₀ u h E .ok in let y = ok-fit (tree o (strip c₀) none) (x .0, x .1, tt) in (y .0, y .1)
 
       all-kept : KeepsAll false (isAll f) (fetchOk f) (forest m₀ (slot m₀ (index h) .kids)) (preserveEach spr spm f (forest m₀ (slot m₀ (index h) .kids)))
       all-kept = preserveEach-kept spr spm f c₀ (fit .1)
 
-      open-ok : OkT (node (decode (slot m₀ (index h) .rec)) false (preserveEach spr spm f (forest m₀ (slot m₀ (index h) .kids))))
-      open-ok = kept-node {a = false} {b = isAll f} {h = fetchOk f} o o false false c₀ (preserveEach spr spm f c₀) (like-refl o) (fit .0) all-kept .ok (p .fetch) (view .ok)
+      pub preserve-puts : Puts m w (slot m (index h) .rec) (take n kids)
+      preserve-puts =
+          going-puts m₀ u h E (eachOf spr spm f) j w kids m q n e c refl (each-size spr spm f c₀)
+          (kept-node {a = false} {b = isAll f} {h = fetchOk f} o o false false c₀ (preserveEach spr spm f c₀) (like-refl o) (fit .0) all-kept .ok (p .fetch) (view m₀ u h E .ok))
 
       became : Became m (index h) (take n kids) spr spm f
           ≡ preserveBy (shape (decode (slot m₀ (index h) .rec))) spr spm f (record { op = decode (slot m₀ (index h) .rec); mark = true }) (forest m₀ (slot m₀ (index h) .kids)) (preserveEach spr spm f (forest m₀ (slot m₀ (index h) .kids)))
-      became = λ i. preserveBy (shape (decode (same-slot i .rec))) spr spm f (record { op = decode (same-slot i .rec); mark = true }) (olds i) (news i)
+      became =
+          λ i. preserveBy (shape (decode (same-slot m₀ u h E (eachOf spr spm f) j w kids m q i .rec))) spr spm f (record { op = decode (same-slot m₀ u h E (eachOf spr spm f) j w kids m q i .rec); mark = true })
+          (olds m₀ u h E (eachOf spr spm f) j w kids m q i) (news m₀ u h E (eachOf spr spm f) j w kids m q n e c refl i)
 
-      pub going-ok : OkT (Became m (index h) (take n kids) spr spm f)
-      going-ok = subst OkT (sym became) (preserveBy-kept spr spm f true c₀ (preserveEach spr spm f c₀) o (fit .0) (fit .1) all-kept .ok (p .fetch) (view .ok))
+      pub preserve-ok : OkT (Became m (index h) (take n kids) spr spm f)
+      preserve-ok =
+          subst OkT (sym became) (preserveBy-kept spr spm f true c₀ (preserveEach spr spm f c₀) o (fit .0) (fit .1) all-kept .ok (p .fetch) (view m₀ u h E .ok))
 
-      pub going-puts : Puts m w (slot m (index h) .rec) (take n kids)
-      going-puts =
-          let v = q .left in let t = whole in let l = q .made .long in let r = p .room in let s = p .small in let x = q .made .more in
-          let y = ap size news in let z = each-size spr spm f c₀ in let k = view .small in
-          record {
-            arena = q .made .arena;
-            room = omega arith;
-            small = omega arith;
-            below = subst (λ i. Below (2 * w) (take i kids)) (sym e) (q .made .below);
-            canon = subst (λ y. y .rec ≡ encode (length (take n kids)) (decode (y .rec))) (sym same-slot) (view .canon ∙ ap (λ i. encode i o) (sym counted));
-            ok = subst OkT (λ i. node (decode (sym same-slot i .rec)) false (sym news i)) open-ok;
-            few = omega arith;
-          }
+      pub preserve-plain : (b : Bool) → b ≡ isFetchedCoalesce (decode (slot m₀ (index h) .rec)) → b ≡ false
+          → isFetchedCoalesce (decode (slot m (index h) .rec)) ≡ false
+      preserve-plain b x y = ap (λ z. isFetchedCoalesce (decode (z .rec))) (same-slot m₀ u h E (eachOf spr spm f) j w kids m q) ∙ sym x ∙ y
 
-      pub going-here : index h < w
-      going-here = let x = q .made .more in let y = half in omega arith
-
-      pub going-plain : (b : Bool) → b ≡ isFetchedCoalesce (decode (slot m₀ (index h) .rec)) → b ≡ false → isFetchedCoalesce (decode (slot m (index h) .rec)) ≡ false
-      going-plain b x y = ap (λ z. isFetchedCoalesce (decode (z .rec))) same-slot ∙ sym x ∙ y
-
-      pub going-end : marked h ≡ true → (m' : List ℕ) (r : At) → Grown m w m' r (Became m (index h) (take n kids) spr spm f) (w + 1) → Grown m₀ u m' r (preserveOne spr spm f (treeOf m₀ h)) (u + sizeT (treeOf m₀ h))
-      going-end z m' r g =
-          let v = q .left in let t = whole in let x = q .made .more in let y = g .room in let a = g .more in
-          record {
-            arena = g .arena;
-            old = same-trans u w m₀ m m' x (q .made .old) (g .old);
-            more = omega arith;
-            here = g .here;
-            tree = g .tree ∙ became ∙ sym (now z);
-            room = omega arith;
-          }
+      pub preserve-end : marked h ≡ true → (m' : List ℕ) (r : At) → Grown m w m' r (Became m (index h) (take n kids) spr spm f) (w + 1)
+          → Grown m₀ u m' r (preserveOne spr spm f (treeOf m₀ h)) (u + sizeT (treeOf m₀ h))
+      preserve-end z m' r g =
+          going-end m₀ u h E (eachOf spr spm f) j w kids m q n e c (preserveOne spr spm f (treeOf m₀ h)) m' r (grown-as (became ∙ sym (now z)) g)
 
 -- ---- entered whether it is marked or not
 
 module _ (m : List ℕ) (u h : ℕ) (spr spm : Bool) (f : Fetch) (p : Preserves m u h f) (k : ℕ) (e : Marks h true k) where
   pub entered-asks : Preserves m u k f
   entered-asks =
-      let l = p .here in let s = e .slot in let t = ap sizeT (e .tree m) in let r = p .room in let n = p .small in
-      record { arena = p .arena; here = omega arith; room = omega arith; small = omega arith; fetch = p .fetch }
+      let v = p .enters in let l = v .here in let s = e .slot in let t = ap sizeT (e .tree m) in let r = v .room in let n = v .small in
+      record { enters = record { arena = v .arena; here = omega arith; room = omega arith; small = omega arith }; fetch = p .fetch }
 
-  pub entered-grown : (m' : List ℕ) (a : At) → Grown m u m' a (preserveOne spr spm f (treeOf m k)) (u + sizeT (treeOf m k)) → Grown m u m' a (planWithOrderPreservingVariants spr spm f (treeOf m h)) (u + sizeT (treeOf m h))
+  pub entered-grown : (m' : List ℕ) (a : At) → Grown m u m' a (preserveOne spr spm f (treeOf m k)) (u + sizeT (treeOf m k))
+      → Grown m u m' a (planWithOrderPreservingVariants spr spm f (treeOf m h)) (u + sizeT (treeOf m h))
   entered-grown m' a g =
       let t = treeOf m h in
       subst (λ x. Grown m u m' a x (u + sizeT (treeOf m h))) (by-mark spr spm f true (t .top .mark) (opT t) (t .kids) (preserveEach spr spm f (t .kids)) (shape (opT t)))

@@ -1,21 +1,19 @@
 -- A node with one child, and another node in its place, over the same child with another mark.
 use mathlib.Core.Path.{_≡_, refl, sym, ap, ap₂, _∙_, subst}
-use mathlib.Core.Bool.{Bool, true, false}
+use mathlib.Core.Bool.{Bool, true, false, cond}
 use mathlib.Core.List.{List, [], _∷_, map}
-use Prim.Native.Nat.{ℕ, suc, _+_, _*_, _≤_, _<_}
+use Prim.Native.Nat.{ℕ, _*_, _≤_, _<_}
 use native.Mathlib.Omega.{arith}
 use lib.ListN.{length, getD}
 use Rattle.plan.specs.Forest.{Forest, none, tree, size}
 use Rattle.plan.specs.Op.{Op}
-use Rattle.plan.specs.WellFormed.{nodeOk}
 use Rattle.plan_codec.specs.Decode.{decode}
 use Rattle.plan_codec.specs.Encode.{encode}
 use Rattle.plan_codec.specs.OneRecord.{decode-encode}
 use Rattle.semantics.specs.Properties.{remark}
-use Rattle.arena.specs.Arena.{index}
 use Rattle.arena.specs.declared.At.{At}
 use Rattle.arena.specs.Laws.{below-at}
-use Rattle.walks.specs.Marks.{Marked, Tree, known, strip, node, plant, setMark, rebuild}
+use Rattle.walks.specs.Marks.{Marked, Tree, known, node, plant, sizeT, setMark, rebuild}
 use Rattle.walks.specs.Trees.{OkT}
 use Rattle.walks.specs.Keeps.{remark-like}
 use Rattle.walks.specs.OrderPreserving.{markFirst}
@@ -30,6 +28,10 @@ use Rattle.replace_with_order_preserving_variants.specs.Marking.{marks-o
 
 pub grown-as : {m : List ℕ} {u : ℕ} {m' : List ℕ} {a : At} {t t' : Tree} {top : ℕ} → t ≡ t' → Grown m u m' a t top → Grown m u m' a t' top
 grown-as {m} {u} {m'} {a} {t} {t'} {top} e g = subst (λ x. Grown m u m' a x top) e g
+
+pub cond-le : (n : ℕ) (x : Bool) (t u : Tree) → sizeT t ≤ n → sizeT u ≤ n → sizeT (cond x t u) ≤ n
+cond-le n true t u h k = h
+cond-le n false t u h k = k
 
 pub first-size : (b : Bool) (d : Forest Marked) → size (markFirst b d) ≡ size d
 first-size b none = refl
@@ -47,7 +49,7 @@ module _ (m : List ℕ) (w : ℕ) (r ks : List ℕ) (p : Puts m w r ks) where
         (remark-like g (decode r) .ok (map (λ F. F .width) (known (markFirst b (forest m ks)))) (x .0), x .1)
 
     module _ (h : ℕ) (k : Marks (getD ks 0 0) b h) where
-      pub first-is : forest m (h ∷ []) ≡ markFirst b (forest m ks)
+      first-is : forest m (h ∷ []) ≡ markFirst b (forest m ks)
       unfolding forest
       first-is = one m h ∙ ap (λ t. plant t none) (k .tree m) ∙ go ks n
         where
@@ -56,7 +58,7 @@ module _ (m : List ℕ) (w : ℕ) (r ks : List ℕ) (p : Puts m w r ks) where
           go (x ∷ []) e = refl
           go (x ∷ y ∷ l) e = absurd (omega arith)
 
-      pub first-low : h < 2 * w
+      first-low : h < 2 * w
       first-low = let s = k .slot in let l = below-at (2 * w) ks 0 (p .below) (omega arith) in omega arith
 
       -- x: the record of the new node o
@@ -80,8 +82,10 @@ module _ (m : List ℕ) (w : ℕ) (r ks : List ℕ) (p : Puts m w r ks) where
               few = omega arith;
             }
 
-        pub replaced-grown : (m' : List ℕ) (a : At) (top : ℕ) → Grown m w m' a (node (decode x) false (forest m (h ∷ []))) top → Grown m w m' a (node o false (markFirst b (forest m ks))) top
+        pub replaced-grown : (m' : List ℕ) (a : At) (top : ℕ) → Grown m w m' a (node (decode x) false (forest m (h ∷ []))) top
+            → Grown m w m' a (node o false (markFirst b (forest m ks))) top
         replaced-grown m' a top g = subst (λ t. Grown m w m' a t top) tree-is g
 
-        pub rebuilt-grown : (m' : List ℕ) (a : At) (top : ℕ) → Grown m w m' a (rebuild (decode x) false (forest m (h ∷ []))) top → Grown m w m' a (rebuild o false (markFirst b (forest m ks))) top
+        pub rebuilt-grown : (m' : List ℕ) (a : At) (top : ℕ) → Grown m w m' a (rebuild (decode x) false (forest m (h ∷ []))) top
+            → Grown m w m' a (rebuild o false (markFirst b (forest m ks))) top
         rebuilt-grown m' a top g = subst (λ t. Grown m w m' a t top) (ap₂ (λ y f. rebuild y false f) decoded first-is) g

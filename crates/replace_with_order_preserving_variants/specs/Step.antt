@@ -2,43 +2,39 @@
 use mathlib.Core.Path.{_≡_, refl, sym, ap, ap₂, _∙_, subst}
 use mathlib.Core.Bool.{Bool, true, false, cond, not, _&&_, _||_}
 use mathlib.Core.List.{List, [], _∷_, map}
-use Prim.Native.Nat.{ℕ, zero, suc, _+_, _*_, _≤_, _<_}
+use Prim.Native.Nat.{ℕ, suc, _+_, _*_, _≤_, _<_}
 use native.Mathlib.Omega.{arith}
 use borrow.Author.Tests.{eqb-true}
 use lib.Dec.{eqb}
 use lib.ListN.{length, getD, take}
 use lib.Seq.{length-take-le}
-use Rattle.row_order.specs.Order.{no-bool}
-use Rattle.plan.specs.Forest.{Forest, none, tree, size}
+use Rattle.plan.specs.Forest.{Forest, tree, size}
 use Rattle.plan.specs.Op.{Op, sortOp}
 use Rattle.plan.specs.Numbers.{code, kindOf}
 use Rattle.plan.specs.WellFormed.{fetchOk, childrenOk}
 use Rattle.plan.specs.declared.Fetch.{Fetch}
-use Rattle.plan.specs.declared.Kind.the-variants.{Sort}
 use Rattle.plan_codec.specs.Decode.{fromBytes, operatorOf, decode}
 use Rattle.plan_codec.specs.Encode.{encode}
 use Rattle.semantics.specs.Facts.{factsOp, nf, met, knownOrder}
-use Rattle.semantics.specs.Properties.{cuts, isFinal}
+use Rattle.semantics.specs.Properties.{cuts}
 use Rattle.record_fields.specs.Proper.{Proper}
 use Rattle.key_lists.specs.Keys.{keysOf, Keyed}
 use Rattle.key_lists.specs.declared.Keys.{Keys}
 use Rattle.row_facts.specs.Asked.{told}
-use Rattle.arena.specs.Arena.{slotSize, marked, Below}
+use Rattle.arena.specs.Arena.{slotSize, marked}
 use Rattle.arena.specs.declared.At.{At}
-use Rattle.walks.specs.Marks.{Marked, Tree, strip, known, node, plant, opT, fact, sizeT, unmark, kid0, headMark, shape}
+use Rattle.walks.specs.Marks.{Marked, Tree, strip, known, node, opT, fact, sizeT, unmark, kid0, headMark, shape}
 use Rattle.walks.specs.Trees.{OkT}
 use Rattle.walks.specs.NewNodes.{node-fetch}
 use Rattle.walks.specs.OrderPreserving as walk
-use Rattle.walks.specs.OrderPreserving.{carryEach, alternatePlan, accepted, replaceBy, useOrderPreservingVariant, planWithOrderPreservingVariants, replaceWithOrderPreservingVariants}
+use Rattle.walks.specs.OrderPreserving.{alternatePlan, accepted, replaceBy, useOrderPreservingVariant, planWithOrderPreservingVariants, replaceWithOrderPreservingVariants}
 use Rattle.walks.specs.OrderPreservingKept.{strip-carry}
 use Rattle.plan_context.specs.declared.Summary.{Summary}
-use Rattle.plan_context.specs.View.{treeOf, forest, mostNodes, mostSlots, Sums, Arena, Same, Grown, Here, Puts}
+use Rattle.plan_context.specs.View.{treeOf, forest, mostSlots, Sums, Grown, Here, Puts}
 use Rattle.plan_context.specs.Laws.{here, fewer, same-trans, forest-same, length-facts}
 use Rattle.plan_context.specs.Opened.{stepRoom, Opened}
-use Rattle.plan_context.specs.Opening.{grown-more}
 use Rattle.plan_context.specs.Facts.{Tells}
 use Rattle.plan_context.specs.Nodes.{counts-of, few-any}
-use Rattle.plan_context.specs.Kids.{Kids}
 use Rattle.plan_context.specs.Covering.{one}
 use Rattle.replace_with_order_preserving_variants.specs.declared.Settings.{Settings}
 use Rattle.replace_with_order_preserving_variants.specs.Nodes.{record-proper}
@@ -67,8 +63,10 @@ module _ (m r : List ℕ) (h : ℕ) (p : Sorts m r h) where
   is-sort = ap (λ k. operatorOf (kindOf k) (fromBytes r)) (p .proper .kind ∙ eqb-true (code (decode r)) 7 (p .sort))
 
   -- the test of the code
-  pub variant-is : (s : Settings) (x : Summary) → Sums (treeOf m h) x → (b : List ℕ) → Tells (treeOf m h) b → (k : Keys) → Keyed (fromBytes r .keys) k → (y : Bool) → y ≡ met (told b) (keysOf k)
-      → s .prefer || (x .endless && not y) ≡ useOrderPreservingVariant (settingsOf s) (fromBytes r .keys) (node (decode r) false (forest m (h ∷ []))) (treeOf m h)
+  pub variant-is : (s : Settings) (x : Summary) → Sums (treeOf m h) x → (b : List ℕ) → Tells (treeOf m h) b → (k : Keys) → Keyed (fromBytes r .keys) k
+      → (y : Bool) → y ≡ met (told b) (keysOf k)
+      → s .prefer || (x .endless && not y)
+      ≡ useOrderPreservingVariant (settingsOf s) (fromBytes r .keys) (node (decode r) false (forest m (h ∷ []))) (treeOf m h)
   unfolding forest
   variant-is s x e b t k q y v = ap₂ (λ z w. s .prefer || (z && not w)) (e .endless ∙ right _) (v ∙ ap₂ met (t .is) (q .is))
     where
@@ -106,10 +104,7 @@ module _ (m : List ℕ) (u : ℕ) (r : List ℕ) (h i : ℕ) (p : Sorting m u r 
     sorting-asks =
         let x = p .room in let y = p .small in
         record {
-          arena = p .puts .arena;
-          here = low;
-          room = omega arith;
-          small = omega arith;
+          enters = record { arena = p .puts .arena; here = low; room = omega arith; small = omega arith };
           fetch = ap fetchOk ef ∙ node-fetch (decode r) (map (λ F. F .width) (known (forest m (h ∷ [])))) (p .puts .ok .0);
         }
 
@@ -118,24 +113,29 @@ module _ (m : List ℕ) (u : ℕ) (r : List ℕ) (h i : ℕ) (p : Sorting m u r 
       A = planWithOrderPreservingVariants (s .spr || b) (s .spm || b) f (treeOf m h)
 
       -- what the definition takes apart
-      step-is : replaceBy (shape (decode r)) (settingsOf s) (node (decode r) false (forest m (h ∷ []))) ≡ accepted (node (decode r) false (forest m (h ∷ []))) (planWithOrderPreservingVariants (s .spr || b) (s .spm || b) f (treeOf m h))
+      step-is : replaceBy (shape (decode r)) (settingsOf s) (node (decode r) false (forest m (h ∷ [])))
+          ≡ accepted (node (decode r) false (forest m (h ∷ []))) (planWithOrderPreservingVariants (s .spr || b) (s .spm || b) f (treeOf m h))
       unfolding forest
       step-is =
           ap (λ o. replaceBy (shape o) (settingsOf s) T) (is-sort m r h sorting)
           ∙ ap (λ x. cond x (accepted T (alternatePlan (settingsOf s) (fromBytes r .keys) (fromBytes r .fetch) T (treeOf m h))) T) (p .path)
           ∙ ap₂ (λ x g. accepted T (planWithOrderPreservingVariants (s .spr || x) (s .spm || x) g (treeOf m h))) (sym eb) (sym (ef ∙ ap (λ o. cuts o .fetch) (is-sort m r h sorting)))
 
-      module _ (m₁ : List ℕ) (lm : length m₁ ≡ length m) (a : At) (g : Grown m u m₁ a (planWithOrderPreservingVariants (s .spr || b) (s .spm || b) f (treeOf m h)) (u + sizeT (treeOf m h)))
+      module _ (m₁ : List ℕ) (lm : length m₁ ≡ length m) (a : At)
+          (g : Grown m u m₁ a (planWithOrderPreservingVariants (s .spr || b) (s .spm || b) f (treeOf m h)) (u + sizeT (treeOf m h)))
           (v : List ℕ) (t : Tells (treeOf m₁ (a .root)) v) (o : Keys) (eo : keysOf o ≡ knownOrder (fact (node (decode r) false (forest m (h ∷ []))))) (x : Bool) (ex : x ≡ met (told v) (keysOf o)) where
-        met-is : x ≡ met (fact (planWithOrderPreservingVariants (s .spr || b) (s .spm || b) f (treeOf m h))) (knownOrder (fact (node (decode r) false (forest m (h ∷ [])))))
+        met-is : x
+            ≡ met (fact (planWithOrderPreservingVariants (s .spr || b) (s .spm || b) f (treeOf m h))) (knownOrder (fact (node (decode r) false (forest m (h ∷ [])))))
         met-is = ex ∙ ap₂ met (t .is ∙ ap fact (g .tree)) eo
 
-        by-met : (y : Bool) → x ≡ y → cond y (acceptOne (planWithOrderPreservingVariants (s .spr || b) (s .spm || b) f (treeOf m h))) (node (decode r) false (forest m (h ∷ [])))
+        by-met : (y : Bool) → x ≡ y
+            → cond y (acceptOne (planWithOrderPreservingVariants (s .spr || b) (s .spm || b) f (treeOf m h))) (node (decode r) false (forest m (h ∷ [])))
             ≡ replaceBy (shape (decode r)) (settingsOf s) (node (decode r) false (forest m (h ∷ [])))
         by-met y e = ap (λ z. cond z (acceptOne A) T) (sym e ∙ met-is) ∙ sym step-is
 
         pub accept-asks : Carrying m₁ (a .used) (a .root)
-        accept-asks = let c = g .room in let y = p .room in let z = p .small in record { arena = g .arena; here = g .here; room = omega arith; small = omega arith }
+        accept-asks =
+            let c = g .room in let y = p .room in let z = p .small in record { arena = g .arena; here = g .here; room = omega arith; small = omega arith }
 
         pub sort-gone : x ≡ true → (m₂ : List ℕ) (z : At) → Grown m₁ (a .used) m₂ z (acceptOne (treeOf m₁ (a .root))) (a .used + 1)
             → Grown m u m₂ z (replaceBy (shape (decode r)) (settingsOf s) (node (decode r) false (forest m (h ∷ [])))) (u + sizeT (treeOf m h) + 1)
@@ -176,7 +176,8 @@ kids-few m [] = omega arith
 kids-few m (h ∷ ks) = let x = kids-few m ks in omega arith
 
 -- no sort, or no path below it
-replace-not : (s : walk.Settings) (c : Forest Marked) (o : Op) (x y : Bool) → x ≡ eqb (code o) 7 → x && y ≡ false → (x ≡ true → y ≡ headMark c) → replaceBy (shape o) s (node o false c) ≡ node o false c
+replace-not : (s : walk.Settings) (c : Forest Marked) (o : Op) (x y : Bool) → x ≡ eqb (code o) 7 → x && y ≡ false → (x ≡ true → y ≡ headMark c)
+    → replaceBy (shape o) s (node o false c) ≡ node o false c
 replace-not s c =
     op-ind (λ o. (x y : Bool) → x ≡ eqb (code o) 7 → x && y ≡ false → (x ≡ true → y ≡ headMark c) → replaceBy (shape o) s (node o false c) ≡ node o false c)
     (λ p ks f x y e z q. let t = node (sortOp p ks f) false c in ap (λ w. cond w (accepted t (alternatePlan s ks f t (kid0 t c))) t) (sym (q e) ∙ sym (ap (λ w. w && y) e) ∙ z))
@@ -184,7 +185,8 @@ replace-not s c =
 
 module _ (m : List ℕ) (u : ℕ) (r ks : List ℕ) (i : ℕ) (p : Opened m u r ks i) where
   pub few : length ks ≤ 8
-  few = few-any (decode r) (length ks) (subst (λ n. childrenOk (decode r) n ≡ true) (length-facts m ks) (counts-of (decode r) (known (forest m ks)) (p .ok .0) .count))
+  few =
+      few-any (decode r) (length ks) (subst (λ n. childrenOk (decode r) n ≡ true) (length-facts m ks) (counts-of (decode r) (known (forest m ks)) (p .ok .0) .count))
 
   pub step-updating : Updating m u ks
   step-updating =
@@ -202,7 +204,8 @@ module _ (m : List ℕ) (u : ℕ) (r ks : List ℕ) (i : ℕ) (p : Opened m u r 
     marked-size = ap size (c .is) ∙ carry-size (forest m ks)
 
     -- what the definition works on
-    step-def : replaceBy (shape (decode r)) (settingsOf s) (node (decode r) false (forest m₁ (take (length ks) kids))) ≡ replaceWithOrderPreservingVariants (settingsOf s) (node (decode r) false (forest m ks))
+    step-def : replaceBy (shape (decode r)) (settingsOf s) (node (decode r) false (forest m₁ (take (length ks) kids)))
+        ≡ replaceWithOrderPreservingVariants (settingsOf s) (node (decode r) false (forest m ks))
     step-def = ap (λ d. replaceBy (shape (decode r)) (settingsOf s) (node (decode r) false d)) (c .is)
 
     pub step-puts : Puts m₁ w r (take (length ks) kids)
@@ -224,7 +227,8 @@ module _ (m : List ℕ) (u : ℕ) (r ks : List ℕ) (i : ℕ) (p : Opened m u r 
     -- one child
     module _ (e : eqb (code (decode r)) 7 ≡ true) where
       single-kid : length ks ≡ 1
-      single-kid = one-kid (length ks) (decode r) (treated-7 (decode r) e) (subst (λ n. childrenOk (decode r) n ≡ true) (length-facts m ks) (counts-of (decode r) (known (forest m ks)) (p .ok .0) .count))
+      single-kid =
+          one-kid (length ks) (decode r) (treated-7 (decode r) e) (subst (λ n. childrenOk (decode r) n ≡ true) (length-facts m ks) (counts-of (decode r) (known (forest m ks)) (p .ok .0) .count))
 
       taken-one : take (length ks) kids ≡ getD kids 0 0 ∷ []
       taken-one = ap (λ n. take n kids) single-kid ∙ go kids (c .made .wide)
@@ -245,14 +249,16 @@ module _ (m : List ℕ) (u : ℕ) (r ks : List ℕ) (i : ℕ) (p : Opened m u r 
           let x = kids-few m ks in let y = p .room in let z = p .small in let l = c .made .long in let n = c .room in let v = first-size in
           record { puts = subst (Puts m₁ w r) taken-one step-puts; room = omega arith; small = omega arith; sort = e; path = t; hint = step-hint }
 
-      pub step-sort : (m₂ : List ℕ) (a : At) → Grown m₁ w m₂ a (replaceBy (shape (decode r)) (settingsOf s) (node (decode r) false (forest m₁ (getD kids 0 0 ∷ [])))) (w + sizeT (treeOf m₁ (getD kids 0 0)) + 1)
+      pub step-sort : (m₂ : List ℕ) (a : At)
+          → Grown m₁ w m₂ a (replaceBy (shape (decode r)) (settingsOf s) (node (decode r) false (forest m₁ (getD kids 0 0 ∷ [])))) (w + sizeT (treeOf m₁ (getD kids 0 0)) + 1)
           → Grown m u m₂ a (replaceWithOrderPreservingVariants (settingsOf s) (node (decode r) false (forest m ks))) (u + stepRoom (suc (size (forest m ks))))
       step-sort m₂ a g =
           let x = kids-few m ks in let n = c .room in let v = first-size in let y = g .room in let z = g .more in let k = c .made .more in
           grown-as (ap (λ l. replaceBy (shape (decode r)) (settingsOf s) (node (decode r) false (forest m₁ l))) (sym taken-one) ∙ step-def)
           (record { arena = g .arena; old = same-trans u w m m₁ m₂ k (c .made .old) (g .old); more = omega arith; here = g .here; tree = g .tree; room = omega arith })
 
-    pub step-other : (x y : Bool) → x ≡ eqb (code (decode r)) 7 → y ≡ marked (getD kids 0 0) → x && y ≡ false → (m₂ : List ℕ) (a : At) → Grown m₁ w m₂ a (node (decode r) false (forest m₁ (take (length ks) kids))) (w + 1)
+    pub step-other : (x y : Bool) → x ≡ eqb (code (decode r)) 7 → y ≡ marked (getD kids 0 0) → x && y ≡ false → (m₂ : List ℕ) (a : At)
+        → Grown m₁ w m₂ a (node (decode r) false (forest m₁ (take (length ks) kids))) (w + 1)
         → Grown m u m₂ a (replaceWithOrderPreservingVariants (settingsOf s) (node (decode r) false (forest m ks))) (u + stepRoom (suc (size (forest m ks))))
     step-other x y ex ey e m₂ a g =
         let n = c .room in let q = kids-few m ks in let v = g .room in let z = g .more in let k = c .made .more in

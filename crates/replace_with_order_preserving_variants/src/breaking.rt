@@ -1,6 +1,6 @@
-// plan_with_order_breaking_variants: nodes that keep their input's order replaced by ones that do not, as long as no node between asks for that order.
-// Where an alternative is not accepted, the Rust puts this of it into the context's children and never into the plan, and the sort above cuts every later path to that
-// context: the result reaches no answer, and the step does not ask for it.
+// plan_with_order_breaking_variants: nodes that keep their input's order replaced by ones that do not, as long as no node between asks
+// for that order. Where an alternative is not accepted, the Rust puts this of it into the context's children and never into the plan,
+// and the sort above cuts every later path to that context: the result reaches no answer, and the step does not ask for it.
 use crate::marking::maintains_input_order;
 use arena::At;
 use arena::child;
@@ -29,9 +29,10 @@ ghost use Rattle.walks.specs.Marks.{known, sizeT};
 ghost use Rattle.walks.specs.OrderPreserving as walk;
 ghost use Rattle.arena.specs.Arena.{slot};
 ghost use Rattle.plan_context.specs.View.{treeOf, forest, Arena, Grown, Puts};
-ghost use Rattle.replace_with_order_preserving_variants.specs.Breaking.{brokenRepartition, brokenMerge, Broke, breakOne, Breaks};
+ghost use Rattle.replace_with_order_preserving_variants.specs.Breaking.{brokenRepartition, brokenMerge, Broke, breakOne};
+ghost use Rattle.replace_with_order_preserving_variants.specs.Entering.{Enters};
 
-// Whether child j of node i is entered: the node maintains its order, and does not ask for an order that it has, unless the node is a merge.
+// Whether child j of node i is entered: the node maintains its order, and asks for none that it has, unless the node is a merge.
 fn enters(m: &[u8], i: usize, j: usize) -> bool
     requires { ⌜ Arena (now m) (i + 1) × (j < length (slot (now m) i .kids)) ⌝ }
     ensures { λ b. ⌜ b ≡ walk.enters (decode (slot (now (m .entry)) i .rec)) (known (forest (now (m .entry)) (slot (now (m .entry)) i .kids))) j ⌝ }
@@ -51,7 +52,8 @@ fn enters(m: &[u8], i: usize, j: usize) -> bool
     !meets(row(m, k), keys)
 }
 
-// A repartition with the record r, node i before its children changed, over the children ks: without the preserve mark, where it kept the order.
+// A repartition with the record r, node i before its children changed, over the children ks: without the preserve mark, where it
+// kept the order.
 fn break_repartition(m: &mut [u8], w: usize, i: usize, r: &[u8], ks: &[usize]) -> At
     requires { ⌜ Puts (now m) w (now r) (now ks) × (i < w) × (now r ≡ slot (now m) i .rec) × (eqb (code (decode (now r))) 5 ≡ true) ⌝ }
     ensures { λ a. ⌜ Grown (now (m .entry)) w (now (m .exit)) a (brokenRepartition (decode (now (r .entry))) (forest (now (m .entry)) (slot (now (m .entry)) i .kids)) (forest (now (m .entry)) (now (ks .entry)))) (w + 1) ⌝ }
@@ -89,7 +91,7 @@ fn break_over(m: &mut [u8], w: usize, i: usize, ks: &[usize]) -> At
 
 // The tree at h, if it is entered; otherwise it stays.
 fn break_entered(m: &mut [u8], u: usize, h: usize, entered: bool) -> At
-    requires { ⌜ Breaks (now m) u h ⌝ }
+    requires { ⌜ Enters (now m) u h ⌝ }
     ensures { λ a. ⌜ Grown (now (m .entry)) u (now (m .exit)) a (breakOne entered (treeOf (now (m .entry)) h)) (u + sizeT (treeOf (now (m .entry)) h)) ⌝ }
 {
     if !entered {
@@ -113,7 +115,7 @@ fn break_entered(m: &mut [u8], u: usize, h: usize, entered: bool) -> At
 
 // The tree at h.
 pub fn plan_with_order_breaking_variants(m: &mut [u8], u: usize, h: usize) -> At
-    requires { ⌜ Breaks (now m) u h ⌝ }
+    requires { ⌜ Enters (now m) u h ⌝ }
     ensures { λ a. ⌜ Grown (now (m .entry)) u (now (m .exit)) a (walk.planWithOrderBreakingVariants (treeOf (now (m .entry)) h)) (u + sizeT (treeOf (now (m .entry)) h)) ⌝ }
 {
     break_entered(m, u, h, true)

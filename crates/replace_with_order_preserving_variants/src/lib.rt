@@ -40,7 +40,8 @@ pub struct Settings {
     pub prefer: bool,
 }
 
-// Whether a sort with the record r over the tree at h takes the variants that preserve order in any case: where existing sorts are preferred, or it is final over unbounded rows.
+// Whether a sort with the record r over the tree at h takes the variants that preserve order in any case: where existing sorts are
+// preferred, or where it is final over unbounded rows.
 fn use_order_preserving_variant(m: &[u8], r: &[u8], h: usize, s: Settings) -> bool
     requires { ⌜ Sorts (now m) (now r) h ⌝ }
     ensures { λ b. ⌜ b ≡ walk.useOrderPreservingVariant (settingsOf s) (fromBytes (now (r .entry)) .keys) (node (decode (now (r .entry))) false (forest (now (m .entry)) (h ∷ []))) (treeOf (now (m .entry)) h) ⌝ }
@@ -82,8 +83,9 @@ fn accept(m: &mut [u8], u: usize, h: usize) -> At
     }
 }
 
-// A sort with the record r over the tree at h, which is marked. "If the alternate plan makes this sort unnecessary, accept the alternate"; otherwise the tree stays as it was,
-// and the slots of the alternative are free again.
+// A sort with the record r over the tree at h, which is marked. "If the alternate plan makes this sort unnecessary, accept the
+// alternate"; otherwise the tree stays as it was, and the slots of the alternative are free again. Its order-breaking variants, which
+// the Rust makes then, reach no answer (breaking.rt).
 fn replace_sort(m: &mut [u8], u: usize, r: &[u8], h: usize, i: usize, s: Settings) -> At
     requires { ⌜ Sorting (now m) u (now r) h i ⌝ }
     ensures { λ a. ⌜ Grown (now (m .entry)) u (now (m .exit)) a (walk.replaceBy (shape (decode (now (r .entry)))) (settingsOf s) (node (decode (now (r .entry))) false (forest (now (m .entry)) (h ∷ [])))) (u + sizeT (treeOf (now (m .entry)) h) + 1) ⌝ }
@@ -106,7 +108,14 @@ fn replace_sort(m: &mut [u8], u: usize, r: &[u8], h: usize, i: usize, s: Setting
 }
 
 // The open node with the record r over the children ks. Slot i holds the node as it was read.
-pub fn replace_with_order_preserving_variants(m: &mut [u8], u: usize, r: &[u8], ks: &[usize], i: usize, s: Settings) -> At
+pub fn replace_with_order_preserving_variants(
+    m: &mut [u8],
+    u: usize,
+    r: &[u8],
+    ks: &[usize],
+    i: usize,
+    s: Settings,
+) -> At
     requires { ⌜ Opened (now m) u (now r) (now ks) i ⌝ }
     ensures { λ a. ⌜ Grown (now (m .entry)) u (now (m .exit)) a (walk.replaceWithOrderPreservingVariants (settingsOf s) (node (decode (now (r .entry))) false (forest (now (m .entry)) (now (ks .entry))))) (u + stepRoom (suc (size (forest (now (m .entry)) (now (ks .entry)))))) ⌝ }
 {

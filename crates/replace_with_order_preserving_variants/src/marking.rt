@@ -1,4 +1,5 @@
-// update_order_preservation_ctx_children_data: a node is marked where a path leads from it down to a repartition or a coalesce that loses its input's order.
+// update_order_preservation_ctx_children_data: a node is marked where a path leads from it down to a repartition or a coalesce that
+// loses its input's order.
 use arena::At;
 use arena::child;
 use arena::child_count;
@@ -94,7 +95,8 @@ fn initiates(m: &[u8], i: usize) -> bool
 {
     let r = record_at(m, i);
     let k = child(m, i, 0);
-    (is_repartition(r) & !maintains_input_order(m, i, 0)) | (is_coalesce_partitions(r) & is_ordered(row(m, k)))
+    (is_repartition(r) & !maintains_input_order(m, i, 0))
+        | (is_coalesce_partitions(r) & is_ordered(row(m, k)))
 }
 
 // The mark of node i over the children ks, whose marks are cut. No path goes through a fetched coalesce.

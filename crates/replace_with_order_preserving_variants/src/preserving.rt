@@ -1,4 +1,5 @@
-// plan_with_order_preserving_variants: the nodes on the marked paths, with those that lose their input's order replaced by ones that keep it.
+// plan_with_order_preserving_variants: the nodes on the marked paths, with those that lose their input's order replaced by ones that
+// keep it.
 use crate::marking::is_fetched_coalesce;
 use crate::marking::maintains_input_order;
 use arena::At;
@@ -32,7 +33,8 @@ ghost use Rattle.plan_context.specs.View.{treeOf, forest, Grown, Puts};
 ghost use Rattle.replace_with_order_preserving_variants.specs.Marking.{isFetchedCoalesce};
 ghost use Rattle.replace_with_order_preserving_variants.specs.Preserving.{preservedRepartition, Became, preserveOne, Preserves};
 
-// A repartition with the record r, node i before its children changed, over the children ks: "with_preserve_order", where that is better.
+// A repartition with the record r, node i before its children changed, over the children ks: "with_preserve_order", where that is
+// better.
 fn preserve_repartition(m: &mut [u8], w: usize, i: usize, r: &[u8], ks: &[usize], spr: bool) -> At
     requires { ⌜ Puts (now m) w (now r) (now ks) × (i < w) × (now r ≡ slot (now m) i .rec) × (eqb (code (decode (now r))) 5 ≡ true) ⌝ }
     ensures { λ a. ⌜ Grown (now (m .entry)) w (now (m .exit)) a (preservedRepartition spr (decode (now (r .entry))) (forest (now (m .entry)) (slot (now (m .entry)) i .kids)) (forest (now (m .entry)) (now (ks .entry)))) (w + 1) ⌝ }
@@ -46,7 +48,15 @@ fn preserve_repartition(m: &mut [u8], w: usize, i: usize, r: &[u8], ks: &[usize]
 }
 
 // A coalesce with the record r over the children ks: a merge of the child's known order with the sort's fetch, where that is better.
-fn preserve_coalesce(m: &mut [u8], w: usize, i: usize, r: &[u8], ks: &[usize], spm: bool, fetch: Fetch) -> At
+fn preserve_coalesce(
+    m: &mut [u8],
+    w: usize,
+    i: usize,
+    r: &[u8],
+    ks: &[usize],
+    spm: bool,
+    fetch: Fetch,
+) -> At
     requires { ⌜ Puts (now m) w (now r) (now ks) × (i < w) × (eqb (code (decode (now r))) 6 ≡ true) × OkT (mergeOver spm fetch (record { op = decode (now r); mark = true }) (forest (now m) (now ks))) ⌝ }
     ensures { λ a. ⌜ Grown (now (m .entry)) w (now (m .exit)) a (mergeOver spm fetch (record { op = decode (now (r .entry)); mark = true }) (forest (now (m .entry)) (now (ks .entry)))) (w + 1) ⌝ }
 {
@@ -63,7 +73,15 @@ fn preserve_coalesce(m: &mut [u8], w: usize, i: usize, r: &[u8], ks: &[usize], s
 }
 
 // Node i over the children ks, which its own became.
-fn preserve_over(m: &mut [u8], w: usize, i: usize, ks: &[usize], spr: bool, spm: bool, fetch: Fetch) -> At
+fn preserve_over(
+    m: &mut [u8],
+    w: usize,
+    i: usize,
+    ks: &[usize],
+    spr: bool,
+    spm: bool,
+    fetch: Fetch,
+) -> At
     requires { ⌜ Puts (now m) w (slot (now m) i .rec) (now ks) × (i < w) × (isFetchedCoalesce (decode (slot (now m) i .rec)) ≡ false) × OkT (Became (now m) i (now ks) spr spm fetch) ⌝ }
     ensures { λ a. ⌜ Grown (now (m .entry)) w (now (m .exit)) a (Became (now (m .entry)) i (now (ks .entry)) spr spm fetch) (w + 1) ⌝ }
 {
@@ -77,7 +95,7 @@ fn preserve_over(m: &mut [u8], w: usize, i: usize, ks: &[usize], spr: bool, spm:
     update_plan_from_children(m, w, &r, ks, i)
 }
 
-// The tree at h, if it is marked; any other stays. A fetched coalesce stays, and nothing below it is entered.
+// The tree at h, if it is marked; any other stays. A fetched coalesce stays too, unmarked, and nothing below it is entered.
 fn preserve_marked(m: &mut [u8], u: usize, h: usize, spr: bool, spm: bool, fetch: Fetch) -> At
     requires { ⌜ Preserves (now m) u h fetch ⌝ }
     ensures { λ a. ⌜ Grown (now (m .entry)) u (now (m .exit)) a (preserveOne spr spm fetch (treeOf (now (m .entry)) h)) (u + sizeT (treeOf (now (m .entry)) h)) ⌝ }
@@ -89,7 +107,7 @@ fn preserve_marked(m: &mut [u8], u: usize, h: usize, spr: bool, spm: bool, fetch
     if is_fetched_coalesce(record_at(m, i)) {
         return At {
             used: u,
-            root: 2 * i,
+            root: set_mark(h, false),
         };
     }
     let n = child_count(m, i);
@@ -108,7 +126,14 @@ fn preserve_marked(m: &mut [u8], u: usize, h: usize, spr: bool, spm: bool, fetch
 
 // The tree at h, entered whether it is marked or not. spr: a repartition that preserves order is better; spm: so is a merge;
 // fetch: that of the sort above.
-pub fn plan_with_order_preserving_variants(m: &mut [u8], u: usize, h: usize, spr: bool, spm: bool, fetch: Fetch) -> At
+pub fn plan_with_order_preserving_variants(
+    m: &mut [u8],
+    u: usize,
+    h: usize,
+    spr: bool,
+    spm: bool,
+    fetch: Fetch,
+) -> At
     requires { ⌜ Preserves (now m) u h fetch ⌝ }
     ensures { λ a. ⌜ Grown (now (m .entry)) u (now (m .exit)) a (planWithOrderPreservingVariants spr spm fetch (treeOf (now (m .entry)) h)) (u + sizeT (treeOf (now (m .entry)) h)) ⌝ }
 {

@@ -1,6 +1,6 @@
 use borrow.Author.Needs.{needs}
 use native.Mathlib.Omega.{arith}
-use mathlib.Core.Path.{_≡_, refl, sym, ap, ap₂, _∙_, subst}
+use mathlib.Core.Path.{sym, ap, _∙_}
 use Prim.Native.Nat.{_/_}
 use lib.ListN.{length}
 use lib.Seq.{length-take-le}
@@ -10,24 +10,15 @@ use Rattle.replace_with_order_preserving_variants.specs.Marking.{half, c
 use Rattle.replace_with_order_preserving_variants.specs.Replacing.{grown-as}
 use Rattle.replace_with_order_preserving_variants.proofs.accept.Statement.{statement}
 use Rattle.replace_with_order_preserving_variants.proofs.accept.Tie as tie
-use Rattle.replace_with_order_preserving_variants.proofs.accept.Reads as reads
-use Rattle.replace_with_order_preserving_variants.proofs.accept.Lts as lts
-use Rattle.arena.proofs.child_count.Reads as child-count-reads
-use Rattle.arena.proofs.read64.Reads as read64-reads
-use Rattle.arena.proofs.record_at.Reads as record-at-reads
-use Rattle.plan_context.proofs.handles.is_marked.Reads as is-marked-reads
-use Rattle.plan_context.proofs.handles.set_mark.Reads as set-mark-reads
-use Rattle.plan_context.proofs.putting.put_again.Reads as put-again-reads
-use Rattle.replace_with_order_preserving_variants.proofs.unmarked.Reads as unmarked-reads
 
 child-count-requires : tie.Need-child-count-requires
-child-count-requires c κs = let s = c .before .before in let m = s .args .m .now in let u = s .args .u in let h = s .args .h in let p = s .pre in let v = shown m (h / 2) (carry-arena m u h p) in carry-arena m u h p .slots
+child-count-requires c κs = let s = c .before .before in let m = s .args .m .now in let u = s .args .u in let h = s .args .h in let p = s .pre in carry-arena m u h p .slots
 
 unmarked-requires : tie.Need-unmarked-requires
-unmarked-requires c κs = let s = c .before .before .before .before in let m = s .args .m .now in let u = s .args .u in let h = s .args .h in let p = s .pre in let v = shown m (h / 2) (carry-arena m u h p) in carry-arena m u h p
+unmarked-requires c κs = let s = c .before .before .before .before in let m = s .args .m .now in let u = s .args .u in let h = s .args .h in let p = s .pre in carry-arena m u h p
 
 record-at-requires : tie.Need-record-at-requires
-record-at-requires c κs = let s = c .before .before .before .before .before .before in let m = s .args .m .now in let u = s .args .u in let h = s .args .h in let p = s .pre in let v = shown m (h / 2) (carry-arena m u h p) in carry-arena m u h p .slots
+record-at-requires c κs = let s = c .before .before .before .before .before .before in let m = s .args .m .now in let u = s .args .u in let h = s .args .h in let p = s .pre in carry-arena m u h p .slots
 
 read64-requires : tie.Need-read64-requires
 read64-requires c κs = let s = c .before .before .before .before .before .before .before in let m = s .args .m .now in let u = s .args .u in let h = s .args .h in let p = s .pre in let v = shown m (h / 2) (carry-arena m u h p) in ap length (c .record-at .ensures) ∙ v .long

@@ -1,21 +1,8 @@
 use borrow.Author.Needs.{needs}
-use native.Mathlib.Omega.{arith}
-use mathlib.Core.Path.{_≡_, refl, sym, ap, ap₂, _∙_, subst}
 use Rattle.plan_context.specs.Laws.{here}
 use Rattle.replace_with_order_preserving_variants.specs.Step.{sort-order, sorting, sorting-asks, accept-asks, sort-gone, stay-puts, sort-stays}
 use Rattle.replace_with_order_preserving_variants.proofs.replace_sort.Statement.{statement}
 use Rattle.replace_with_order_preserving_variants.proofs.replace_sort.Tie as tie
-use Rattle.replace_with_order_preserving_variants.proofs.replace_sort.Reads as reads
-use Rattle.replace_with_order_preserving_variants.proofs.replace_sort.Lts as lts
-use Rattle.node_properties.proofs.fetch.Reads as fetch-reads
-use Rattle.node_properties.proofs.keys.Reads as keys-reads
-use Rattle.plan_context.proofs.kept.row.Reads as row-reads
-use Rattle.plan_context.proofs.putting.put_again.Reads as put-again-reads
-use Rattle.replace_with_order_preserving_variants.proofs.accept.Reads as accept-reads
-use Rattle.replace_with_order_preserving_variants.proofs.preserving.plan_with_order_preserving_variants.Reads as plan-with-order-preserving-variants-reads
-use Rattle.replace_with_order_preserving_variants.proofs.use_order_preserving_variant.Reads as use-order-preserving-variant-reads
-use Rattle.row_facts.proofs.asked.meets.Reads as meets-reads
-use Rattle.row_facts.proofs.asked.normal_form.Reads as normal-form-reads
 
 use-order-preserving-variant-requires : tie.Need-use-order-preserving-variant-requires
 use-order-preserving-variant-requires c κs = let s = c .before .before .before in let m = s .args .m .now in let u = s .args .u in let r = s .args .r .now in let h = s .args .h in let i = s .args .i in let p = s .pre in sorting m u r h i p

@@ -1,20 +1,10 @@
 use borrow.Author.Needs.{needs}
 use native.Mathlib.Omega.{arith}
-use mathlib.Core.Path.{_≡_, refl, sym, ap, ap₂, _∙_, subst}
-use lib.ListN.{length}
+use mathlib.Core.Path.{sym, _∙_}
 use Rattle.scan.specs.Below.{and-left, and-right}
 use Rattle.replace_with_order_preserving_variants.specs.Step.{few, step-updating, step-proper, counted, step-puts, step-hint, step-sorting, step-sort, step-other}
-use Rattle.replace_with_order_preserving_variants.proofs.replace_with_order_preserving_variants.Statement.{
-  statement,
-}
+use Rattle.replace_with_order_preserving_variants.proofs.replace_with_order_preserving_variants.Statement.{statement}
 use Rattle.replace_with_order_preserving_variants.proofs.replace_with_order_preserving_variants.Tie as tie
-use Rattle.replace_with_order_preserving_variants.proofs.replace_with_order_preserving_variants.Reads as reads
-use Rattle.replace_with_order_preserving_variants.proofs.replace_with_order_preserving_variants.Lts as lts
-use Rattle.node_properties.proofs.is_sort.Reads as is-sort-reads
-use Rattle.plan_context.proofs.handles.is_marked.Reads as is-marked-reads
-use Rattle.plan_context.proofs.putting.put_again.Reads as put-again-reads
-use Rattle.replace_with_order_preserving_variants.proofs.marking.update_order_preservation_ctx_children_data.Reads as update-order-preservation-ctx-children-data-reads
-use Rattle.replace_with_order_preserving_variants.proofs.replace_sort.Reads as replace-sort-reads
 
 update-order-preservation-ctx-children-data-requires :
     tie.Need-update-order-preservation-ctx-children-data-requires

@@ -1,19 +1,13 @@
-use borrow.Author.Needs.{needs}
 use native.Mathlib.Omega.{arith}
-use mathlib.Core.Path.{_≡_, refl, sym, ap, ap₂, _∙_, subst}
+use mathlib.Core.Path.{_≡_, refl, sym, _∙_}
 use mathlib.Core.Bool.{false}
-use Prim.Native.Nat.{ℕ, _-_}
+use Prim.Native.Nat.{_-_}
 use lib.ListN.{length, replicate}
 use Rattle.arena.specs.Arena.{marked, slot}
 use Rattle.replace_with_order_preserving_variants.specs.Nodes.{shown, child-asks, kid-below}
 use Rattle.replace_with_order_preserving_variants.specs.Marking.{nothing-left, Cutting, cutting-none, cutting-room, cutting-more, cutting-all}
 use Rattle.replace_with_order_preserving_variants.proofs.unmarked.Statement.{statement}
 use Rattle.replace_with_order_preserving_variants.proofs.unmarked.Tie as tie
-use Rattle.replace_with_order_preserving_variants.proofs.unmarked.Reads as reads
-use Rattle.replace_with_order_preserving_variants.proofs.unmarked.Lts as lts
-use Rattle.arena.proofs.child.Reads as child-reads
-use Rattle.arena.proofs.child_count.Reads as child-count-reads
-use Rattle.plan_context.proofs.handles.set_mark.Reads as set-mark-reads
 
 abbrev Inv-loop : tie.InvT-loop
 Inv-loop m i n kids₀ j₀ kids j = (n ≡ length (slot m i .kids)) × Cutting m i (λ k. false) j kids

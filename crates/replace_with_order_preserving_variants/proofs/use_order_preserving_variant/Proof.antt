@@ -1,17 +1,7 @@
 use borrow.Author.Needs.{needs}
-use native.Mathlib.Omega.{arith}
-use mathlib.Core.Path.{_≡_, refl, sym, ap, ap₂, _∙_, subst}
 use Rattle.replace_with_order_preserving_variants.specs.Step.{variant-is}
-use Rattle.replace_with_order_preserving_variants.proofs.use_order_preserving_variant.Statement.{
-  statement,
-}
+use Rattle.replace_with_order_preserving_variants.proofs.use_order_preserving_variant.Statement.{statement}
 use Rattle.replace_with_order_preserving_variants.proofs.use_order_preserving_variant.Tie as tie
-use Rattle.replace_with_order_preserving_variants.proofs.use_order_preserving_variant.Reads as reads
-use Rattle.replace_with_order_preserving_variants.proofs.use_order_preserving_variant.Lts as lts
-use Rattle.node_properties.proofs.keys.Reads as keys-reads
-use Rattle.plan_context.proofs.kept.row.Reads as row-reads
-use Rattle.plan_context.proofs.kept.summary.Reads as summary-reads
-use Rattle.row_facts.proofs.asked.meets.Reads as meets-reads
 
 summary-requires : tie.Need-summary-requires
 summary-requires c κs = search needs

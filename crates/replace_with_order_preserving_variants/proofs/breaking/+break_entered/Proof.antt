@@ -1,7 +1,5 @@
-use borrow.Author.Needs.{needs}
 use native.Mathlib.Omega.{arith}
-use mathlib.Core.Path.{_≡_, refl, sym, ap, ap₂, _∙_, subst}
-use native.Mathlib.Omega.{arith}
+use mathlib.Core.Path.{_≡_, refl, sym, _∙_}
 use Prim.Native.Nat.{_≤_, _-_, _/_}
 use borrow.Author.Tests.{not-true, not-false}
 use lib.ListN.{length, replicate}
@@ -9,7 +7,8 @@ use lib.Seq.{length-take-le}
 use Rattle.arena.specs.Arena.{slot}
 use Rattle.walks.specs.Marks.{sizeT}
 use Rattle.plan_context.specs.View.{treeOf}
-use Rattle.replace_with_order_preserving_variants.specs.Breaking.{Going, first-room, stays, going-none, node-room, node-arena, few-kids, kid-there, going-next, going-more, going-puts, going-here, going-end}
+use Rattle.replace_with_order_preserving_variants.specs.Entering.{Going, half-arena, going-none, node-arena, few-kids, kid-there, going-next, going-here}
+use Rattle.replace_with_order_preserving_variants.specs.Breaking.{eachOf, stays, break-more, break-puts, break-end}
 use Prim.Native.Nat.{ℕ, _<_}
 use borrow.Fn.Kinds.{In}
 use borrow.Fn.PlainCycle.{Measures, is, falls, and}
@@ -20,12 +19,8 @@ use Rattle.arena.proofs.child.Reads as child-reads
 use Rattle.arena.proofs.child_count.Reads as child-count-reads
 use Rattle.replace_with_order_preserving_variants.proofs.breaking.break_over.Reads as break-over-reads
 use Rattle.replace_with_order_preserving_variants.proofs.breaking.enters.Reads as enters-reads
-use Rattle.replace_with_order_preserving_variants.proofs.breaking.+break_entered.{
-  statement,
-}
-use Rattle.replace_with_order_preserving_variants.proofs.breaking.+break_entered.Tie.{
-  close,
-}
+use Rattle.replace_with_order_preserving_variants.proofs.breaking.+break_entered.{statement}
+use Rattle.replace_with_order_preserving_variants.proofs.breaking.+break_entered.Tie.{close}
 
 abbrev μ-break-entered : Measures 1 break-entered-kinds.ps ℕ
 μ-break-entered κs a = sizeT (treeOf (a .0 .now) (a .1 .1 .0))
@@ -35,258 +30,70 @@ break-entered-at t =
     and 1 break-entered-kinds.ps (is 1 break-entered-kinds.ps μ-break-entered t) break-entered.Pre
 
 abbrev break-entered-below : ℕ → In 1 break-entered-kinds.ps
-break-entered-below t =
-    and
-    1
-    break-entered-kinds.ps
-    (falls 1 break-entered-kinds.ps _<_ μ-break-entered t)
-    break-entered.Pre
+break-entered-below t = and 1 break-entered-kinds.ps (falls 1 break-entered-kinds.ps _<_ μ-break-entered t) break-entered.Pre
 
 abbrev break-entered-Inv-loop : break-entered-lts.InvT-loop
-break-entered-Inv-loop m₀ u h entered i n kids₀ w₀ j₀ m kids w j = (n ≡ length (slot m₀ (h / 2) .kids)) × (j ≤ n) × Going m₀ u h j w kids m
+break-entered-Inv-loop m₀ u h entered i n kids₀ w₀ j₀ m kids w j = (n ≡ length (slot m₀ (h / 2) .kids)) × (j ≤ n) × Going (eachOf m₀ h) m₀ u h j w kids m
 
 abbrev break-entered-μ-loop : break-entered-lts.MeasureT-loop
 break-entered-μ-loop m₀ u h entered i n kids₀ w₀ j₀ m kids w j = n - j
 
-break-entered-returns : (t : ℕ) → break-entered-lts.Need-returns (
-  child-count-reads.Asked,
-  child-count-reads.Learnt,
-  child-reads.Asked,
-  child-reads.Learnt,
-  enters-reads.Asked,
-  enters-reads.Learnt,
-  break-entered-below t,
-  break-entered.Post,
-  break-over-reads.Asked,
-  break-over-reads.Learnt,
-) (break-entered-at t) break-entered.Post break-entered-Inv-loop break-entered-μ-loop
+-- what the calls ask and give
+abbrev calls : ℕ → break-entered-lts.Claims
+calls t =
+    (child-count-reads.Asked, child-count-reads.Learnt, child-reads.Asked, child-reads.Learnt, enters-reads.Asked, enters-reads.Learnt, break-entered-below t, break-entered.Post, break-over-reads.Asked, break-over-reads.Learnt)
+
+break-entered-returns : (t : ℕ) → break-entered-lts.Need-returns (calls t) (break-entered-at t) break-entered.Post break-entered-Inv-loop break-entered-μ-loop
 break-entered-returns t c = let s = c .before .before in let m = s .args .m .now in let u = s .args .u in let h = s .args .h in let p = s .pre .1 in stays m u h p (s .args .entered) (not-true _ (c .if1 .taken))
 
-break-entered-child-count-requires : (t : ℕ) → break-entered-lts.Need-child-count-requires (
-  child-count-reads.Asked,
-  child-count-reads.Learnt,
-  child-reads.Asked,
-  child-reads.Learnt,
-  enters-reads.Asked,
-  enters-reads.Learnt,
-  break-entered-below t,
-  break-entered.Post,
-  break-over-reads.Asked,
-  break-over-reads.Learnt,
-) (break-entered-at t) break-entered.Post break-entered-Inv-loop break-entered-μ-loop
-break-entered-child-count-requires t c κs = let s = c .before .before .before in let m = s .args .m .now in let u = s .args .u in let h = s .args .h in let p = s .pre .1 in first-room m u h p
+break-entered-child-count-requires : (t : ℕ) → break-entered-lts.Need-child-count-requires (calls t) (break-entered-at t) break-entered.Post break-entered-Inv-loop break-entered-μ-loop
+break-entered-child-count-requires t c κs = let s = c .before .before .before in let m = s .args .m .now in let u = s .args .u in let h = s .args .h in let p = s .pre .1 in half-arena m u h p .slots
 
-break-entered-loop-holds : (t : ℕ) → break-entered-lts.Need-loop-holds (
-  child-count-reads.Asked,
-  child-count-reads.Learnt,
-  child-reads.Asked,
-  child-reads.Learnt,
-  enters-reads.Asked,
-  enters-reads.Learnt,
-  break-entered-below t,
-  break-entered.Post,
-  break-over-reads.Asked,
-  break-over-reads.Learnt,
-) (break-entered-at t) break-entered.Post break-entered-Inv-loop break-entered-μ-loop
-break-entered-loop-holds t c = let s = c .before .before .before .before in let m = s .args .m .now in let u = s .args .u in let h = s .args .h in let p = s .pre .1 in let g = going-none m u h p (replicate 8 0) refl in
-    (c .child-count .ensures ∙ few-kids m u h p 0 u (replicate 8 0) m g .1, omega arith, g)
+break-entered-loop-holds : (t : ℕ) → break-entered-lts.Need-loop-holds (calls t) (break-entered-at t) break-entered.Post break-entered-Inv-loop break-entered-μ-loop
+break-entered-loop-holds t c = let s = c .before .before .before .before in let m = s .args .m .now in let u = s .args .u in let h = s .args .h in let p = s .pre .1 in let g = going-none m u h p (eachOf m h) (replicate 8 0) refl in
+    (c .child-count .ensures ∙ few-kids m u h p (eachOf m h) 0 u (replicate 8 0) m g .1, omega arith, g)
 
-break-entered-child-requires : (t : ℕ) → break-entered-lts.Need-child-requires (
-  child-count-reads.Asked,
-  child-count-reads.Learnt,
-  child-reads.Asked,
-  child-reads.Learnt,
-  enters-reads.Asked,
-  enters-reads.Learnt,
-  break-entered-below t,
-  break-entered.Post,
-  break-over-reads.Asked,
-  break-over-reads.Learnt,
-) (break-entered-at t) break-entered.Post break-entered-Inv-loop break-entered-μ-loop
-break-entered-child-requires t c κs = let s = c .before .before .before .before .before .before .before in let m = s .args .m .now in let u = s .args .u in let h = s .args .h in let p = s .pre .1 in let l = c .before .before .loop in let i₀ = l .inv .0 in let i₁ = l .inv .1 in let g = l .inv .2 in let k = few-kids m u h p (l .j) (l .w) (l .kids) (l .m) g in let k₀ = k .0 in let k₁ = k .1 in let x = c .before .loop-test .taken in (node-room m u h p (l .j) (l .w) (l .kids) (l .m) g, omega arith, k₀)
+break-entered-child-requires : (t : ℕ) → break-entered-lts.Need-child-requires (calls t) (break-entered-at t) break-entered.Post break-entered-Inv-loop break-entered-μ-loop
+break-entered-child-requires t c κs = let s = c .before .before .before .before .before .before .before in let m = s .args .m .now in let u = s .args .u in let h = s .args .h in let p = s .pre .1 in let l = c .before .before .loop in let i₀ = l .inv .0 in let i₁ = l .inv .1 in let g = l .inv .2 in let k = few-kids m u h p (eachOf m h) (l .j) (l .w) (l .kids) (l .m) g in let k₀ = k .0 in let k₁ = k .1 in let x = c .before .loop-test .taken in (node-arena m u h p (eachOf m h) (l .j) (l .w) (l .kids) (l .m) g .slots, omega arith, k₀)
 
-break-entered-enters-requires : (t : ℕ) → break-entered-lts.Need-enters-requires (
-  child-count-reads.Asked,
-  child-count-reads.Learnt,
-  child-reads.Asked,
-  child-reads.Learnt,
-  enters-reads.Asked,
-  enters-reads.Learnt,
-  break-entered-below t,
-  break-entered.Post,
-  break-over-reads.Asked,
-  break-over-reads.Learnt,
-) (break-entered-at t) break-entered.Post break-entered-Inv-loop break-entered-μ-loop
-break-entered-enters-requires t c κs = let s = c .before .before .before .before .before .before .before .before .before in let m = s .args .m .now in let u = s .args .u in let h = s .args .h in let p = s .pre .1 in let l = c .before .before .before .before .loop in let i₀ = l .inv .0 in let i₁ = l .inv .1 in let g = l .inv .2 in let x = c .before .before .before .loop-test .taken in (node-arena m u h p (l .j) (l .w) (l .kids) (l .m) g, kid-there m u h p (l .j) (l .w) (l .kids) (l .m) g (omega arith))
+break-entered-enters-requires : (t : ℕ) → break-entered-lts.Need-enters-requires (calls t) (break-entered-at t) break-entered.Post break-entered-Inv-loop break-entered-μ-loop
+break-entered-enters-requires t c κs = let s = c .before .before .before .before .before .before .before .before .before in let m = s .args .m .now in let u = s .args .u in let h = s .args .h in let p = s .pre .1 in let l = c .before .before .before .before .loop in let i₀ = l .inv .0 in let i₁ = l .inv .1 in let g = l .inv .2 in let x = c .before .before .before .loop-test .taken in (node-arena m u h p (eachOf m h) (l .j) (l .w) (l .kids) (l .m) g, kid-there m u h p (eachOf m h) (l .j) (l .w) (l .kids) (l .m) g (omega arith))
 
-break-entered-break-entered-requires : (t : ℕ) → break-entered-lts.Need-break-entered-requires (
-  child-count-reads.Asked,
-  child-count-reads.Learnt,
-  child-reads.Asked,
-  child-reads.Learnt,
-  enters-reads.Asked,
-  enters-reads.Learnt,
-  break-entered-below t,
-  break-entered.Post,
-  break-over-reads.Asked,
-  break-over-reads.Learnt,
-) (break-entered-at t) break-entered.Post break-entered-Inv-loop break-entered-μ-loop
-break-entered-break-entered-requires t c κs = let s = c .before .before .before .before .before .before .before .before .before .before .before in let m = s .args .m .now in let u = s .args .u in let h = s .args .h in let p = s .pre .1 in let l = c .before .before .before .before .before .before .loop in let i₀ = l .inv .0 in let i₁ = l .inv .1 in let g = l .inv .2 in let x = c .before .before .before .before .before .loop-test .taken in let q = going-next m u h p (l .j) (l .w) (l .kids) (l .m) g (omega arith) _ (c .before .before .before .child .ensures) in let q₀ = q .0 in let z = s .pre .0 in (omega arith, q .1)
+break-entered-break-entered-requires : (t : ℕ) → break-entered-lts.Need-break-entered-requires (calls t) (break-entered-at t) break-entered.Post break-entered-Inv-loop break-entered-μ-loop
+break-entered-break-entered-requires t c κs = let s = c .before .before .before .before .before .before .before .before .before .before .before in let m = s .args .m .now in let u = s .args .u in let h = s .args .h in let p = s .pre .1 in let l = c .before .before .before .before .before .before .loop in let i₀ = l .inv .0 in let i₁ = l .inv .1 in let g = l .inv .2 in let x = c .before .before .before .before .before .loop-test .taken in let q = going-next m u h p (eachOf m h) (l .j) (l .w) (l .kids) (l .m) g (omega arith) _ (c .before .before .before .child .ensures) in let q₀ = q .0 in let z = s .pre .0 in (omega arith, q .1)
 
-break-entered-mul-kids : (t : ℕ) → break-entered-lts.Need-mul-kids (
-  child-count-reads.Asked,
-  child-count-reads.Learnt,
-  child-reads.Asked,
-  child-reads.Learnt,
-  enters-reads.Asked,
-  enters-reads.Learnt,
-  break-entered-below t,
-  break-entered.Post,
-  break-over-reads.Asked,
-  break-over-reads.Learnt,
-) (break-entered-at t) break-entered.Post break-entered-Inv-loop break-entered-μ-loop
-break-entered-mul-kids t c = let s = c .before .before .before .before .before .before .before .before .before .before .before .before .before .before in let m = s .args .m .now in let u = s .args .u in let h = s .args .h in let p = s .pre .1 in let l = c .before .before .before .before .before .before .before .before .before .loop in let i₀ = l .inv .0 in let i₁ = l .inv .1 in let g = l .inv .2 in let k = few-kids m u h p (l .j) (l .w) (l .kids) (l .m) g in let k₀ = k .0 in let k₁ = k .1 in let x = c .before .before .before .before .before .before .before .before .loop-test .taken in omega arith
+break-entered-mul-kids : (t : ℕ) → break-entered-lts.Need-mul-kids (calls t) (break-entered-at t) break-entered.Post break-entered-Inv-loop break-entered-μ-loop
+break-entered-mul-kids t c = let s = c .before .before .before .before .before .before .before .before .before .before .before .before .before .before in let m = s .args .m .now in let u = s .args .u in let h = s .args .h in let p = s .pre .1 in let l = c .before .before .before .before .before .before .before .before .before .loop in let i₀ = l .inv .0 in let i₁ = l .inv .1 in let g = l .inv .2 in let k = few-kids m u h p (eachOf m h) (l .j) (l .w) (l .kids) (l .m) g in let k₀ = k .0 in let k₁ = k .1 in let x = c .before .before .before .before .before .before .before .before .loop-test .taken in omega arith
 
-break-entered-array-write-kids : (t : ℕ) → break-entered-lts.Need-array-write-kids (
-  child-count-reads.Asked,
-  child-count-reads.Learnt,
-  child-reads.Asked,
-  child-reads.Learnt,
-  enters-reads.Asked,
-  enters-reads.Learnt,
-  break-entered-below t,
-  break-entered.Post,
-  break-over-reads.Asked,
-  break-over-reads.Learnt,
-) (break-entered-at t) break-entered.Post break-entered-Inv-loop break-entered-μ-loop
-break-entered-array-write-kids t c = let s = c .before .before .before .before .before .before .before .before .before .before .before .before .before .before in let m = s .args .m .now in let u = s .args .u in let h = s .args .h in let p = s .pre .1 in let l = c .before .before .before .before .before .before .before .before .before .loop in let i₀ = l .inv .0 in let i₁ = l .inv .1 in let g = l .inv .2 in let k = few-kids m u h p (l .j) (l .w) (l .kids) (l .m) g in let k₀ = k .0 in let k₁ = k .1 in let x = c .before .before .before .before .before .before .before .before .loop-test .taken in let z = g .made .wide in omega arith
+break-entered-array-write-kids : (t : ℕ) → break-entered-lts.Need-array-write-kids (calls t) (break-entered-at t) break-entered.Post break-entered-Inv-loop break-entered-μ-loop
+break-entered-array-write-kids t c = let s = c .before .before .before .before .before .before .before .before .before .before .before .before .before .before in let m = s .args .m .now in let u = s .args .u in let h = s .args .h in let p = s .pre .1 in let l = c .before .before .before .before .before .before .before .before .before .loop in let i₀ = l .inv .0 in let i₁ = l .inv .1 in let g = l .inv .2 in let k = few-kids m u h p (eachOf m h) (l .j) (l .w) (l .kids) (l .m) g in let k₀ = k .0 in let k₁ = k .1 in let x = c .before .before .before .before .before .before .before .before .loop-test .taken in let z = g .made .wide in omega arith
 
-break-entered-add-j : (t : ℕ) → break-entered-lts.Need-add-j (
-  child-count-reads.Asked,
-  child-count-reads.Learnt,
-  child-reads.Asked,
-  child-reads.Learnt,
-  enters-reads.Asked,
-  enters-reads.Learnt,
-  break-entered-below t,
-  break-entered.Post,
-  break-over-reads.Asked,
-  break-over-reads.Learnt,
-) (break-entered-at t) break-entered.Post break-entered-Inv-loop break-entered-μ-loop
-break-entered-add-j t c = let s = c .before .before .before .before .before .before .before .before .before .before .before .before .before .before in let m = s .args .m .now in let u = s .args .u in let h = s .args .h in let p = s .pre .1 in let l = c .before .before .before .before .before .before .before .before .before .loop in let i₀ = l .inv .0 in let i₁ = l .inv .1 in let g = l .inv .2 in let k = few-kids m u h p (l .j) (l .w) (l .kids) (l .m) g in let k₀ = k .0 in let k₁ = k .1 in let x = c .before .before .before .before .before .before .before .before .loop-test .taken in omega arith
+break-entered-add-j : (t : ℕ) → break-entered-lts.Need-add-j (calls t) (break-entered-at t) break-entered.Post break-entered-Inv-loop break-entered-μ-loop
+break-entered-add-j t c = let s = c .before .before .before .before .before .before .before .before .before .before .before .before .before .before in let m = s .args .m .now in let u = s .args .u in let h = s .args .h in let p = s .pre .1 in let l = c .before .before .before .before .before .before .before .before .before .loop in let i₀ = l .inv .0 in let i₁ = l .inv .1 in let g = l .inv .2 in let k = few-kids m u h p (eachOf m h) (l .j) (l .w) (l .kids) (l .m) g in let k₀ = k .0 in let k₁ = k .1 in let x = c .before .before .before .before .before .before .before .before .loop-test .taken in omega arith
 
-break-entered-loop-less : (t : ℕ) → break-entered-lts.Need-loop-less (
-  child-count-reads.Asked,
-  child-count-reads.Learnt,
-  child-reads.Asked,
-  child-reads.Learnt,
-  enters-reads.Asked,
-  enters-reads.Learnt,
-  break-entered-below t,
-  break-entered.Post,
-  break-over-reads.Asked,
-  break-over-reads.Learnt,
-) (break-entered-at t) break-entered.Post break-entered-Inv-loop break-entered-μ-loop
+break-entered-loop-less : (t : ℕ) → break-entered-lts.Need-loop-less (calls t) (break-entered-at t) break-entered.Post break-entered-Inv-loop break-entered-μ-loop
 break-entered-loop-less t c = let x = c .before .before .before .before .before .before .before .before .loop-test .taken in omega arith
 
-break-entered-loop-again : (t : ℕ) → break-entered-lts.Need-loop-again (
-  child-count-reads.Asked,
-  child-count-reads.Learnt,
-  child-reads.Asked,
-  child-reads.Learnt,
-  enters-reads.Asked,
-  enters-reads.Learnt,
-  break-entered-below t,
-  break-entered.Post,
-  break-over-reads.Asked,
-  break-over-reads.Learnt,
-) (break-entered-at t) break-entered.Post break-entered-Inv-loop break-entered-μ-loop
-break-entered-loop-again t c = let s = c .before .before .before .before .before .before .before .before .before .before .before .before .before .before in let m = s .args .m .now in let u = s .args .u in let h = s .args .h in let p = s .pre .1 in let l = c .before .before .before .before .before .before .before .before .before .loop in let i₀ = l .inv .0 in let i₁ = l .inv .1 in let g = l .inv .2 in let x = c .before .before .before .before .before .before .before .before .loop-test .taken in (i₀, omega arith, going-more m u h p (l .j) (l .w) (l .kids) (l .m) g (omega arith) _ (c .before .before .before .before .before .before .child .ensures) _ (c .before .before .before .before .enters .ensures) _ (c .before .before .break-entered .kept .0) (c .before .before .break-entered .result) (c .before .before .break-entered .ensures))
+break-entered-loop-again : (t : ℕ) → break-entered-lts.Need-loop-again (calls t) (break-entered-at t) break-entered.Post break-entered-Inv-loop break-entered-μ-loop
+break-entered-loop-again t c = let s = c .before .before .before .before .before .before .before .before .before .before .before .before .before .before in let m = s .args .m .now in let u = s .args .u in let h = s .args .h in let p = s .pre .1 in let l = c .before .before .before .before .before .before .before .before .before .loop in let i₀ = l .inv .0 in let i₁ = l .inv .1 in let g = l .inv .2 in let x = c .before .before .before .before .before .before .before .before .loop-test .taken in (i₀, omega arith, break-more m u h p (l .j) (l .w) (l .kids) (l .m) g (omega arith) _ (c .before .before .before .before .before .before .child .ensures) _ (c .before .before .before .before .enters .ensures) _ (c .before .before .break-entered .kept .0) (c .before .before .break-entered .result) (c .before .before .break-entered .ensures))
 
-break-entered-array-share-prefix-kids : (t : ℕ) → break-entered-lts.Need-array-share-prefix-kids (
-  child-count-reads.Asked,
-  child-count-reads.Learnt,
-  child-reads.Asked,
-  child-reads.Learnt,
-  enters-reads.Asked,
-  enters-reads.Learnt,
-  break-entered-below t,
-  break-entered.Post,
-  break-over-reads.Asked,
-  break-over-reads.Learnt,
-) (break-entered-at t) break-entered.Post break-entered-Inv-loop break-entered-μ-loop
-break-entered-array-share-prefix-kids t c = let s = c .before .before .before .before .before .before .before in let m = s .args .m .now in let u = s .args .u in let h = s .args .h in let p = s .pre .1 in let l = c .before .before .loop in let i₀ = l .inv .0 in let i₁ = l .inv .1 in let g = l .inv .2 in let k = few-kids m u h p (l .j) (l .w) (l .kids) (l .m) g in let k₀ = k .0 in let k₁ = k .1 in let z = g .made .wide in omega arith
+break-entered-array-share-prefix-kids : (t : ℕ) → break-entered-lts.Need-array-share-prefix-kids (calls t) (break-entered-at t) break-entered.Post break-entered-Inv-loop break-entered-μ-loop
+break-entered-array-share-prefix-kids t c = let s = c .before .before .before .before .before .before .before in let m = s .args .m .now in let u = s .args .u in let h = s .args .h in let p = s .pre .1 in let l = c .before .before .loop in let i₀ = l .inv .0 in let i₁ = l .inv .1 in let g = l .inv .2 in let k = few-kids m u h p (eachOf m h) (l .j) (l .w) (l .kids) (l .m) g in let k₀ = k .0 in let k₁ = k .1 in let z = g .made .wide in omega arith
 
-break-entered-slice-aggregate-break-over :
-    (t : ℕ) → break-entered-lts.Need-slice-aggregate-break-over (
-      child-count-reads.Asked,
-      child-count-reads.Learnt,
-      child-reads.Asked,
-      child-reads.Learnt,
-      enters-reads.Asked,
-      enters-reads.Learnt,
-      break-entered-below t,
-      break-entered.Post,
-      break-over-reads.Asked,
-      break-over-reads.Learnt,
-    ) (break-entered-at t) break-entered.Post break-entered-Inv-loop break-entered-μ-loop
-break-entered-slice-aggregate-break-over t c = let s = c .before .before .before .before .before .before .before .before in let m = s .args .m .now in let u = s .args .u in let h = s .args .h in let p = s .pre .1 in let l = c .before .before .before .loop in let i₀ = l .inv .0 in let i₁ = l .inv .1 in let g = l .inv .2 in let k = few-kids m u h p (l .j) (l .w) (l .kids) (l .m) g in let k₀ = k .0 in let k₁ = k .1 in let z = g .made .wide in sym (length-take-le _ (l .kids) (omega arith))
+break-entered-slice-aggregate-break-over : (t : ℕ) → break-entered-lts.Need-slice-aggregate-break-over (calls t) (break-entered-at t) break-entered.Post break-entered-Inv-loop break-entered-μ-loop
+break-entered-slice-aggregate-break-over t c = let s = c .before .before .before .before .before .before .before .before in let m = s .args .m .now in let u = s .args .u in let h = s .args .h in let p = s .pre .1 in let l = c .before .before .before .loop in let i₀ = l .inv .0 in let i₁ = l .inv .1 in let g = l .inv .2 in let k = few-kids m u h p (eachOf m h) (l .j) (l .w) (l .kids) (l .m) g in let k₀ = k .0 in let k₁ = k .1 in let z = g .made .wide in sym (length-take-le _ (l .kids) (omega arith))
 
-break-entered-break-over-requires : (t : ℕ) → break-entered-lts.Need-break-over-requires (
-  child-count-reads.Asked,
-  child-count-reads.Learnt,
-  child-reads.Asked,
-  child-reads.Learnt,
-  enters-reads.Asked,
-  enters-reads.Learnt,
-  break-entered-below t,
-  break-entered.Post,
-  break-over-reads.Asked,
-  break-over-reads.Learnt,
-) (break-entered-at t) break-entered.Post break-entered-Inv-loop break-entered-μ-loop
-break-entered-break-over-requires t c κs = let s = c .before .before .before .before .before .before .before .before in let m = s .args .m .now in let u = s .args .u in let h = s .args .h in let p = s .pre .1 in let l = c .before .before .before .loop in let i₀ = l .inv .0 in let i₁ = l .inv .1 in let g = l .inv .2 in let x = c .before .before .loop-test .left in (going-puts m u h p (l .j) (l .w) (l .kids) (l .m) g _ (omega arith) i₀, going-here m u h p (l .j) (l .w) (l .kids) (l .m) g _ (omega arith) i₀)
+break-entered-break-over-requires : (t : ℕ) → break-entered-lts.Need-break-over-requires (calls t) (break-entered-at t) break-entered.Post break-entered-Inv-loop break-entered-μ-loop
+break-entered-break-over-requires t c κs = let s = c .before .before .before .before .before .before .before .before in let m = s .args .m .now in let u = s .args .u in let h = s .args .h in let p = s .pre .1 in let l = c .before .before .before .loop in let i₀ = l .inv .0 in let i₁ = l .inv .1 in let g = l .inv .2 in let x = c .before .before .loop-test .left in (break-puts m u h p (l .j) (l .w) (l .kids) (l .m) g _ (omega arith) i₀, going-here m u h p (eachOf m h) (l .j) (l .w) (l .kids) (l .m) g _ (omega arith) i₀)
 
-break-entered-same-length : (t : ℕ) → break-entered-lts.Need-same-length (
-  child-count-reads.Asked,
-  child-count-reads.Learnt,
-  child-reads.Asked,
-  child-reads.Learnt,
-  enters-reads.Asked,
-  enters-reads.Learnt,
-  break-entered-below t,
-  break-entered.Post,
-  break-over-reads.Asked,
-  break-over-reads.Learnt,
-) (break-entered-at t) break-entered.Post break-entered-Inv-loop break-entered-μ-loop
+break-entered-same-length : (t : ℕ) → break-entered-lts.Need-same-length (calls t) (break-entered-at t) break-entered.Post break-entered-Inv-loop break-entered-μ-loop
 break-entered-same-length t c = c .before .before .break-over .kept .0 ∙ c .before .before .before .before .before .before .loop .inv .2 .made .long
 
-break-entered-returns-2 : (t : ℕ) → break-entered-lts.Need-returns-2 (
-  child-count-reads.Asked,
-  child-count-reads.Learnt,
-  child-reads.Asked,
-  child-reads.Learnt,
-  enters-reads.Asked,
-  enters-reads.Learnt,
-  break-entered-below t,
-  break-entered.Post,
-  break-over-reads.Asked,
-  break-over-reads.Learnt,
-) (break-entered-at t) break-entered.Post break-entered-Inv-loop break-entered-μ-loop
-break-entered-returns-2 t c = let s = c .before .before .before .before .before .before .before .before .before .before .before in let m = s .args .m .now in let u = s .args .u in let h = s .args .h in let p = s .pre .1 in let l = c .before .before .before .before .before .before .loop in let i₀ = l .inv .0 in let i₁ = l .inv .1 in let g = l .inv .2 in let x = c .before .before .before .before .before .loop-test .left in going-end m u h p (l .j) (l .w) (l .kids) (l .m) g _ (omega arith) i₀ (s .args .entered) (not-false _ (c .before .before .before .before .before .before .before .before .before .if1 .left)) _ (c .before .before .break-over .result) (c .before .before .break-over .ensures)
+break-entered-returns-2 : (t : ℕ) → break-entered-lts.Need-returns-2 (calls t) (break-entered-at t) break-entered.Post break-entered-Inv-loop break-entered-μ-loop
+break-entered-returns-2 t c = let s = c .before .before .before .before .before .before .before .before .before .before .before in let m = s .args .m .now in let u = s .args .u in let h = s .args .h in let p = s .pre .1 in let l = c .before .before .before .before .before .before .loop in let i₀ = l .inv .0 in let i₁ = l .inv .1 in let g = l .inv .2 in let x = c .before .before .before .before .before .loop-test .left in break-end m u h p (l .j) (l .w) (l .kids) (l .m) g _ (omega arith) i₀ (s .args .entered) (not-false _ (c .before .before .before .before .before .before .before .before .before .if1 .left)) _ (c .before .before .break-over .result) (c .before .before .break-over .ensures)
 
 pub +break-entered-spec : {M : Type 1} → statement M
-+break-entered-spec = close μ-break-entered λ t. break-entered-lts.spec (
-  child-count-reads.Asked,
-  child-count-reads.Learnt,
-  child-reads.Asked,
-  child-reads.Learnt,
-  enters-reads.Asked,
-  enters-reads.Learnt,
-  break-entered-below t,
-  break-entered.Post,
-  break-over-reads.Asked,
-  break-over-reads.Learnt,
-)
++break-entered-spec = close μ-break-entered λ t. break-entered-lts.spec (calls t)
     (break-entered-at t)
     break-entered.Post
     break-entered-Inv-loop

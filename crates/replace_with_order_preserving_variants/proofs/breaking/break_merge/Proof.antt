@@ -1,6 +1,6 @@
 use borrow.Author.Needs.{needs}
 use native.Mathlib.Omega.{arith}
-use mathlib.Core.Path.{_≡_, refl, sym, ap, ap₂, _∙_, subst}
+use mathlib.Core.Path.{ap, _∙_}
 use Prim.Native.Nat.{_*_}
 use Rattle.plan.specs.Op.{coalesce}
 use Rattle.plan_codec.specs.Encode.{encode}
@@ -8,19 +8,11 @@ use Rattle.arena.specs.Laws.{below-at}
 use Rattle.plan_context.specs.View.{forest}
 use Rattle.replace_with_order_preserving_variants.specs.Nodes.{record-proper}
 use Rattle.replace_with_order_preserving_variants.specs.Breaking.{one-below, merge-puts, merge-broken}
-use Rattle.replace_with_order_preserving_variants.proofs.breaking.break_merge.Statement.{
-  statement,
-}
+use Rattle.replace_with_order_preserving_variants.proofs.breaking.break_merge.Statement.{statement}
 use Rattle.replace_with_order_preserving_variants.proofs.breaking.break_merge.Tie as tie
-use Rattle.replace_with_order_preserving_variants.proofs.breaking.break_merge.Reads as reads
-use Rattle.replace_with_order_preserving_variants.proofs.breaking.break_merge.Lts as lts
-use Rattle.new_records.proofs.coalesce_record.Reads as coalesce-record-reads
-use Rattle.node_properties.proofs.fetch.Reads as fetch-reads
-use Rattle.plan_context.proofs.handles.set_mark.Reads as set-mark-reads
-use Rattle.plan_context.proofs.putting.put_over.Reads as put-over-reads
 
 fetch-requires : tie.Need-fetch-requires
-fetch-requires c κs = let s = c .before .before .before in let m = s .args .m .now in let w = s .args .w in let r = s .args .r .now in let ks = s .args .ks .now in let p = s .pre .0 in let e = s .pre .1 in record-proper r _ (forest m ks) (p .canon) (p .ok)
+fetch-requires c κs = let s = c .before .before .before in let m = s .args .m .now in let r = s .args .r .now in let ks = s .args .ks .now in let p = s .pre .0 in let e = s .pre .1 in record-proper r _ (forest m ks) (p .canon) (p .ok)
 
 coalesce-record-requires : tie.Need-coalesce-record-requires
 coalesce-record-requires c κs = search needs

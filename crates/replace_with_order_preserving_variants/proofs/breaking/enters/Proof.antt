@@ -1,6 +1,5 @@
 use borrow.Author.Needs.{needs}
-use native.Mathlib.Omega.{arith}
-use mathlib.Core.Path.{_≡_, refl, sym, ap, ap₂, _∙_, subst}
+use mathlib.Core.Path.{sym, ap, _∙_, subst}
 use lib.Dec.{eqb}
 use Rattle.plan.specs.Numbers.{code}
 use Rattle.plan_codec.specs.Decode.{decode}
@@ -11,19 +10,8 @@ use Rattle.walks.specs.Marks.{known}
 use Rattle.plan_context.specs.View.{forest}
 use Rattle.replace_with_order_preserving_variants.specs.Nodes.{slot-proper, child-asks, kid-here, kid-facts}
 use Rattle.replace_with_order_preserving_variants.specs.Breaking.{enters-lost, enters-merge, enters-unasked, enters-asked}
-use Rattle.replace_with_order_preserving_variants.proofs.breaking.enters.Statement.{
-  statement,
-}
+use Rattle.replace_with_order_preserving_variants.proofs.breaking.enters.Statement.{statement}
 use Rattle.replace_with_order_preserving_variants.proofs.breaking.enters.Tie as tie
-use Rattle.replace_with_order_preserving_variants.proofs.breaking.enters.Reads as reads
-use Rattle.replace_with_order_preserving_variants.proofs.breaking.enters.Lts as lts
-use Rattle.arena.proofs.child.Reads as child-reads
-use Rattle.arena.proofs.record_at.Reads as record-at-reads
-use Rattle.node_properties.proofs.is_sort_preserving_merge.Reads as is-sort-preserving-merge-reads
-use Rattle.node_properties.proofs.wanted_order.Reads as wanted-order-reads
-use Rattle.plan_context.proofs.kept.row.Reads as row-reads
-use Rattle.replace_with_order_preserving_variants.proofs.marking.maintains_input_order.Reads as maintains-input-order-reads
-use Rattle.row_facts.proofs.asked.meets.Reads as meets-reads
 
 maintains-input-order-requires : tie.Need-maintains-input-order-requires
 maintains-input-order-requires c κs = search needs
@@ -35,13 +23,13 @@ record-at-requires : tie.Need-record-at-requires
 record-at-requires c κs = search needs
 
 is-sort-preserving-merge-requires : tie.Need-is-sort-preserving-merge-requires
-is-sort-preserving-merge-requires c κs = let s = c .before .before .before .before in let m = s .args .m .now in let i = s .args .i in let j = s .args .j in let a = s .pre .0 in let o = decode (slot m i .rec) in let fs = known (forest m (slot m i .kids)) in subst Proper (sym (c .record-at .ensures)) (slot-proper m i a)
+is-sort-preserving-merge-requires c κs = let s = c .before .before .before .before in let m = s .args .m .now in let i = s .args .i in let a = s .pre .0 in subst Proper (sym (c .record-at .ensures)) (slot-proper m i a)
 
 returns-2 : tie.Need-returns-2
 returns-2 c = let s = c .before .before .before .before .before .before in let m = s .args .m .now in let i = s .args .i in let j = s .args .j in let a = s .pre .0 in let o = decode (slot m i .rec) in let fs = known (forest m (slot m i .kids)) in enters-merge o fs j _ (c .before .before .before .before .maintains-input-order .ensures) (not-false _ (c .before .before .before .if1 .left)) _ (c .before .is-sort-preserving-merge .ensures ∙ ap (λ x. eqb (code (decode x)) 8) (c .before .before .record-at .ensures)) (c .if2 .taken)
 
 wanted-order-requires : tie.Need-wanted-order-requires
-wanted-order-requires c κs = let s = c .before .before .before .before .before .before in let m = s .args .m .now in let i = s .args .i in let j = s .args .j in let a = s .pre .0 in let o = decode (slot m i .rec) in let fs = known (forest m (slot m i .kids)) in subst Proper (sym (c .before .before .record-at .ensures)) (slot-proper m i a)
+wanted-order-requires c κs = let s = c .before .before .before .before .before .before in let m = s .args .m .now in let i = s .args .i in let a = s .pre .0 in subst Proper (sym (c .before .before .record-at .ensures)) (slot-proper m i a)
 
 enum-known-order : tie.Need-enum-known-order
 enum-known-order c = search needs
@@ -53,10 +41,10 @@ returns-3 : tie.Need-returns-3
 returns-3 c = let s = c .before .before .before .before .before .before .before .before .before in let m = s .args .m .now in let i = s .args .i in let j = s .args .j in let a = s .pre .0 in let o = decode (slot m i .rec) in let fs = known (forest m (slot m i .kids)) in enters-unasked o fs j _ (c .before .before .before .before .before .before .before .maintains-input-order .ensures) (not-false _ (c .before .before .before .before .before .before .if1 .left)) _ (c .before .before .before .before .is-sort-preserving-merge .ensures ∙ ap (λ x. eqb (code (decode x)) 8) (c .before .before .before .before .before .record-at .ensures)) (c .before .before .before .if2 .left) _ (rw (c .before .before .before .before .before .record-at .ensures) at (c .before .before .wanted-order .ensures)) (c .enum-told .given .1)
 
 child-requires : tie.Need-child-requires
-child-requires c κs = let s = c .before .before .before .before .before .before .before .before .before .before in let m = s .args .m .now in let i = s .args .i in let j = s .args .j in let a = s .pre .0 in let o = decode (slot m i .rec) in let fs = known (forest m (slot m i .kids)) in child-asks m i a j (s .pre .1)
+child-requires c κs = let s = c .before .before .before .before .before .before .before .before .before .before in let m = s .args .m .now in let i = s .args .i in let j = s .args .j in let a = s .pre .0 in child-asks m i a j (s .pre .1)
 
 row-requires : tie.Need-row-requires
-row-requires c κs = let s = c .before .before .before .before .before .before .before .before .before .before .before in let m = s .args .m .now in let i = s .args .i in let j = s .args .j in let a = s .pre .0 in let o = decode (slot m i .rec) in let fs = known (forest m (slot m i .kids)) in kid-here m i a j (s .pre .1) _ (c .child .ensures)
+row-requires c κs = let s = c .before .before .before .before .before .before .before .before .before .before .before in let m = s .args .m .now in let i = s .args .i in let j = s .args .j in let a = s .pre .0 in kid-here m i a j (s .pre .1) _ (c .child .ensures)
 
 meets-requires : tie.Need-meets-requires
 meets-requires c κs = search needs

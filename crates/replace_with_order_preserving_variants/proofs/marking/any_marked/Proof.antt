@@ -1,16 +1,10 @@
 use borrow.Author.Needs.{needs}
 use native.Mathlib.Omega.{arith}
-use mathlib.Core.Path.{_≡_, refl, sym, ap, ap₂, _∙_, subst}
 use Prim.Native.Nat.{_-_}
 use lib.ListN.{length}
 use Rattle.replace_with_order_preserving_variants.specs.Marking.{Any, any-none, any-more, any-all}
-use Rattle.replace_with_order_preserving_variants.proofs.marking.any_marked.Statement.{
-  statement,
-}
+use Rattle.replace_with_order_preserving_variants.proofs.marking.any_marked.Statement.{statement}
 use Rattle.replace_with_order_preserving_variants.proofs.marking.any_marked.Tie as tie
-use Rattle.replace_with_order_preserving_variants.proofs.marking.any_marked.Reads as reads
-use Rattle.replace_with_order_preserving_variants.proofs.marking.any_marked.Lts as lts
-use Rattle.plan_context.proofs.handles.is_marked.Reads as is-marked-reads
 
 abbrev Inv-loop : tie.InvT-loop
 Inv-loop ks any₀ j₀ any j = Any ks j any

@@ -1,21 +1,12 @@
 use borrow.Author.Needs.{needs}
 use native.Mathlib.Omega.{arith}
-use mathlib.Core.Path.{_≡_, refl, sym, ap, ap₂, _∙_, subst}
+use mathlib.Core.Path.{sym, ap, _∙_, subst}
 use Rattle.plan_codec.specs.Decode.{decode}
 use Rattle.record_fields.specs.Proper.{Proper}
 use Rattle.replace_with_order_preserving_variants.specs.Nodes.{slot-proper}
 use Rattle.replace_with_order_preserving_variants.specs.Marking.{isFetchedCoalesce, count-same, carries-none, carries-fetched, carries-begins, carries-any}
-use Rattle.replace_with_order_preserving_variants.proofs.marking.carries.Statement.{
-  statement,
-}
+use Rattle.replace_with_order_preserving_variants.proofs.marking.carries.Statement.{statement}
 use Rattle.replace_with_order_preserving_variants.proofs.marking.carries.Tie as tie
-use Rattle.replace_with_order_preserving_variants.proofs.marking.carries.Reads as reads
-use Rattle.replace_with_order_preserving_variants.proofs.marking.carries.Lts as lts
-use Rattle.arena.proofs.record_at.Reads as record-at-reads
-use Rattle.plan_context.proofs.handles.is_marked.Reads as is-marked-reads
-use Rattle.replace_with_order_preserving_variants.proofs.marking.any_marked.Reads as any-marked-reads
-use Rattle.replace_with_order_preserving_variants.proofs.marking.initiates.Reads as initiates-reads
-use Rattle.replace_with_order_preserving_variants.proofs.marking.is_fetched_coalesce.Reads as is-fetched-coalesce-reads
 
 returns : tie.Need-returns
 returns c = let s = c .before .before .before in let m = s .args .m .now in let i = s .args .i in let ks = s .args .ks .now in let a = s .pre .0 in let e = s .pre .1 in carries-none m i ks e (c .if1 .taken)
@@ -24,7 +15,7 @@ record-at-requires : tie.Need-record-at-requires
 record-at-requires c κs = search needs
 
 is-fetched-coalesce-requires : tie.Need-is-fetched-coalesce-requires
-is-fetched-coalesce-requires c κs = let s = c .before .before .before .before in let m = s .args .m .now in let i = s .args .i in let ks = s .args .ks .now in let a = s .pre .0 in let e = s .pre .1 in subst Proper (sym (c .record-at .ensures)) (slot-proper m i a)
+is-fetched-coalesce-requires c κs = let s = c .before .before .before .before in let m = s .args .m .now in let i = s .args .i in let a = s .pre .0 in let e = s .pre .1 in subst Proper (sym (c .record-at .ensures)) (slot-proper m i a)
 
 returns-2 : tie.Need-returns-2
 returns-2 c = let s = c .before .before .before .before .before .before in let m = s .args .m .now in let i = s .args .i in let ks = s .args .ks .now in let a = s .pre .0 in let e = s .pre .1 in carries-fetched m i ks e (let x = c .before .before .before .if1 .left in omega arith) _ (c .before .is-fetched-coalesce .ensures ∙ ap (λ x. isFetchedCoalesce (decode x)) (c .before .before .record-at .ensures)) (c .if2 .taken)

@@ -1,31 +1,20 @@
 use borrow.Author.Needs.{needs}
 use native.Mathlib.Omega.{arith}
-use mathlib.Core.Path.{_≡_, refl, sym, ap, ap₂, _∙_, subst}
+use mathlib.Core.Path.{sym, ap, _∙_}
 use Prim.Native.Nat.{_/_}
 use lib.ListN.{length}
 use lib.Seq.{length-take-le}
 use Rattle.replace_with_order_preserving_variants.specs.Nodes.{shown}
 use Rattle.replace_with_order_preserving_variants.specs.Marking.{half, carry-arena, cut-is, cut-puts, cut-grown, carry-is}
 use Rattle.replace_with_order_preserving_variants.specs.Replacing.{grown-as}
-use Rattle.replace_with_order_preserving_variants.proofs.marking.carry.Statement.{
-  statement,
-}
+use Rattle.replace_with_order_preserving_variants.proofs.marking.carry.Statement.{statement}
 use Rattle.replace_with_order_preserving_variants.proofs.marking.carry.Tie as tie
-use Rattle.replace_with_order_preserving_variants.proofs.marking.carry.Reads as reads
-use Rattle.replace_with_order_preserving_variants.proofs.marking.carry.Lts as lts
-use Rattle.arena.proofs.child_count.Reads as child-count-reads
-use Rattle.arena.proofs.read64.Reads as read64-reads
-use Rattle.arena.proofs.record_at.Reads as record-at-reads
-use Rattle.plan_context.proofs.handles.set_mark.Reads as set-mark-reads
-use Rattle.plan_context.proofs.putting.put_again.Reads as put-again-reads
-use Rattle.replace_with_order_preserving_variants.proofs.marking.carries.Reads as carries-reads
-use Rattle.replace_with_order_preserving_variants.proofs.marking.inspected.Reads as inspected-reads
 
 child-count-requires : tie.Need-child-count-requires
-child-count-requires c κs = let s = c .before .before in let m = s .args .m .now in let u = s .args .u in let h = s .args .h in let p = s .pre in let v = shown m (h / 2) (carry-arena m u h p) in carry-arena m u h p .slots
+child-count-requires c κs = let s = c .before .before in let m = s .args .m .now in let u = s .args .u in let h = s .args .h in let p = s .pre in carry-arena m u h p .slots
 
 inspected-requires : tie.Need-inspected-requires
-inspected-requires c κs = let s = c .before .before .before .before in let m = s .args .m .now in let u = s .args .u in let h = s .args .h in let p = s .pre in let v = shown m (h / 2) (carry-arena m u h p) in carry-arena m u h p
+inspected-requires c κs = let s = c .before .before .before .before in let m = s .args .m .now in let u = s .args .u in let h = s .args .h in let p = s .pre in carry-arena m u h p
 
 array-share-prefix-kids : tie.Need-array-share-prefix-kids
 array-share-prefix-kids c = let s = c .before .before .before .before .before .before in let m = s .args .m .now in let u = s .args .u in let h = s .args .h in let p = s .pre in let v = shown m (h / 2) (carry-arena m u h p) in let f = v .few in let n = c .before .before .before .child-count .ensures in let z = v .count in let y = c .before .inspected .ensures .wide in omega arith
@@ -37,7 +26,7 @@ carries-requires : tie.Need-carries-requires
 carries-requires c κs = let s = c .before .before .before .before .before .before .before in let m = s .args .m .now in let u = s .args .u in let h = s .args .h in let p = s .pre in let v = shown m (h / 2) (carry-arena m u h p) in (carry-arena m u h p, cut-is m u h p _ (c .before .before .inspected .result) (c .before .before .inspected .ensures) (c .before .before .before .before .child-count .result) (c .before .before .before .before .child-count .ensures ∙ v .count))
 
 record-at-requires : tie.Need-record-at-requires
-record-at-requires c κs = let s = c .before .before .before .before .before .before .before .before .before in let m = s .args .m .now in let u = s .args .u in let h = s .args .h in let p = s .pre in let v = shown m (h / 2) (carry-arena m u h p) in carry-arena m u h p .slots
+record-at-requires c κs = let s = c .before .before .before .before .before .before .before .before .before in let m = s .args .m .now in let u = s .args .u in let h = s .args .h in let p = s .pre in carry-arena m u h p .slots
 
 read64-requires : tie.Need-read64-requires
 read64-requires c κs = let s = c .before .before .before .before .before .before .before .before .before .before in let m = s .args .m .now in let u = s .args .u in let h = s .args .h in let p = s .pre in let v = shown m (h / 2) (carry-arena m u h p) in ap length (c .record-at .ensures) ∙ v .long

@@ -1,6 +1,5 @@
 use borrow.Author.Needs.{needs}
-use native.Mathlib.Omega.{arith}
-use mathlib.Core.Path.{_≡_, refl, sym, ap, ap₂, _∙_, subst}
+use mathlib.Core.Path.{sym, ap, ap₂, _∙_, subst}
 use lib.Dec.{eqb}
 use Rattle.plan.specs.Numbers.{code}
 use Rattle.plan_codec.specs.Decode.{decode}
@@ -8,19 +7,8 @@ use Rattle.record_fields.specs.Proper.{Proper}
 use mathlib.Core.Bool.{not, _&&_, _||_}
 use Rattle.semantics.specs.Facts.{isNil, knownOrder}
 use Rattle.replace_with_order_preserving_variants.specs.Nodes.{slot-proper, child-asks, kid-here, kid-facts}
-use Rattle.replace_with_order_preserving_variants.proofs.marking.initiates.Statement.{
-  statement,
-}
+use Rattle.replace_with_order_preserving_variants.proofs.marking.initiates.Statement.{statement}
 use Rattle.replace_with_order_preserving_variants.proofs.marking.initiates.Tie as tie
-use Rattle.replace_with_order_preserving_variants.proofs.marking.initiates.Reads as reads
-use Rattle.replace_with_order_preserving_variants.proofs.marking.initiates.Lts as lts
-use Rattle.arena.proofs.child.Reads as child-reads
-use Rattle.arena.proofs.record_at.Reads as record-at-reads
-use Rattle.node_properties.proofs.is_coalesce_partitions.Reads as is-coalesce-partitions-reads
-use Rattle.node_properties.proofs.is_repartition.Reads as is-repartition-reads
-use Rattle.plan_context.proofs.kept.row.Reads as row-reads
-use Rattle.replace_with_order_preserving_variants.proofs.marking.maintains_input_order.Reads as maintains-input-order-reads
-use Rattle.row_facts.proofs.asked.is_ordered.Reads as is-ordered-reads
 
 record-at-requires : tie.Need-record-at-requires
 record-at-requires c κs = search needs

@@ -1,22 +1,13 @@
 use borrow.Author.Needs.{needs}
-use native.Mathlib.Omega.{arith}
-use mathlib.Core.Path.{_≡_, refl, sym, ap, ap₂, _∙_, subst}
+use mathlib.Core.Path.{sym, ap, ap₂, _∙_, subst}
 use lib.Dec.{eqb}
 use Rattle.plan.specs.Numbers.{code}
 use Rattle.plan_codec.specs.Decode.{decode}
 use Rattle.record_fields.specs.Proper.{Proper}
 use mathlib.Core.Bool.{_||_}
 use Rattle.replace_with_order_preserving_variants.specs.Nodes.{slot-proper}
-use Rattle.replace_with_order_preserving_variants.proofs.marking.inspect_child.Statement.{
-  statement,
-}
+use Rattle.replace_with_order_preserving_variants.proofs.marking.inspect_child.Statement.{statement}
 use Rattle.replace_with_order_preserving_variants.proofs.marking.inspect_child.Tie as tie
-use Rattle.replace_with_order_preserving_variants.proofs.marking.inspect_child.Reads as reads
-use Rattle.replace_with_order_preserving_variants.proofs.marking.inspect_child.Lts as lts
-use Rattle.arena.proofs.record_at.Reads as record-at-reads
-use Rattle.node_properties.proofs.is_coalesce_partitions.Reads as is-coalesce-partitions-reads
-use Rattle.node_properties.proofs.is_repartition.Reads as is-repartition-reads
-use Rattle.replace_with_order_preserving_variants.proofs.marking.maintains_input_order.Reads as maintains-input-order-reads
 
 record-at-requires : tie.Need-record-at-requires
 record-at-requires c κs = search needs
@@ -31,7 +22,7 @@ is-repartition-requires : tie.Need-is-repartition-requires
 is-repartition-requires c κs = let s = c .before .before .before .before in let m = s .args .m .now in let i = s .args .i in let a = s .pre .0 in subst Proper (sym (c .before .before .record-at .ensures)) (slot-proper m i a)
 
 returns : tie.Need-returns
-returns c = let s = c .before .before .before .before .before in let m = s .args .m .now in let i = s .args .i in let a = s .pre .0 in ap₂ _||_ (c .before .before .maintains-input-order .ensures) (ap₂ _||_ (c .before .is-coalesce-partitions .ensures ∙ ap (λ x. eqb (code (decode x)) 6) (c .before .before .before .record-at .ensures)) (c .is-repartition .ensures ∙ ap (λ x. eqb (code (decode x)) 5) (c .before .before .before .record-at .ensures)))
+returns c = let s = c .before .before .before .before .before in let a = s .pre .0 in ap₂ _||_ (c .before .before .maintains-input-order .ensures) (ap₂ _||_ (c .before .is-coalesce-partitions .ensures ∙ ap (λ x. eqb (code (decode x)) 6) (c .before .before .before .record-at .ensures)) (c .is-repartition .ensures ∙ ap (λ x. eqb (code (decode x)) 5) (c .before .before .before .record-at .ensures)))
 
 pub inspect-child-spec : {M : Type 1} → statement M
 inspect-child-spec =

@@ -1,6 +1,6 @@
 use borrow.Author.Needs.{needs}
 use native.Mathlib.Omega.{arith}
-use mathlib.Core.Path.{_≡_, refl, sym, ap, ap₂, _∙_, subst}
+use mathlib.Core.Path.{_≡_, refl, ap₂, _∙_}
 use mathlib.Core.Bool.{_&&_}
 use Prim.Native.Nat.{_-_}
 use lib.ListN.{length, replicate}
@@ -11,17 +11,8 @@ use Rattle.arena.specs.Arena.{slot}
 use Rattle.plan_context.specs.View.{forest}
 use Rattle.replace_with_order_preserving_variants.specs.Nodes.{shown, child-asks, kid-below}
 use Rattle.replace_with_order_preserving_variants.specs.Marking.{Cutting, cutting-none, cutting-room, cutting-more, cutting-all}
-use Rattle.replace_with_order_preserving_variants.proofs.marking.inspected.Statement.{
-  statement,
-}
+use Rattle.replace_with_order_preserving_variants.proofs.marking.inspected.Statement.{statement}
 use Rattle.replace_with_order_preserving_variants.proofs.marking.inspected.Tie as tie
-use Rattle.replace_with_order_preserving_variants.proofs.marking.inspected.Reads as reads
-use Rattle.replace_with_order_preserving_variants.proofs.marking.inspected.Lts as lts
-use Rattle.arena.proofs.child.Reads as child-reads
-use Rattle.arena.proofs.child_count.Reads as child-count-reads
-use Rattle.plan_context.proofs.handles.is_marked.Reads as is-marked-reads
-use Rattle.plan_context.proofs.handles.set_mark.Reads as set-mark-reads
-use Rattle.replace_with_order_preserving_variants.proofs.marking.inspect_child.Reads as inspect-child-reads
 
 abbrev Inv-loop : tie.InvT-loop
 Inv-loop m i n kids₀ j₀ kids j = (n ≡ length (slot m i .kids)) × Cutting m i (inspectChild (decode (slot m i .rec)) (known (forest m (slot m i .kids)))) j kids
@@ -42,7 +33,7 @@ is-marked-requires : tie.Need-is-marked-requires Inv-loop μ-loop
 is-marked-requires c κs = search needs
 
 inspect-child-requires : tie.Need-inspect-child-requires Inv-loop μ-loop
-inspect-child-requires c κs = let s = c .before .before .before .before .before .before in let m = s .args .m .now in let i = s .args .i in let a = s .pre in let l = c .before .before .before .loop in let e = l .inv .0 in let q = l .inv .1 in (a, (let x = c .before .before .loop-test .taken in omega arith))
+inspect-child-requires c κs = let s = c .before .before .before .before .before .before in let a = s .pre in let l = c .before .before .before .loop in let e = l .inv .0 in let q = l .inv .1 in (a, (let x = c .before .before .loop-test .taken in omega arith))
 
 set-mark-requires : tie.Need-set-mark-requires Inv-loop μ-loop
 set-mark-requires c κs = let s = c .before .before .before .before .before .before .before in let m = s .args .m .now in let i = s .args .i in let a = s .pre in let l = c .before .before .before .before .loop in let e = l .inv .0 in let q = l .inv .1 in let y = kid-below m i a (l .j) (let x = c .before .before .before .loop-test .taken in omega arith) _ (c .before .before .child .ensures) in let z = a .small in omega arith

@@ -1,17 +1,9 @@
 use borrow.Author.Needs.{needs}
-use native.Mathlib.Omega.{arith}
-use mathlib.Core.Path.{_≡_, refl, sym, ap, ap₂, _∙_, subst}
+use mathlib.Core.Path.{ap, ap₂, _∙_}
 use mathlib.Core.Bool.{_&&_}
 use Rattle.plan.specs.WellFormed.{someFetch}
-use Rattle.replace_with_order_preserving_variants.proofs.marking.is_fetched_coalesce.Statement.{
-  statement,
-}
+use Rattle.replace_with_order_preserving_variants.proofs.marking.is_fetched_coalesce.Statement.{statement}
 use Rattle.replace_with_order_preserving_variants.proofs.marking.is_fetched_coalesce.Tie as tie
-use Rattle.replace_with_order_preserving_variants.proofs.marking.is_fetched_coalesce.Reads as reads
-use Rattle.replace_with_order_preserving_variants.proofs.marking.is_fetched_coalesce.Lts as lts
-use Rattle.node_properties.proofs.fetch.Reads as fetch-reads
-use Rattle.node_properties.proofs.is_coalesce_partitions.Reads as is-coalesce-partitions-reads
-use Rattle.node_properties.proofs.some_fetch.Reads as some-fetch-reads
 
 is-coalesce-partitions-requires : tie.Need-is-coalesce-partitions-requires
 is-coalesce-partitions-requires c κs = search needs

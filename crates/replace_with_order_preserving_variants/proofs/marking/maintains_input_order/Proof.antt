@@ -1,21 +1,12 @@
 use borrow.Author.Needs.{needs}
-use native.Mathlib.Omega.{arith}
-use mathlib.Core.Path.{_≡_, refl, sym, ap, ap₂, _∙_, subst}
+use mathlib.Core.Path.{sym, subst}
 use Rattle.walks.specs.Marks.{known}
 use Rattle.arena.specs.Arena.{slot}
 use Rattle.record_fields.specs.Proper.{Proper}
 use Rattle.plan_context.specs.View.{forest}
 use Rattle.replace_with_order_preserving_variants.specs.Nodes.{own-here, slot-proper, child-asks, kid-here, among}
-use Rattle.replace_with_order_preserving_variants.proofs.marking.maintains_input_order.Statement.{
-  statement,
-}
+use Rattle.replace_with_order_preserving_variants.proofs.marking.maintains_input_order.Statement.{statement}
 use Rattle.replace_with_order_preserving_variants.proofs.marking.maintains_input_order.Tie as tie
-use Rattle.replace_with_order_preserving_variants.proofs.marking.maintains_input_order.Reads as reads
-use Rattle.replace_with_order_preserving_variants.proofs.marking.maintains_input_order.Lts as lts
-use Rattle.arena.proofs.child.Reads as child-reads
-use Rattle.arena.proofs.record_at.Reads as record-at-reads
-use Rattle.node_properties.proofs.maintains.Reads as maintains-reads
-use Rattle.plan_context.proofs.kept.row.Reads as row-reads
 
 child-requires : tie.Need-child-requires
 child-requires c κs = let s = c .before in let m = s .args .m .now in let i = s .args .i in let a = s .pre .0 in child-asks m i a (s .args .j) (s .pre .1)

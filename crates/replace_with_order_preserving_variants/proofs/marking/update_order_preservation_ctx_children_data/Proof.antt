@@ -1,16 +1,11 @@
 use borrow.Author.Needs.{needs}
 use native.Mathlib.Omega.{arith}
-use mathlib.Core.Path.{_≡_, refl, sym, ap, ap₂, _∙_, subst}
+use mathlib.Core.Path.{refl}
 use Prim.Native.Nat.{_-_}
 use lib.ListN.{length, replicate}
 use Rattle.replace_with_order_preserving_variants.specs.Marking.{Going, going-none, going-asks, going-more, going-all}
-use Rattle.replace_with_order_preserving_variants.proofs.marking.update_order_preservation_ctx_children_data.Statement.{
-  statement,
-}
+use Rattle.replace_with_order_preserving_variants.proofs.marking.update_order_preservation_ctx_children_data.Statement.{statement}
 use Rattle.replace_with_order_preserving_variants.proofs.marking.update_order_preservation_ctx_children_data.Tie as tie
-use Rattle.replace_with_order_preserving_variants.proofs.marking.update_order_preservation_ctx_children_data.Reads as reads
-use Rattle.replace_with_order_preserving_variants.proofs.marking.update_order_preservation_ctx_children_data.Lts as lts
-use Rattle.replace_with_order_preserving_variants.proofs.marking.carry.Reads as carry-reads
 
 abbrev Inv-loop : tie.InvT-loop
 Inv-loop m₀ u ks kids₀ w₀ j₀ m kids w j = Going m₀ u ks j w kids m
@@ -31,13 +26,13 @@ carry-requires : tie.Need-carry-requires Inv-loop μ-loop
 carry-requires c κs = let s = c .before .before .before .before .before .before in let m = s .args .m .now in let u = s .args .u in let ks = s .args .ks .now in let p = s .pre in let l = c .before .before .before .loop in going-asks m u ks p (l .j) (l .w) (l .kids) (l .m) (l .inv) (c .before .before .loop-test .taken)
 
 mul-kids : tie.Need-mul-kids Inv-loop μ-loop
-mul-kids c = let s = c .before .before .before .before .before .before .before .before .before in let m = s .args .m .now in let u = s .args .u in let ks = s .args .ks .now in let p = s .pre in let l = c .before .before .before .before .before .before .loop in let x = c .before .before .before .before .before .loop-test .taken in let f = p .few in omega arith
+mul-kids c = let s = c .before .before .before .before .before .before .before .before .before in let p = s .pre in let l = c .before .before .before .before .before .before .loop in let x = c .before .before .before .before .before .loop-test .taken in let f = p .few in omega arith
 
 array-write-kids : tie.Need-array-write-kids Inv-loop μ-loop
-array-write-kids c = let s = c .before .before .before .before .before .before .before .before .before in let m = s .args .m .now in let u = s .args .u in let ks = s .args .ks .now in let p = s .pre in let l = c .before .before .before .before .before .before .loop in let x = c .before .before .before .before .before .loop-test .taken in let f = p .few in let y = l .inv .made .wide in omega arith
+array-write-kids c = let s = c .before .before .before .before .before .before .before .before .before in let p = s .pre in let l = c .before .before .before .before .before .before .loop in let x = c .before .before .before .before .before .loop-test .taken in let f = p .few in let y = l .inv .made .wide in omega arith
 
 add-j : tie.Need-add-j Inv-loop μ-loop
-add-j c = let s = c .before .before .before .before .before .before .before .before .before in let m = s .args .m .now in let u = s .args .u in let ks = s .args .ks .now in let p = s .pre in let l = c .before .before .before .before .before .before .loop in let x = c .before .before .before .before .before .loop-test .taken in let f = p .few in omega arith
+add-j c = let s = c .before .before .before .before .before .before .before .before .before in let p = s .pre in let l = c .before .before .before .before .before .before .loop in let x = c .before .before .before .before .before .loop-test .taken in let f = p .few in omega arith
 
 loop-less : tie.Need-loop-less Inv-loop μ-loop
 loop-less c = let x = c .before .before .before .before .before .loop-test .taken in omega arith

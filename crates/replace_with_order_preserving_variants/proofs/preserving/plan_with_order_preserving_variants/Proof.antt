@@ -1,18 +1,11 @@
 use borrow.Author.Needs.{needs}
 use native.Mathlib.Omega.{arith}
-use mathlib.Core.Path.{_≡_, refl, sym, ap, ap₂, _∙_, subst}
 use Rattle.replace_with_order_preserving_variants.specs.Preserving.{entered-asks, entered-grown}
-use Rattle.replace_with_order_preserving_variants.proofs.preserving.plan_with_order_preserving_variants.Statement.{
-  statement,
-}
+use Rattle.replace_with_order_preserving_variants.proofs.preserving.plan_with_order_preserving_variants.Statement.{statement}
 use Rattle.replace_with_order_preserving_variants.proofs.preserving.plan_with_order_preserving_variants.Tie as tie
-use Rattle.replace_with_order_preserving_variants.proofs.preserving.plan_with_order_preserving_variants.Reads as reads
-use Rattle.replace_with_order_preserving_variants.proofs.preserving.plan_with_order_preserving_variants.Lts as lts
-use Rattle.plan_context.proofs.handles.set_mark.Reads as set-mark-reads
-use Rattle.replace_with_order_preserving_variants.proofs.preserving.preserve_marked.Reads as preserve-marked-reads
 
 set-mark-requires : tie.Need-set-mark-requires
-set-mark-requires c κs = let s = c .before .before in let m = s .args .m .now in let u = s .args .u in let h = s .args .h in let p = s .pre in let spr = s .args .spr in let spm = s .args .spm in let f = s .args .fetch in let x = p .here in let y = p .arena .small in omega arith
+set-mark-requires c κs = let s = c .before .before in let p = s .pre in let x = p .enters .here in let y = p .enters .arena .small in omega arith
 
 preserve-marked-requires : tie.Need-preserve-marked-requires
 preserve-marked-requires c κs = let s = c .before .before .before in let m = s .args .m .now in let u = s .args .u in let h = s .args .h in let p = s .pre in let spr = s .args .spr in let spm = s .args .spm in let f = s .args .fetch in entered-asks m u h spr spm f p _ (c .set-mark .ensures)

@@ -1,23 +1,13 @@
 use borrow.Author.Needs.{needs}
 use native.Mathlib.Omega.{arith}
-use mathlib.Core.Path.{_≡_, refl, sym, ap, ap₂, _∙_, subst}
+use mathlib.Core.Path.{refl}
 use Prim.Native.Nat.{_*_}
 use borrow.Author.Tests.{not-true, not-false}
 use Rattle.arena.specs.Laws.{below-at}
 use Rattle.plan_context.specs.Laws.{here}
 use Rattle.replace_with_order_preserving_variants.specs.Preserving.{order-few, one-below, coalesce-plain, coalesce-unordered, merge-puts, merge-grown}
-use Rattle.replace_with_order_preserving_variants.proofs.preserving.preserve_coalesce.Statement.{
-  statement,
-}
+use Rattle.replace_with_order_preserving_variants.proofs.preserving.preserve_coalesce.Statement.{statement}
 use Rattle.replace_with_order_preserving_variants.proofs.preserving.preserve_coalesce.Tie as tie
-use Rattle.replace_with_order_preserving_variants.proofs.preserving.preserve_coalesce.Reads as reads
-use Rattle.replace_with_order_preserving_variants.proofs.preserving.preserve_coalesce.Lts as lts
-use Rattle.new_records.proofs.merge_record.Reads as merge-record-reads
-use Rattle.plan_context.proofs.handles.set_mark.Reads as set-mark-reads
-use Rattle.plan_context.proofs.kept.row.Reads as row-reads
-use Rattle.plan_context.proofs.putting.put_over.Reads as put-over-reads
-use Rattle.plan_context.proofs.putting.update_plan_from_children.Reads as update-plan-from-children-reads
-use Rattle.row_facts.proofs.asked.known_order.Reads as known-order-reads
 
 update-plan-from-children-requires : tie.Need-update-plan-from-children-requires
 update-plan-from-children-requires c κs = search needs

@@ -1,27 +1,18 @@
 use borrow.Author.Needs.{needs}
 use native.Mathlib.Omega.{arith}
-use mathlib.Core.Path.{_≡_, refl, sym, ap, ap₂, _∙_, subst}
 use Prim.Native.Nat.{_*_}
 use Rattle.arena.specs.Laws.{below-at}
 use Rattle.plan_context.specs.Nodes.{proper}
 use Rattle.plan_context.specs.Putting.{put-over}
 use Rattle.replace_with_order_preserving_variants.specs.Preserving.{slot-arena, some-kid, one-child, repartition-kept, repartition-puts, repartition-marked}
-use Rattle.replace_with_order_preserving_variants.proofs.preserving.preserve_repartition.Statement.{
-  statement,
-}
+use Rattle.replace_with_order_preserving_variants.proofs.preserving.preserve_repartition.Statement.{statement}
 use Rattle.replace_with_order_preserving_variants.proofs.preserving.preserve_repartition.Tie as tie
-use Rattle.replace_with_order_preserving_variants.proofs.preserving.preserve_repartition.Reads as reads
-use Rattle.replace_with_order_preserving_variants.proofs.preserving.preserve_repartition.Lts as lts
-use Rattle.new_records.proofs.with_mark.Reads as with-mark-reads
-use Rattle.plan_context.proofs.handles.set_mark.Reads as set-mark-reads
-use Rattle.plan_context.proofs.putting.update_plan_from_children.Reads as update-plan-from-children-reads
-use Rattle.replace_with_order_preserving_variants.proofs.marking.maintains_input_order.Reads as maintains-input-order-reads
 
 maintains-input-order-requires : tie.Need-maintains-input-order-requires
 maintains-input-order-requires c κs = let s = c .before .before .before .before in let m = s .args .m .now in let w = s .args .w in let i = s .args .i in let r = s .args .r .now in let ks = s .args .ks .now in let p = s .pre .0 in let h = s .pre .1 in let er = s .pre .2 in let e = s .pre .3 in (slot-arena m w i r ks p h, some-kid m w i r ks p h er e)
 
 with-mark-requires : tie.Need-with-mark-requires
-with-mark-requires c κs = let s = c .before .before .before .before .before .before in let m = s .args .m .now in let w = s .args .w in let i = s .args .i in let r = s .args .r .now in let ks = s .args .ks .now in let p = s .pre .0 in let h = s .pre .1 in let er = s .pre .2 in let e = s .pre .3 in proper m r ks (put-over m w r ks p) .long
+with-mark-requires c κs = let s = c .before .before .before .before .before .before in let m = s .args .m .now in let w = s .args .w in let r = s .args .r .now in let ks = s .args .ks .now in let p = s .pre .0 in let h = s .pre .1 in let er = s .pre .2 in let e = s .pre .3 in proper m r ks (put-over m w r ks p) .long
 
 shared-slice-read-set-mark : tie.Need-shared-slice-read-set-mark
 shared-slice-read-set-mark c = let s = c .before .before .before .before .before .before .before .before in let m = s .args .m .now in let w = s .args .w in let i = s .args .i in let r = s .args .r .now in let ks = s .args .ks .now in let p = s .pre .0 in let h = s .pre .1 in let er = s .pre .2 in let e = s .pre .3 in let n = one-child m w i r ks p h er e in omega arith
