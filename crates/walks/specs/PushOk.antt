@@ -49,9 +49,9 @@ abbrev pub EachFits : (ℕ → Visit) → List Facts → Type 0
 EachFits q fs = (i : ℕ) → i < length fs → VisitFits (getD fs i nothing .width) (q i)
 
 -- What a decision at a node o over c may be: its new nodes are accepted, and what its children are visited with fits them
-record Fitted (o : Op) (c : Plan) (D : Decision) : Type 0 where
-  tops : All (λ p. nodeOk p (factsOp o (facts c) .width ∷ []) ≡ true) (D .tops)
-  reqs : EachFits (D .reqs) (facts c)
+pub record Fitted (o : Op) (c : Plan) (D : Decision) : Type 0 where
+  pub tops : All (λ p. nodeOk p (factsOp o (facts c) .width ∷ []) ≡ true) (D .tops)
+  pub reqs : EachFits (D .reqs) (facts c)
 
 fitted-cond : (o : Op) (c : Plan) (x : Bool) (D E : Decision) → Fitted o c D → Fitted o c E → Fitted o c (cond x D E)
 fitted-cond o c true D E h k = h
@@ -197,7 +197,7 @@ module _ (q : Visit) (c : Plan) (hc : Ok c) where
       below g d l x h zero j = record { keys = h; fetch = x }
       below g d l x h (suc i) j = absurd (omega (arith, one))
 
-  helper-fitted : (o : Op) → nodeOk o (map (λ F. F .width) (facts c)) ≡ true → VisitFits (factsOp o (facts c) .width) q → Fitted o c (pushdownSortsHelper q o c)
+  pub helper-fitted : (o : Op) → nodeOk o (map (λ F. F .width) (facts c)) ≡ true → VisitFits (factsOp o (facts c) .width) q → Fitted o c (pushdownSortsHelper q o c)
   helper-fitted =
       shape-ind (λ o. nodeOk o (map (λ F. F .width) (facts c)) ≡ true → VisitFits (factsOp o (facts c) .width) q → Fitted o c (pushdownSortsHelper q o c))
       (λ p ks f e hq. sort-fitted p ks f e hq)
@@ -224,7 +224,7 @@ kid-ok : (t : Tree) (d : Forest Marked) → OkT t → Ok (strip d) → OkT (kid0
 kid-ok t none h k = h
 kid-ok t (tree m d r) h k = (k .0, k .1)
 
-push-ok : (q : ℕ → Visit) (f : Plan) → EachFits q (facts f) → Ok f → Ok (strip (pushdownSorts q f))
+pub push-ok : (q : ℕ → Visit) (f : Plan) → EachFits q (facts f) → Ok f → Ok (strip (pushdownSorts q f))
 push-ok q none g h = tt
 push-ok q (tree o c r) g h =
     let D : Decision = pushdownSortsHelper (q 0) o c in
@@ -246,7 +246,7 @@ push-ok q (tree o c r) g h =
     go false p d ih e = (remark-like _ p .ok (map (λ G. G .width) (known d)) e, ih)
 
 -- ---- pushing, said of plans
-root-fits : (f : Plan) → EachFits (λ i. atRoot) (facts f)
+pub root-fits : (f : Plan) → EachFits (λ i. atRoot) (facts f)
 root-fits f i l = record { keys = no-keys; fetch = refl }
 
 pub push-plan : (f : Plan) → Fit f → SamePlan false f (push f)
