@@ -47,13 +47,13 @@ step-on false true n g = refl
 step-on false false n g = refl
 
 module _ (o : Op) (q : Visit) (c : Plan) (F : Facts) (r : Decision) (d : Decides o c (pushdownSortsHelper q o c) r) (f : F ≡ factsOp o (facts c)) where
-  after-is : (n : ℕ) → afterBy r n ≡ afterwards (pushdownSortsHelper q o c) n
+  pub after-is : (n : ℕ) → afterBy r n ≡ afterwards (pushdownSortsHelper q o c) n
   after-is n = ap₂ (λ (l : List Op) (b : Bool). (n + length l) - one b) (d .tops .is) (d .gone)
 
-  constant-is : isSort o && isNil (knownOrder F) ≡ constantSort o c
+  pub constant-is : isSort o && isNil (knownOrder F) ≡ constantSort o c
   constant-is = ap (λ (G : Facts). isSort o && isNil (knownOrder G)) f
 
-  over-is : (n : ℕ) → not (r .quiet) && tooMany (afterBy r n + one (r .peak)) ≡ overflows (pushdownSortsHelper q o c) n
+  pub over-is : (n : ℕ) → not (r .quiet) && tooMany (afterBy r n + one (r .peak)) ≡ overflows (pushdownSortsHelper q o c) n
   over-is n = ap₂ (λ (b : Bool) (m : ℕ). not b && tooMany m) (d .quiet) (ap₂ _+_ (after-is n) (d .peak))
 
   pub counts-down : (v : ℕ → Visit) (n : ℕ) (s : Plan) → v 0 ≡ q

@@ -44,8 +44,8 @@ pub fn new_count(t: NewNodes) -> usize
 
 // The nodes of the plan after the decision, count before it.
 fn nodes_after(d: Decision, count: usize) -> usize
-    requires { ⌜ Real (d .tops .merge) × Real (d .tops .sort) × (1 ≤ count) × (count ≤ 126) ⌝ }
-    ensures { λ n. ⌜ (n ≡ afterBy d count) × (n ≤ 128) ⌝ }
+    requires { ⌜ Real (d .tops .merge) × Real (d .tops .sort) × (1 ≤ count) × (count ≤ 1000) ⌝ }
+    ensures { λ n. ⌜ (n ≡ afterBy d count) × (n ≤ 1002) ⌝ }
 {
     let tops = d.tops;
     let n = count + new_count(tops);
@@ -71,7 +71,7 @@ fn one_if(b: bool) -> usize
 
 // 25 before 23.
 pub fn step_at(r: &[u8], own: &[u8], d: Decision, count: usize) -> Step
-    requires { ⌜ Proper (now r) × FactRow (now own) × Real (d .tops .merge) × Real (d .tops .sort) × (1 ≤ count) × (count ≤ 126) ⌝ }
+    requires { ⌜ Proper (now r) × FactRow (now own) × Real (d .tops .merge) × Real (d .tops .sort) × (1 ≤ count) × (count ≤ 1000) ⌝ }
     ensures { λ s. ⌜ s ≡ stepBy (isSort (decode (now (r .entry))) && sem.isNil (sem.knownOrder (told (now (own .entry))))) (d .quiet) (d .peak) (afterBy d count) ⌝ }
 {
     if constant_sort(r, own) {

@@ -1,0 +1,21 @@
+use borrow.Author.Needs.{needs}
+use native.Mathlib.Omega.{arith}
+use mathlib.Core.Path.{_∙_}
+use Rattle.push_visits.proofs.visiting.fetch_at.Statement.{statement}
+use Rattle.push_visits.proofs.visiting.fetch_at.Tie as tie
+use Rattle.push_visits.proofs.visiting.fetch_at.Reads as reads
+use Rattle.push_visits.proofs.visiting.fetch_at.Lts as lts
+use Rattle.plan_context.proofs.kept.summary.Reads as summary-reads
+use Rattle.push_visits.proofs.visiting.fetch_from.Reads as fetch-from-reads
+
+summary-requires : tie.Need-summary-requires
+summary-requires c κs = search needs
+
+fetch-from-requires : tie.Need-fetch-from-requires
+fetch-from-requires c κs = search needs
+
+returns : tie.Need-returns
+returns c = c .fetch-from .ensures ∙ c .before .summary .ensures .fetch
+
+pub fetch-at-spec : {M : Type 1} → statement M
+fetch-at-spec = tie.close (tie.spec summary-requires fetch-from-requires returns)

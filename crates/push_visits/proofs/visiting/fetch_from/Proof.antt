@@ -1,0 +1,16 @@
+use borrow.Author.Needs.{needs}
+use native.Mathlib.Omega.{arith}
+use Rattle.node_properties.specs.Fields.{no-fetch, some-fetch}
+use Rattle.push_visits.proofs.visiting.fetch_from.Statement.{statement}
+use Rattle.push_visits.proofs.visiting.fetch_from.Tie as tie
+use Rattle.push_visits.proofs.visiting.fetch_from.Reads as reads
+use Rattle.push_visits.proofs.visiting.fetch_from.Lts as lts
+
+returns : tie.Need-returns
+returns c = no-fetch (c .before .args .n) (c .if1 .taken)
+
+returns-2 : tie.Need-returns-2
+returns-2 c = some-fetch (c .before .args .n) (c .if1 .left)
+
+pub fetch-from-spec : {M : Type 1} → statement M
+fetch-from-spec = tie.close (tie.spec returns returns-2)
