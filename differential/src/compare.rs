@@ -20,6 +20,9 @@ pub struct Figures {
     changed: BTreeMap<&'static str, u64>,
     outside: BTreeMap<&'static str, u64>,
     inside: u64,
+    /// of the Rust's ensured plans
+    ensured: u64,
+    pass: u64,
 }
 
 impl Figures {
@@ -27,6 +30,8 @@ impl Figures {
         self.plans += other.plans;
         self.nodes += other.nodes;
         self.inside += other.inside;
+        self.ensured += other.ensured;
+        self.pass += other.pass;
         for (call, (requests, held, refusals, panics)) in other.calls {
             let mine = self.calls.entry(call).or_default();
             mine.0 += requests;
@@ -46,6 +51,7 @@ impl Figures {
             let changed = self.changed.get(call).unwrap_or(&0);
             println!("{call:12} {requests:9}  {held:19}  {changed:8}  {panics:6}  {}", refused.join(", "));
         }
+        println!("plans that the Rust ensured: {}, of them pass the order check: {}", self.ensured, self.pass);
         println!("plans inside the compared domain: {}; outside, by rule (a plan counts under each):", self.inside);
         for (rule, n) in &self.outside {
             println!("  {n:9}  {rule}");
@@ -153,6 +159,10 @@ fn one(seed: u64, i: u64, f: &mut Figures) -> bool {
             let after = plan::read(&rust.bytes).expect("the Rust's plan is one");
             rules.extend(domain::rules(&after));
             *f.changed.entry(call.name()).or_default() += (rust.bytes != file) as u64;
+            if call == Call::Ensure {
+                f.ensured += 1;
+                f.pass += (rust_side::answer(Call::Check, &rust.bytes, 1).bytes == [1]) as u64;
+            }
         }
         if let Some(got) = library::answer(call, &file, room) {
             entry.1 += 1;

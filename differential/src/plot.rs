@@ -13,7 +13,7 @@ impl Line {
     }
 }
 
-const COLOURS: [&str; 6] = ["#1b6ca8", "#c0392b", "#27824b", "#8e44ad", "#b9770e", "#444444"];
+const COLOURS: [&str; 7] = ["#1b6ca8", "#888888", "#c0392b", "#27824b", "#8e44ad", "#b9770e", "#222222"];
 const LEFT: f64 = 60.0;
 const TOP: f64 = 20.0;
 const WIDTH: f64 = 520.0;

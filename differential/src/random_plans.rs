@@ -258,7 +258,8 @@ pub fn plan(rng: &mut Rng) -> Node {
             0..=7 => 1 + rng.below(9),
             8..=12 => 5 + rng.below(20),
             13 | 14 => 20 + rng.below(60),
-            _ => 100 + rng.below(27),
+            _ if rng.one_in(2) => 100 + rng.below(27),
+            _ => MOST_NODES - rng.below(3),
         };
         let mut plan = plan_of(rng, &s, size);
         if rng.one_in(24) {

@@ -10,7 +10,8 @@ use std::time::Instant;
 
 const SIZES: [usize; 5] = [1, 7, 10, 50, 126];
 const ROOM: usize = MOST_BLOCKS * BLOCK;
-const CALLS: [Call; 6] = [Call::Check, Call::Ensure, Call::Parallelize, Call::Preserve([1, 1, 0]), Call::Push, Call::Partial(0)];
+const CALLS: [Call; 7] =
+    [Call::Check, Call::Copy, Call::Ensure, Call::Parallelize, Call::Preserve([1, 1, 0]), Call::Push, Call::Partial(0)];
 
 /// Microseconds of one run, the least of several rounds.
 fn time(mut run: impl FnMut()) -> f64 {
@@ -47,7 +48,7 @@ fn time_call(call: Call, tree: &Node) -> Times {
 
 fn runs(tree: &Node) -> bool {
     let file = plan::write(tree);
-    CALLS[1..5].iter().all(|c| answer(*c, &file, ROOM).number == 0)
+    CALLS[2..6].iter().all(|c| answer(*c, &file, ROOM).number == 0)
 }
 
 /// Random plans of a size that no walk refuses.
