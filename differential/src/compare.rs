@@ -6,9 +6,9 @@ use sort_placement::exports::{ALL, Call};
 use sort_placement::listing::listing;
 use sort_placement::plan::{self, BLOCK, MOST_BLOCKS, Node, kind::SORT};
 use sort_placement::text;
-use std::collections::BTreeMap;
+use std::collections::{BTreeMap, BTreeSet};
 use std::sync::Mutex;
-use std::sync::atomic::{AtomicBool, AtomicU64, Ordering::Relaxed};
+use std::sync::atomic::{AtomicU64, Ordering::Relaxed};
 use std::time::Instant;
 
 #[derive(Default)]
@@ -84,12 +84,15 @@ fn requests(rng: &mut Rng, tree: &Node, file: &[u8]) -> Vec<(Call, usize)> {
     ALL.iter().map(|c| (call(c), if *c == Call::Check { 1 } else { room(rng) })).collect()
 }
 
-/// What differs between the two sides, if anything.
-fn difference(call: Call, room: usize, tree: &Node) -> Option<String> {
+/// What differs between the two sides, if anything; a partial sort may be made at another node than was asked.
+fn difference(call: Call, room: usize, tree: &Node) -> Option<(Call, String)> {
     let file = plan::write(tree);
-    let rust = rust_side::answer(call, &file, room);
-    let got = library::answer(call, &file, room)?;
-    disagreement(&rust, &got)
+    let others = if matches!(call, Call::Partial(_)) { tree.count() as u32 } else { 0 };
+    std::iter::once(call).chain((0..others).map(Call::Partial)).find_map(|call| {
+        let rust = rust_side::answer(call, &file, room);
+        let got = library::answer(call, &file, room)?;
+        disagreement(&rust, &got).map(|why| (call, why))
+    })
 }
 
 fn disagreement(rust: &Answer, library: &Result<Answer, String>) -> Option<String> {
@@ -110,7 +113,7 @@ fn shown(answer: &Answer) -> String {
 
 fn report(call: Call, room: usize, tree: Node, place: &str) {
     let small = shrink::shrink(tree, &|t| difference(call, room, t).is_some());
-    let why = difference(call, room, &small).expect("it differed");
+    let (call, why) = difference(call, room, &small).expect("it differed");
     println!("{place}: {call:?}, {room} bytes of output, on\n{}{}{why}", listing(&small), text::show(&small));
 }
 
@@ -138,7 +141,8 @@ fn walked(rng: &mut Rng, tree: Node) -> Node {
     if answer.number == 0 { plan::read(&answer.bytes).expect("the Rust's plan is one") } else { tree }
 }
 
-fn one(seed: u64, i: u64, f: &mut Figures) -> bool {
+/// All calls on one plan. A call that has differed is left out from then on, and the others go on.
+fn one(seed: u64, i: u64, f: &mut Figures, differed: &Mutex<BTreeSet<&'static str>>) {
     let mut rng = Rng::new(seed, i);
     let mut tree = random_plans::plan(&mut rng);
     if rng.one_in(4) {
@@ -164,47 +168,44 @@ fn one(seed: u64, i: u64, f: &mut Figures) -> bool {
                 f.pass += (rust_side::answer(Call::Check, &rust.bytes, 1).bytes == [1]) as u64;
             }
         }
+        if differed.lock().expect("the calls").contains(call.name()) {
+            continue;
+        }
         if let Some(got) = library::answer(call, &file, room) {
             entry.1 += 1;
-            if disagreement(&rust, &got).is_some() {
-                report(call, room, tree, &format!("plan {i} of seed {seed}"));
-                return false;
+            if disagreement(&rust, &got).is_some() && differed.lock().expect("the calls").insert(call.name()) {
+                report(call, room, tree.clone(), &format!("plan {i} of seed {seed}"));
             }
         }
     }
     f.inside += rules.is_empty() as u64;
     rules.into_iter().for_each(|rule| *f.outside.entry(rule).or_default() += 1);
-    true
 }
 
 /// Whether no difference was found.
 pub fn run(plans: u64, seed: u64, threads: u64) -> bool {
-    let start = Instant::now();
-    let (next, agreed) = (AtomicU64::new(0), AtomicBool::new(true));
-    let total = Mutex::new(Figures::default());
     const PART: u64 = 500;
-    std::thread::scope(|scope| {
-        for _ in 0..threads {
-            scope.spawn(|| {
-                let mut figures = Figures::default();
-                while agreed.load(Relaxed) {
-                    let from = next.fetch_add(PART, Relaxed);
-                    if from >= plans {
-                        break;
-                    }
-                    if from % (100 * PART) == 0 {
-                        eprintln!("{from} plans, {:.0} seconds", start.elapsed().as_secs_f64());
-                    }
-                    if !(from..(from + PART).min(plans)).all(|i| one(seed, i, &mut figures)) {
-                        agreed.store(false, Relaxed);
-                    }
-                }
-                total.lock().expect("the figures").add(figures);
-            });
+    let start = Instant::now();
+    let next = AtomicU64::new(0);
+    let differed = Mutex::new(BTreeSet::new());
+    let total = Mutex::new(Figures::default());
+    let work = || {
+        let mut figures = Figures::default();
+        loop {
+            let from = next.fetch_add(PART, Relaxed);
+            if from >= plans {
+                break;
+            }
+            if from % (100 * PART) == 0 {
+                eprintln!("{from} plans, {:.0} seconds", start.elapsed().as_secs_f64());
+            }
+            (from..(from + PART).min(plans)).for_each(|i| one(seed, i, &mut figures, &differed));
         }
-    });
+        total.lock().expect("the figures").add(figures);
+    };
+    std::thread::scope(|scope| (0..threads).for_each(|_| drop(scope.spawn(work))));
     total.into_inner().expect("the figures").print(start.elapsed().as_secs_f64());
-    let agreed = agreed.into_inner();
-    println!("{}", if agreed { "no difference" } else { "they differ" });
-    agreed
+    let differed = differed.into_inner().expect("the calls");
+    println!("{}", if differed.is_empty() { "no difference".into() } else { format!("they differ in {differed:?}") });
+    differed.is_empty()
 }
