@@ -7,7 +7,8 @@ mod tokens;
 use std::path::{Path, PathBuf};
 
 const SORTING: &str = "ensure_requirements/enforce_sorting";
-const FILES: [&str; 5] = ["output_requirements.rs", "utils.rs", "mod.rs", "replace_with_order_preserving_variants.rs", "sort_pushdown.rs"];
+const FILES: [&str; 5] =
+    ["output_requirements.rs", "utils.rs", "mod.rs", "replace_with_order_preserving_variants.rs", "sort_pushdown.rs"];
 
 /// OPTIMIZER_SOURCES, or the first folder shared/docs/src beside or above the repository.
 fn sources() -> PathBuf {
@@ -69,7 +70,8 @@ fn main() {
         src = out.clone();
     }
     let mut lines = String::new();
-    for (name, file) in [("output_requirements", "output_requirements.rs"), ("utils", "utils.rs"), ("enforce_sorting", "mod.rs")] {
+    for (name, file) in [("output_requirements", "output_requirements.rs"), ("utils", "utils.rs"), ("enforce_sorting", "mod.rs")]
+    {
         lines += &format!("#[path = {:?}]\npub mod {name};\n", src.join(place_of(file)));
     }
     std::fs::write(out.join("optimizer.rs"), lines).expect("optimizer.rs");

@@ -28,7 +28,9 @@ fn replacement<'a>(before: &str, token: &Token, after: &str) -> Option<&'a str> 
         "false" => Some("true"),
         "is_some" => Some("is_none"),
         "is_none" => Some("is_some"),
-        "!" if after != "=" && after != "(" && before != "[" && !before.chars().all(|c| c.is_alphanumeric() || c == '_') => Some(""),
+        "!" if after != "=" && after != "(" && before != "[" && !before.chars().all(|c| c.is_alphanumeric() || c == '_') => {
+            Some("")
+        }
         "min" => Some("max"),
         "any" => Some("all"),
         "all" => Some("any"),

@@ -77,7 +77,7 @@ fn main() {
         }
     };
     #[cfg(feature = "branches")]
-    branches::print();
+    let agreed = branches::print() && agreed;
     std::process::exit(if agreed { 0 } else { 1 });
 }
 
