@@ -7,12 +7,6 @@ pub struct Line {
     pub points: Vec<(f64, f64)>,
 }
 
-impl Line {
-    pub fn new(name: &'static str, whole: bool) -> Line {
-        Line { name, whole, points: vec![] }
-    }
-}
-
 const COLOURS: [&str; 7] = ["#1b6ca8", "#888888", "#c0392b", "#27824b", "#8e44ad", "#b9770e", "#222222"];
 const LEFT: f64 = 60.0;
 const TOP: f64 = 20.0;
