@@ -10,7 +10,8 @@ pub struct Mutation {
 }
 
 /// What no plan file reaches: windows, aggregates, and the rule that adds and removes output requirements.
-const LEFT_OUT: [&str; 3] = ["adjust_window_sort_removal", "handle_aggregate_pushdown", "determine_children_requirement"];
+const LEFT_OUT: [&str; 4] =
+    ["is_window", "adjust_window_sort_removal", "handle_aggregate_pushdown", "determine_children_requirement"];
 
 /// From the name of a function to the end of its body.
 fn body(source: &str, name: &str) -> Option<std::ops::Range<usize>> {

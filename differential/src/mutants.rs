@@ -10,6 +10,27 @@ use std::process::{Command, Stdio};
 
 include!(concat!(env!("OUT_DIR"), "/mutants.rs"));
 
+const MARK: &str = "a mark that a later step sets anew before it is read";
+const COLUMN: &str = "all keys and projections are columns";
+const ONE_CHILD: &str = "those nodes have one child, and its columns";
+
+/// Mutations that change no answer: where, the word that is replaced, and why.
+const EQUAL: [(&str, &[usize], &str, &str); 9] = [
+    ("mod.rs", &[409, 474, 480, 538, 736, 752, 772, 801, 802], "'false'", MARK),
+    ("mod.rs", &[447], "'true'", MARK),
+    ("replace_with_order_preserving_variants.rs", &[90, 110, 130, 189, 208, 280], "'false'", MARK),
+    ("replace_with_order_preserving_variants.rs", &[143, 153], "'true'", MARK),
+    ("sort_pushdown.rs", &[420, 905], "'all'", ONE_CHILD),
+    ("sort_pushdown.rs", &[905], "'&&'", ONE_CHILD),
+    ("sort_pushdown.rs", &[500], "'||'", "what maintains nothing is turned away by the branches below too"),
+    ("sort_pushdown.rs", &[800], "'true'", "only an inner join has equal columns on both sides, and it keeps left"),
+    ("sort_pushdown.rs", &[835, 839, 1094], "'a", COLUMN),
+];
+
+fn is_equal(file: &str, line: usize, what: &str) -> bool {
+    EQUAL.iter().any(|(f, lines, word, _)| *f == file && lines.contains(&line) && what.starts_with(word))
+}
+
 /// The hash of the Rust's answers to all calls on a plan.
 fn answers(seed: u64, i: u64) -> String {
     let mut rng = Rng::new(seed, i);
@@ -51,11 +72,11 @@ fn noticed_at(program: &str, seed: u64, wanted: &[String]) -> Option<usize> {
     (same < wanted.len()).then_some(same)
 }
 
-/// Whether every mutant that builds is noticed.
+/// Whether every mutant that builds and changes an answer is noticed.
 pub fn run(plans: u64, seed: u64, from: u64) -> bool {
     let wanted: Vec<String> = (0..plans).map(|i| answers(seed, i)).collect();
     let package = env!("CARGO_MANIFEST_DIR");
-    let (mut noticed, mut broken, mut left) = (0, 0, vec![]);
+    let (mut noticed, mut broken, mut equal, mut left) = (0, 0, 0, 0);
     for (i, (file, line, what)) in MUTANTS.iter().enumerate().skip(from as usize) {
         let build = Command::new("cargo")
             .args(["build", "-q", "-j1", "--profile", "mutant", "--bin", "differential", "--target-dir", "target/mutants"])
@@ -69,13 +90,17 @@ pub fn run(plans: u64, seed: u64, from: u64) -> bool {
         }
         match noticed_at(&format!("{package}/target/mutants/mutant/differential"), seed, &wanted) {
             Some(_) => noticed += 1,
+            None if is_equal(file, *line, what) => equal += 1,
             None => {
                 println!("not noticed: {i}: {file}:{line}: {what}");
-                left.push(i);
+                left += 1;
             }
         }
-        eprintln!("{} of {} mutants, {} not noticed", i + 1, MUTANTS.len(), left.len());
+        eprintln!("{} of {} mutants, {left} not noticed", i + 1, MUTANTS.len());
     }
-    println!("{} mutants: {noticed} noticed on {plans} plans, {} not, {broken} that don't build", MUTANTS.len(), left.len());
-    left.is_empty()
+    println!(
+        "{} mutants: {noticed} noticed on {plans} plans, {left} not; {equal} change no answer, {broken} don't build",
+        MUTANTS.len()
+    );
+    left == 0
 }
