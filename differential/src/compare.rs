@@ -6,9 +6,9 @@ use sort_placement::exports::{ALL, Call};
 use sort_placement::listing::listing;
 use sort_placement::plan::{self, BLOCK, MOST_BLOCKS, Node, kind::SORT};
 use sort_placement::text;
-use std::collections::BTreeMap;
+use std::collections::{BTreeMap, BTreeSet};
 use std::sync::Mutex;
-use std::sync::atomic::{AtomicBool, AtomicU64, Ordering::Relaxed};
+use std::sync::atomic::{AtomicU64, Ordering::Relaxed};
 use std::time::Instant;
 
 #[derive(Default)]
@@ -20,6 +20,9 @@ pub struct Figures {
     changed: BTreeMap<&'static str, u64>,
     outside: BTreeMap<&'static str, u64>,
     inside: u64,
+    /// of the Rust's ensured plans
+    ensured: u64,
+    pass: u64,
 }
 
 impl Figures {
@@ -27,6 +30,8 @@ impl Figures {
         self.plans += other.plans;
         self.nodes += other.nodes;
         self.inside += other.inside;
+        self.ensured += other.ensured;
+        self.pass += other.pass;
         for (call, (requests, held, refusals, panics)) in other.calls {
             let mine = self.calls.entry(call).or_default();
             mine.0 += requests;
@@ -46,6 +51,7 @@ impl Figures {
             let changed = self.changed.get(call).unwrap_or(&0);
             println!("{call:12} {requests:9}  {held:19}  {changed:8}  {panics:6}  {}", refused.join(", "));
         }
+        println!("plans that the Rust ensured: {}, of them pass the order check: {}", self.ensured, self.pass);
         println!("plans inside the compared domain: {}; outside, by rule (a plan counts under each):", self.inside);
         for (rule, n) in &self.outside {
             println!("  {n:9}  {rule}");
@@ -78,12 +84,15 @@ fn requests(rng: &mut Rng, tree: &Node, file: &[u8]) -> Vec<(Call, usize)> {
     ALL.iter().map(|c| (call(c), if *c == Call::Check { 1 } else { room(rng) })).collect()
 }
 
-/// What differs between the two sides, if anything.
-fn difference(call: Call, room: usize, tree: &Node) -> Option<String> {
+/// What differs between the two sides, if anything; a partial sort may be made at another node than was asked.
+fn difference(call: Call, room: usize, tree: &Node) -> Option<(Call, String)> {
     let file = plan::write(tree);
-    let rust = rust_side::answer(call, &file, room);
-    let got = library::answer(call, &file, room)?;
-    disagreement(&rust, &got)
+    let others = if matches!(call, Call::Partial(_)) { tree.count() as u32 } else { 0 };
+    std::iter::once(call).chain((0..others).map(Call::Partial)).find_map(|call| {
+        let rust = rust_side::answer(call, &file, room);
+        let got = library::answer(call, &file, room)?;
+        disagreement(&rust, &got).map(|why| (call, why))
+    })
 }
 
 fn disagreement(rust: &Answer, library: &Result<Answer, String>) -> Option<String> {
@@ -104,7 +113,7 @@ fn shown(answer: &Answer) -> String {
 
 fn report(call: Call, room: usize, tree: Node, place: &str) {
     let small = shrink::shrink(tree, &|t| difference(call, room, t).is_some());
-    let why = difference(call, room, &small).expect("it differed");
+    let (call, why) = difference(call, room, &small).expect("it differed");
     println!("{place}: {call:?}, {room} bytes of output, on\n{}{}{why}", listing(&small), text::show(&small));
 }
 
@@ -132,7 +141,8 @@ fn walked(rng: &mut Rng, tree: Node) -> Node {
     if answer.number == 0 { plan::read(&answer.bytes).expect("the Rust's plan is one") } else { tree }
 }
 
-fn one(seed: u64, i: u64, f: &mut Figures) -> bool {
+/// All calls on one plan. A call that has differed is left out from then on, and the others go on.
+fn one(seed: u64, i: u64, f: &mut Figures, differed: &Mutex<BTreeSet<&'static str>>) {
     let mut rng = Rng::new(seed, i);
     let mut tree = random_plans::plan(&mut rng);
     if rng.one_in(4) {
@@ -153,48 +163,49 @@ fn one(seed: u64, i: u64, f: &mut Figures) -> bool {
             let after = plan::read(&rust.bytes).expect("the Rust's plan is one");
             rules.extend(domain::rules(&after));
             *f.changed.entry(call.name()).or_default() += (rust.bytes != file) as u64;
+            if call == Call::Ensure {
+                f.ensured += 1;
+                f.pass += (rust_side::answer(Call::Check, &rust.bytes, 1).bytes == [1]) as u64;
+            }
+        }
+        if differed.lock().expect("the calls").contains(call.name()) {
+            continue;
         }
         if let Some(got) = library::answer(call, &file, room) {
             entry.1 += 1;
-            if disagreement(&rust, &got).is_some() {
-                report(call, room, tree, &format!("plan {i} of seed {seed}"));
-                return false;
+            if disagreement(&rust, &got).is_some() && differed.lock().expect("the calls").insert(call.name()) {
+                report(call, room, tree.clone(), &format!("plan {i} of seed {seed}"));
             }
         }
     }
     f.inside += rules.is_empty() as u64;
     rules.into_iter().for_each(|rule| *f.outside.entry(rule).or_default() += 1);
-    true
 }
 
 /// Whether no difference was found.
 pub fn run(plans: u64, seed: u64, threads: u64) -> bool {
-    let start = Instant::now();
-    let (next, agreed) = (AtomicU64::new(0), AtomicBool::new(true));
-    let total = Mutex::new(Figures::default());
     const PART: u64 = 500;
-    std::thread::scope(|scope| {
-        for _ in 0..threads {
-            scope.spawn(|| {
-                let mut figures = Figures::default();
-                while agreed.load(Relaxed) {
-                    let from = next.fetch_add(PART, Relaxed);
-                    if from >= plans {
-                        break;
-                    }
-                    if from % (100 * PART) == 0 {
-                        eprintln!("{from} plans, {:.0} seconds", start.elapsed().as_secs_f64());
-                    }
-                    if !(from..(from + PART).min(plans)).all(|i| one(seed, i, &mut figures)) {
-                        agreed.store(false, Relaxed);
-                    }
-                }
-                total.lock().expect("the figures").add(figures);
-            });
+    let start = Instant::now();
+    let next = AtomicU64::new(0);
+    let differed = Mutex::new(BTreeSet::new());
+    let total = Mutex::new(Figures::default());
+    let work = || {
+        let mut figures = Figures::default();
+        loop {
+            let from = next.fetch_add(PART, Relaxed);
+            if from >= plans {
+                break;
+            }
+            if from % (100 * PART) == 0 {
+                eprintln!("{from} plans, {:.0} seconds", start.elapsed().as_secs_f64());
+            }
+            (from..(from + PART).min(plans)).for_each(|i| one(seed, i, &mut figures, &differed));
         }
-    });
+        total.lock().expect("the figures").add(figures);
+    };
+    std::thread::scope(|scope| (0..threads).for_each(|_| drop(scope.spawn(work))));
     total.into_inner().expect("the figures").print(start.elapsed().as_secs_f64());
-    let agreed = agreed.into_inner();
-    println!("{}", if agreed { "no difference" } else { "they differ" });
-    agreed
+    let differed = differed.into_inner().expect("the calls");
+    println!("{}", if differed.is_empty() { "no difference".into() } else { format!("they differ in {differed:?}") });
+    differed.is_empty()
 }

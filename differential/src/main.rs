@@ -5,6 +5,7 @@
 //!     differential show CALL TEXT                                     both sides' answers on the plan of a text (see loader)
 //!     differential damage [--files N] [--seed S] [--heap]             damaged files through every export
 //!     differential threads [--plans N] [--seed S] [--threads T]       the same requests from several threads at once
+//!     differential mutants [--plans N] [--seed S] [--from M]          which small mutations of the Rust's text such plans notice
 //!     differential times [--svg FILE]                                 both sides timed on the same plans
 //!
 //! Built with the feature `branches`, it also tells which branches of the Rust's text a run reached.
@@ -14,6 +15,7 @@ mod compare;
 mod damage;
 mod domain;
 mod library;
+mod mutants;
 mod plot;
 mod random_plans;
 mod rust_side;
@@ -60,17 +62,22 @@ fn main() {
         Some("show") if args.len() > 2 => compare::show(&args[1..args.len() - 1], &args[args.len() - 1]),
         Some("damage") => damage::run(number("--files", 100_000), number("--seed", 1), args.iter().any(|a| a == "--heap")),
         Some("threads") => threads::run(number("--plans", 2_000), number("--seed", 1), number("--threads", 8)),
+        Some("mutants") => mutants::run(number("--plans", 20_000), number("--seed", 1), number("--from", 0)),
+        Some("answers") => {
+            mutants::print_answers(number("--plans", 20_000), number("--seed", 1));
+            true
+        }
         Some("times") => {
             times::run(args.iter().position(|a| a == "--svg").and_then(|i| args.get(i + 1)).map(String::as_str));
             true
         }
         _ => {
-            eprintln!("vectors FOLDER | compare | show CALL TEXT | damage | threads | times, with options: see src/main.rs");
+            eprintln!("vectors FOLDER | compare | show CALL TEXT | damage | threads | mutants | times, with options: see src/main.rs");
             std::process::exit(2);
         }
     };
     #[cfg(feature = "branches")]
-    branches::print();
+    let agreed = branches::print() && agreed;
     std::process::exit(if agreed { 0 } else { 1 });
 }
 

@@ -7,13 +7,7 @@ pub struct Line {
     pub points: Vec<(f64, f64)>,
 }
 
-impl Line {
-    pub fn new(name: &'static str, whole: bool) -> Line {
-        Line { name, whole, points: vec![] }
-    }
-}
-
-const COLOURS: [&str; 6] = ["#1b6ca8", "#c0392b", "#27824b", "#8e44ad", "#b9770e", "#444444"];
+const COLOURS: [&str; 7] = ["#1b6ca8", "#888888", "#c0392b", "#27824b", "#8e44ad", "#b9770e", "#222222"];
 const LEFT: f64 = 60.0;
 const TOP: f64 = 20.0;
 const WIDTH: f64 = 520.0;
@@ -35,9 +29,7 @@ pub fn svg(lines: &[Line]) -> String {
         "<svg xmlns=\"http://www.w3.org/2000/svg\" width=\"760\" height=\"420\" font-family=\"sans-serif\" font-size=\"12\">\n\
          <rect width=\"760\" height=\"420\" fill=\"white\"/>\n",
     );
-    let stroke = |x1: f64, y1: f64, x2: f64, y2: f64| {
-        format!("<path d=\"M{x1:.1} {y1:.1}L{x2:.1} {y2:.1}\" stroke=\"#ddd\"/>\n")
-    };
+    let stroke = |x1: f64, y1: f64, x2: f64, y2: f64| format!("<path d=\"M{x1:.1} {y1:.1}L{x2:.1} {y2:.1}\" stroke=\"#ddd\"/>\n");
     for micros in [0.1, 1.0, 10.0, 100.0, 1000.0, 10000.0] {
         let (x, y) = place((1.0, micros));
         out += &stroke(x, y, x + WIDTH, y);
@@ -54,7 +46,8 @@ pub fn svg(lines: &[Line]) -> String {
         let colour = COLOURS[i / 2 % COLOURS.len()];
         let dash = if line.whole { "" } else { " stroke-dasharray=\"5 4\"" };
         let points: Vec<String> = line.points.iter().map(|p| place(*p)).map(|(x, y)| format!("{x:.1},{y:.1}")).collect();
-        out += &format!("<polyline points=\"{}\" fill=\"none\" stroke=\"{colour}\" stroke-width=\"2\"{dash}/>\n", points.join(" "));
+        out +=
+            &format!("<polyline points=\"{}\" fill=\"none\" stroke=\"{colour}\" stroke-width=\"2\"{dash}/>\n", points.join(" "));
         let y = TOP + 14.0 + 18.0 * i as f64;
         let x = LEFT + WIDTH + 14.0;
         out += &format!("<path d=\"M{x} {y}h24\" stroke=\"{colour}\" stroke-width=\"2\"{dash}/>\n");

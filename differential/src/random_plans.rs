@@ -43,7 +43,21 @@ struct Style {
 }
 
 const FAMILIES: [&[u8]; 7] = [
-    &[FILTER, PROJECTION, UNION, REPARTITION, COALESCE, SORT, SORT, MERGE, GLOBAL_LIMIT, LOCAL_LIMIT, SORT_MERGE_JOIN, HASH_JOIN, OUTPUT_REQUIREMENT],
+    &[
+        FILTER,
+        PROJECTION,
+        UNION,
+        REPARTITION,
+        COALESCE,
+        SORT,
+        SORT,
+        MERGE,
+        GLOBAL_LIMIT,
+        LOCAL_LIMIT,
+        SORT_MERGE_JOIN,
+        HASH_JOIN,
+        OUTPUT_REQUIREMENT,
+    ],
     // ensuring
     &[SORT, SORT, SORT, MERGE, MERGE, FILTER, OUTPUT_REQUIREMENT, REPARTITION, LOCAL_LIMIT, UNION, SORT_MERGE_JOIN],
     // parallelizing
@@ -51,7 +65,20 @@ const FAMILIES: [&[u8]; 7] = [
     // order-preserving
     &[SORT, SORT, COALESCE, REPARTITION, REPARTITION, FILTER, PROJECTION, MERGE, UNION],
     // pushing
-    &[SORT, SORT, PROJECTION, FILTER, UNION, SORT_MERGE_JOIN, SORT_MERGE_JOIN, HASH_JOIN, MERGE, GLOBAL_LIMIT, LOCAL_LIMIT, OUTPUT_REQUIREMENT],
+    &[
+        SORT,
+        SORT,
+        PROJECTION,
+        FILTER,
+        UNION,
+        SORT_MERGE_JOIN,
+        SORT_MERGE_JOIN,
+        HASH_JOIN,
+        MERGE,
+        GLOBAL_LIMIT,
+        LOCAL_LIMIT,
+        OUTPUT_REQUIREMENT,
+    ],
     // joins
     &[SORT, SORT_MERGE_JOIN, SORT_MERGE_JOIN, HASH_JOIN, HASH_JOIN, OUTPUT_REQUIREMENT, REPARTITION, PROJECTION],
     // chains that grow
@@ -258,7 +285,8 @@ pub fn plan(rng: &mut Rng) -> Node {
             0..=7 => 1 + rng.below(9),
             8..=12 => 5 + rng.below(20),
             13 | 14 => 20 + rng.below(60),
-            _ => 100 + rng.below(27),
+            _ if rng.one_in(2) => 100 + rng.below(27),
+            _ => MOST_NODES - rng.below(3),
         };
         let mut plan = plan_of(rng, &s, size);
         if rng.one_in(24) {

@@ -7,7 +7,9 @@ use sort_placement::exports::Call;
 use sort_placement::plan::{self, Node, Record, kind::*};
 use stand_ins::physical_expr::{column, index_of};
 use stand_ins::tree_node::{PlanContext, Transformed, TreeNode, begin_walk};
-use stand_ins::{DataFusionError, Distribution, ExecutionPlan, Result, config::ConfigOptions, keys_of, ordering, with_merge_rule};
+use stand_ins::{
+    DataFusionError, Distribution, ExecutionPlan, Result, config::ConfigOptions, keys_of, ordering, with_merge_rule,
+};
 use std::panic::{AssertUnwindSafe, catch_unwind};
 use std::sync::Arc;
 

@@ -30,6 +30,10 @@ pub fn run(plans: u64, seed: u64, threads: u64) -> bool {
         let running: Vec<_> = (0..threads as usize).map(|t| scope.spawn(run(t))).collect();
         running.into_iter().all(|t| t.join().unwrap_or(false))
     });
-    println!("{} requests in each of {threads} threads at once: {}", requests.len(), if agreed { "all the same" } else { "they differ" });
+    println!(
+        "{} requests in each of {threads} threads at once: {}",
+        requests.len(),
+        if agreed { "all the same" } else { "they differ" }
+    );
     agreed
 }

@@ -10,7 +10,8 @@ use std::time::Instant;
 
 const SIZES: [usize; 5] = [1, 7, 10, 50, 126];
 const ROOM: usize = MOST_BLOCKS * BLOCK;
-const CALLS: [Call; 6] = [Call::Check, Call::Ensure, Call::Parallelize, Call::Preserve([1, 1, 0]), Call::Push, Call::Partial(0)];
+const CALLS: [Call; 7] =
+    [Call::Check, Call::Copy, Call::Ensure, Call::Parallelize, Call::Preserve([1, 1, 0]), Call::Push, Call::Partial(0)];
 
 /// Microseconds of one run, the least of several rounds.
 fn time(mut run: impl FnMut()) -> f64 {
@@ -47,7 +48,7 @@ fn time_call(call: Call, tree: &Node) -> Times {
 
 fn runs(tree: &Node) -> bool {
     let file = plan::write(tree);
-    CALLS[1..5].iter().all(|c| answer(*c, &file, ROOM).number == 0)
+    CALLS[2..6].iter().all(|c| answer(*c, &file, ROOM).number == 0)
 }
 
 /// Random plans of a size that no walk refuses.
@@ -95,37 +96,59 @@ fn mean(times: &[Times]) -> Times {
     Times { library: of(&|t| t.library), steps: of(&|t| t.steps), whole: of(&|t| Some(t.whole)).expect("a time") }
 }
 
-fn cell(value: Option<f64>) -> String {
-    value.map_or("-".into(), |v| format!("{v:.2}"))
-}
+/// Times by call, kind of plans and size.
+type Rows = Vec<(Call, &'static str, Vec<Times>)>;
 
-fn row(nodes: usize, call: Call, which: &str, t: Times) {
-    let ratio = |rust: Option<f64>| cell(rust.zip(t.library).map(|(r, l)| r / l));
-    let (library, steps, whole) = (cell(t.library), cell(t.steps), cell(Some(t.whole)));
-    let (a, b) = (ratio(t.steps), ratio(Some(t.whole)));
-    println!("| {nodes} | {} | {which} | {library} | {steps} | {whole} | {a} | {b} |", call.name());
-}
-
-/// Prints the table, and writes the plot.
-pub fn run(svg: Option<&str>) {
-    println!("| nodes | call | plans | library | Rust's steps | Rust, file to file | steps / library | file to file / library |");
-    println!("|---|---|---|---|---|---|---|---|");
-    let mut lines: Vec<Line> = vec![];
+fn measure() -> Rows {
+    let trees: Vec<Vec<Node>> = SIZES.iter().map(|nodes| plans(*nodes, 200)).collect();
+    let mut rows = vec![];
     for call in CALLS {
-        let mut library = Line::new(call.name(), true);
-        let mut rust = Line::new(call.name(), false);
-        for nodes in SIZES {
-            let trees = plans(nodes, 200);
-            let usual = mean(&trees[..10].iter().map(|t| time_call(on(call, t), t)).collect::<Vec<_>>());
-            let tree = worst(call, &trees);
-            row(nodes, call, "usual", usual);
-            row(nodes, call, "worst", time_call(on(call, tree), tree));
-            library.points.extend(usual.library.map(|t| (nodes as f64, t)));
-            rust.points.push((nodes as f64, usual.steps.unwrap_or(usual.whole)));
-        }
-        lines.extend([library, rust]);
+        let usual = |t: &Vec<Node>| mean(&t[..10].iter().map(|t| time_call(on(call, t), t)).collect::<Vec<_>>());
+        let slowest = |t: &Vec<Node>| {
+            let tree = worst(call, t);
+            time_call(on(call, tree), tree)
+        };
+        rows.push((call, "usual", trees.iter().map(usual).collect()));
+        rows.push((call, "worst", trees.iter().map(slowest).collect()));
+        eprintln!("{} timed", call.name());
     }
+    rows
+}
+
+/// A table with a cell for each size: the library's microseconds, the Rust's, and how many times as long that is.
+fn table(title: &str, rows: &Rows, rust: impl Fn(&Times) -> Option<f64>) {
+    println!("\n{title}\n");
+    println!("| call | plans | {} |", SIZES.map(|n| n.to_string()).join(" | "));
+    println!("|---|---|{}", "---|".repeat(SIZES.len()));
+    for (call, which, times) in rows.iter().filter(|r| rust(&r.2[0]).is_some()) {
+        let cell = |t: &Times| match (t.library, rust(t).expect("a time")) {
+            (Some(l), r) => format!("{l:.2} / {r:.2} (×{:.1})", r / l),
+            (None, r) => format!("- / {r:.2}"),
+        };
+        println!("| {} | {which} | {} |", call.name(), times.iter().map(cell).collect::<Vec<_>>().join(" | "));
+    }
+}
+
+/// The usual plans' times as lines.
+fn lines(rows: &Rows) -> Vec<Line> {
+    let mut out = vec![];
+    for (call, _, times) in rows.iter().filter(|r| r.1 == "usual") {
+        let points = |f: &dyn Fn(&Times) -> Option<f64>| {
+            SIZES.iter().zip(times).filter_map(|(n, t)| f(t).map(|t| (*n as f64, t))).collect()
+        };
+        out.push(Line { name: call.name(), whole: true, points: points(&|t| t.library) });
+        out.push(Line { name: call.name(), whole: false, points: points(&|t| Some(t.whole)) });
+    }
+    out
+}
+
+/// Prints the tables, and draws the plot.
+pub fn run(svg: Option<&str>) {
+    let rows = measure();
+    println!("Microseconds a call by the number of nodes: library / Rust (how many times as long)");
+    table("The Rust from file to file:", &rows, |t| Some(t.whole));
+    table("The Rust's steps alone, on a plan in memory:", &rows, |t| t.steps);
     if let Some(path) = svg {
-        std::fs::write(path, plot::svg(&lines)).expect("the plot");
+        std::fs::write(path, plot::svg(&lines(&rows))).expect("the plot");
     }
 }

@@ -1,6 +1,6 @@
 //! Replays a folder of requests with their answers through the Rust over the stand-ins, and through the library.
-use crate::rust_side::{self, Answer};
 use crate::library;
+use crate::rust_side::{self, Answer};
 use sort_placement::exports::Call;
 use std::collections::BTreeMap;
 use std::path::Path;
@@ -50,7 +50,8 @@ struct Figures {
 /// Whether all agree.
 pub fn run(folder: &Path) -> bool {
     let mut figures: BTreeMap<&str, Figures> = BTreeMap::new();
-    let mut files: Vec<_> = std::fs::read_dir(folder).expect("the folder of vectors").map(|e| e.expect("a file").path()).collect();
+    let mut files: Vec<_> =
+        std::fs::read_dir(folder).expect("the folder of vectors").map(|e| e.expect("a file").path()).collect();
     files.sort();
     for path in files.iter().filter(|p| p.extension().is_some_and(|e| e == "txt")) {
         let text = std::fs::read_to_string(path).expect("a text");

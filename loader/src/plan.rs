@@ -78,7 +78,19 @@ impl Record {
     /// All fields zero, and no fetch where the kind has one.
     pub fn new(kind: u8) -> Record {
         let fetch = if has_fetch(kind) { NO_FETCH } else { 0 };
-        Record { kind, streams: 0, marks: 0, fetch, skip: 0, keys: vec![], width: 0, variant: 0, set: 0, columns: vec![], right: vec![] }
+        Record {
+            kind,
+            streams: 0,
+            marks: 0,
+            fetch,
+            skip: 0,
+            keys: vec![],
+            width: 0,
+            variant: 0,
+            set: 0,
+            columns: vec![],
+            right: vec![],
+        }
     }
 
     pub fn is(&self, mark: u8) -> bool {
@@ -284,7 +296,11 @@ fn last_rules(node: &Node) -> u32 {
     let width = if r.kind == SOURCE { r.width as usize } else { node.children[0].width() };
     let set_fits = width >= 32 || r.set >> width == 0;
     let right_fits = r.right.is_empty() || columns_fit(r.right.iter().copied(), node.children[1].width());
-    if !columns_fit(r.keys.iter().map(|k| k.0), width) || !set_fits || !right_fits || r.columns.iter().any(|c| *c as usize >= width) {
+    if !columns_fit(r.keys.iter().map(|k| k.0), width)
+        || !set_fits
+        || !right_fits
+        || r.columns.iter().any(|c| *c as usize >= width)
+    {
         return 7;
     }
     if node.width() > 32 { 8 } else { 0 }

@@ -127,6 +127,9 @@ fn record(line: &str) -> Result<Record, String> {
     if r.keys.len() > 8 || r.columns.len() > 32 || r.right.len() > 8 {
         return Err("a list is too long".into());
     }
+    if matches!(kind, SORT_MERGE_JOIN | HASH_JOIN) && r.right.len() != r.keys.len() {
+        return Err("a join has as many right columns as keys".into());
+    }
     Ok(r)
 }
 

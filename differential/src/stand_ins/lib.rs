@@ -123,7 +123,8 @@ pub use expr::keys_of;
 pub use operators::operator;
 pub use plan::{
     ChildStats, ChildrenPropertiesMode, DisplayAs, DisplayFormatType, ExecutionPlan, ExecutionPlanProperties,
-    InputDistributionRequirements, PlanProperties, ReplaceChildrenOptions, SendableRecordBatchStream, StatisticsArgs, TaskContext,
+    InputDistributionRequirements, PlanProperties, ReplaceChildrenOptions, SendableRecordBatchStream, StatisticsArgs,
+    TaskContext,
 };
 
 pub mod aggregates {

@@ -45,7 +45,7 @@ impl PlanProperties {
     /// For the output requirement: of its child's partitioning document 01 keeps the number of streams.
     pub fn new(eq: EquivalenceProperties, partitioning: Partitioning, _: EmissionType, _: Boundedness) -> Self {
         let streams = partitioning.partition_count();
-        // the child's boundedness travels with its facts: see `boundedness` below
+        // `boundedness` below asks the child
         Self::of(Facts { streams, ..eq.0 }, Partitioning::UnknownPartitioning(streams), Boundedness::Bounded)
     }
 
@@ -161,7 +161,10 @@ pub trait ExecutionPlan: Any + Debug + DisplayAs + Send + Sync {
     fn try_swapping_with_projection(&self, _: &ProjectionExec) -> Result<Option<Arc<dyn ExecutionPlan>>> {
         Ok(None)
     }
-    fn apply_expressions(&self, _: &mut dyn FnMut(&Arc<dyn PhysicalExpr>) -> Result<TreeNodeRecursion>) -> Result<TreeNodeRecursion> {
+    fn apply_expressions(
+        &self,
+        _: &mut dyn FnMut(&Arc<dyn PhysicalExpr>) -> Result<TreeNodeRecursion>,
+    ) -> Result<TreeNodeRecursion> {
         Ok(TreeNodeRecursion::Continue)
     }
 }
