@@ -10,6 +10,7 @@ use borrow.Author.Tests.{ne-eqb}
 use Rattle.plan.specs.Forest.{Forest, none, tree, size, mapF}
 use Rattle.plan.specs.Op.{Plan}
 use Rattle.plan.specs.Numbers.{code, numberOf}
+use Rattle.plan.specs.WellFormed.{wellFormed}
 use Rattle.plan.specs.declared.Refusal.the-variants.{Accepted, HasPartialSort, TooManyNodes}
 use Rattle.plan_format.specs.Blocks.{blockCount}
 use Rattle.plan_format.specs.Reading.{refusalOf}
@@ -17,6 +18,7 @@ use Rattle.plan_format.specs.Tree as file
 use Rattle.plan_roundtrip.specs.Back.{AllBytes}
 use Rattle.plan_codec.specs.Decode.{decode}
 use Rattle.plan_codec.specs.Reading.{planOf, reading}
+use Rattle.plan_codec.specs.RoundTrip.{read-well-formed}
 use Rattle.semantics.specs.Check.{check}
 use Rattle.walks.specs.Marks.{Tree, strip, opT, plant, sizeT}
 use Rattle.walks.specs.Counted.{answerOf, answerTo, bind, Counted, counted, countUp, hasPartialSort, refused, stopped}
@@ -47,10 +49,10 @@ use Rattle.sort_placement.specs.Calls.{resultOf, stoppedAs, CalledAs, Lo
 
 -- ---- the walk of one tree is the walk of its plan
 
-plan-size : (t : Tree) → size (planT t) ≡ sizeT t
+pub plan-size : (t : Tree) → size (planT t) ≡ sizeT t
 plan-size t = let x = size-strip (t .kids) in omega arith
 
-partial-plan : (t : Tree) → hasPartialSort (planT t) ≡ partialT t
+pub partial-plan : (t : Tree) → hasPartialSort (planT t) ≡ partialT t
 partial-plan t = ap (λ b. eqb (code (opT t)) 14 || b) (or-false (hasPartialSort (strip (t .kids))))
   where
     or-false : (b : Bool) → b || false ≡ b
@@ -137,7 +139,7 @@ module _ (s m c : List ℕ) (p : Memory s m c) (by : AllBytes s) (e : refusalOf 
       let q = p .room in
       let f = fillable s u (length m') e (h .used) (omega arith) in
       let z = plan-size (treeOf m' r) in let y = ap size plan-here in let x = size-map (file.treeOf s) in let n = size-tree s in let q₁ = h .used in let q₂ = f .most in
-      record { loaded = loaded-all s e by m' u r (omega arith) h; here = h .here; few = f .most; size = omega arith; scratch = λ g. p .scratch (omega arith) }
+      record { loaded = loaded-all s e by m' u r (omega arith) h; here = h .here; few = f .most; size = omega arith; plan = ap wellFormed plan-here ∙ read-well-formed s (planOf s) by (is-plan s e); scratch = λ g. p .scratch (omega arith) }
     where
       size-map : (t : Forest (List ℕ)) → size (mapF decode t) ≡ size t
       size-map none = refl

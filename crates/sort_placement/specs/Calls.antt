@@ -1,20 +1,22 @@
 -- What a call comes to, in an arena of any size. These are definitions.
 use mathlib.Core.Path.{_≡_}
-use mathlib.Core.Bool.{false}
+use mathlib.Core.Bool.{true, false}
 use mathlib.Core.List.{List}
 use Prim.Native.Nat.{ℕ, _*_, _≤_, _<_}
 use lib.ListN.{length}
 use Rattle.plan.specs.Op.{Plan}
 use Rattle.plan.specs.Forest.{size}
 use Rattle.plan.specs.Numbers.{numberOf}
+use Rattle.plan.specs.WellFormed.{wellFormed}
 use Rattle.plan.specs.declared.Refusal.the-variants.{TooManyNodes}
 use Rattle.plan_format.specs.Blocks.{blockCount}
 use Rattle.semantics.specs.Check.{check}
 use Rattle.walks.specs.Marks.{sizeT}
-use Rattle.walks.specs.Counted.{answerTo, countUp}
+use Rattle.walks.specs.Counted.{answerTo, countUp, pushed}
 use Rattle.arena.specs.Arena.{slotSize}
 use Rattle.plan_arena.specs.Answers.{blockSlots}
-use Rattle.plan_context.specs.View.{treeOf}
+use Rattle.plan_context.specs.View.{treeOf, Arena}
+use Rattle.plan_context.specs.Records.{planT}
 use Rattle.plan_context.specs.Reading.{Loaded}
 use Rattle.transform_up.specs.declared.Walk.{Walk}
 use Rattle.transform_up.specs.declared.Stop.{Stop}
@@ -22,16 +24,18 @@ use Rattle.transform_up.specs.declared.Stop.the-variants as stop
 use Rattle.transform_up.specs.Walking.{stepOf}
 use Rattle.transform_up.specs.Tidying.{fullSlots}
 use Rattle.sort_placement.specs.declared.calls.Call.{Call}
-use Rattle.sort_placement.specs.declared.calls.Call.the-variants.{CheckOrder, CopyPlan, TransformUp}
+use Rattle.sort_placement.specs.declared.calls.Call.the-variants.{CheckOrder, CopyPlan, PushDown, TransformUp}
 use Rattle.sort_placement.specs.declared.calls.Called.{Called}
 use Rattle.sort_placement.specs.declared.calls.Called.the-variants.{Done, NoRoom}
 use Rattle.sort_placement.specs.declared.memory.Answer.{Answer}
+use Rattle.sort_placement.specs.PartialSorts.{partialT}
 use Rattle.sort_placement.specs.Answers.{Result, checks, gives, rewritten, refusalIn, outputIn, passesIn}
 
 abbrev pub resultOf : Call → Plan → Result
 resultOf CheckOrder f = checks (check f)
 resultOf CopyPlan f = gives f
 resultOf (TransformUp w) f = rewritten (answerTo f (countUp (stepOf w) (size f) f))
+resultOf PushDown f = rewritten (pushed f)
 
 -- What a call answers and leaves in the output: all that the result settles, or that the arena, of so many bytes, was too small
 abbrev pub CalledAs : Called → Result → List ℕ → List ℕ → ℕ → Type 0
@@ -47,12 +51,29 @@ abbrev pub stoppedAs : Stop → Called
 stoppedAs stop.TooManyNodes = Done (numberOf TooManyNodes) false
 stoppedAs stop.NoRoom = NoRoom
 
+-- What push asks: the tree at h is a plan's; its slots are not yet settled
+pub record Formed (m : List ℕ) (u h : ℕ) : Type 0 where
+  pub loaded : Loaded m u
+  pub here : h < 2 * u
+  pub plan : wellFormed (planT (treeOf m h)) ≡ true
+  pub size : sizeT (treeOf m h) ≤ 126
+
+-- or they are, it has n nodes, and none is a partial sort
+pub record Pushable (m : List ℕ) (u h n : ℕ) : Type 0 where
+  pub arena : Arena m u
+  pub here : h < 2 * u
+  pub plan : wellFormed (planT (treeOf m h)) ≡ true
+  pub count : n ≡ sizeT (treeOf m h)
+  pub few : n ≤ 126
+  pub whole : partialT (treeOf m h) ≡ false
+
 -- What a call asks of the plan that was read: the tree at h, its slots not yet settled
 pub record Loads (m : List ℕ) (u h : ℕ) (c : List ℕ) : Type 0 where
   pub loaded : Loaded m u
   pub here : h < 2 * u
   pub few : u ≤ 126
   pub size : sizeT (treeOf m h) ≤ 126
+  pub plan : wellFormed (planT (treeOf m h)) ≡ true
   pub scratch : fullSlots * slotSize ≤ length m → 126 * slotSize ≤ length c
 
 -- and of the memory: slots for all records that the file's blocks can hold

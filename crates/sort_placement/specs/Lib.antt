@@ -3,5 +3,6 @@ pub mod Filing
 pub mod PartialSorts
 pub mod Calls
 pub mod Calling
+pub mod Pushing
 pub mod Memory
 pub mod Checking

@@ -5,6 +5,9 @@ use arena::record_at;
 use plan::Refusal;
 use plan_context::kept;
 use plan_context::settling::settle_all;
+use pushdown_sorts::Pushed;
+use pushdown_sorts::walking::push_at;
+use sort_pushdown::Visit;
 use transform_up::Stop;
 use transform_up::Walk;
 use transform_up::Walked;
@@ -21,14 +24,16 @@ ghost use Rattle.plan_context.specs.Records.{planT};
 ghost use Rattle.plan_context.specs.Reading.{Loaded};
 ghost use Rattle.sort_placement.specs.Answers.{afterReading, gives};
 ghost use Rattle.sort_placement.specs.PartialSorts.{partialT};
-ghost use Rattle.sort_placement.specs.Calls.{resultOf, stoppedAs, CalledAs, Loads, Memory};
-ghost use Rattle.sort_placement.specs.declared.calls.Call.the-variants.{CheckOrder, TransformUp};
+ghost use Rattle.sort_placement.specs.Calls.{resultOf, stoppedAs, CalledAs, Formed, Pushable, Loads, Memory};
+ghost use Rattle.arena.specs.Arena.{slotSize};
+ghost use Rattle.sort_placement.specs.declared.calls.Call.the-variants.{CheckOrder, PushDown, TransformUp};
 
 // What is asked of a plan.
 pub enum Call {
     CheckOrder,
     CopyPlan,
     TransformUp(Walk),
+    PushDown,
 }
 
 // What a call answers: the number of its refusal or 0, and whether the plan passes, where that was asked; or that the arena is too small.
@@ -101,6 +106,39 @@ fn walk_in(w: Walk, m: &mut [u8], u: usize, h: usize, out: &mut [u8], c: &mut [u
     }
 }
 
+// The tree at h of the arena in m, pushed into the arena in b, and its answer to the output. It has n nodes.
+fn push_to(m: &[u8], u: usize, h: usize, n: usize, out: &mut [u8], b: &mut [u8]) -> Called
+    requires { ⌜ Pushable (now m) u h n × (3 * n * slotSize ≤ length (now b)) ⌝ }
+    ensures { λ r. ⌜ ((room : ℕ) → CalledAs r (resultOf PushDown (planT (treeOf (now (m .entry)) h))) (now (out .entry)) (now (out .exit)) room) ⌝ }
+{
+    match push_at(m, u, h, b, 0, Visit::at_root(), n) {
+        Pushed::Refused(e) => Called::Done(plan::number(e), false),
+        Pushed::Done(x) => write_out(b, x.used, x.root, out),
+    }
+}
+
+// The same with an arena of three slots for each node.
+fn push_in(m: &mut [u8], u: usize, h: usize, out: &mut [u8]) -> Called
+    requires { ⌜ Formed (now m) u h ⌝ }
+    ensures { λ r. ⌜ ((room : ℕ) → CalledAs r (resultOf PushDown (planT (treeOf (now (m .entry)) h))) (now (out .entry)) (now (out .exit)) room) ⌝ }
+{
+    settle_all(m, u);
+    if has_partial_sort(m, u, h / 2) {
+        return Called::Done(plan::number(Refusal::HasPartialSort), false);
+    }
+    let n = kept::nodes(m, h);
+    if n <= 21 {
+        let mut b = [0u8; 12096];
+        return push_to(m, u, h, n, out, &mut b);
+    }
+    if n <= 42 {
+        let mut b = [0u8; 24192];
+        return push_to(m, u, h, n, out, &mut b);
+    }
+    let mut b = [0u8; 72576];
+    push_to(m, u, h, n, out, &mut b)
+}
+
 // The call on the plan that was read, the tree at h.
 fn perform(k: Call, m: &mut [u8], u: usize, h: usize, out: &mut [u8], c: &mut [u8]) -> Called
     requires { ⌜ Loads (now m) u h (now c) ⌝ }
@@ -110,6 +148,7 @@ fn perform(k: Call, m: &mut [u8], u: usize, h: usize, out: &mut [u8], c: &mut [u
         Call::CheckOrder => check_in(m, u, h),
         Call::CopyPlan => write_out(m, u, h, out),
         Call::TransformUp(w) => walk_in(w, m, u, h, out, c),
+        Call::PushDown => push_in(m, u, h, out),
     }
 }
 

@@ -24,6 +24,7 @@ fn first_slots(k: Call, blocks: usize) -> usize
         Call::CheckOrder => 7 * blocks,
         Call::CopyPlan => 7 * blocks,
         Call::TransformUp(_) => 28 * blocks,
+        Call::PushDown => 7 * blocks,
     }
 }
 
