@@ -19,7 +19,7 @@ use Rattle.walks.specs.Marks.{Marked, Tree, fact, opT, plant, sizeT, strip}
 use Rattle.walks.specs.PushdownSorts.{atRoot, carryOut, Decision}
 use Rattle.walks.specs.PushOk.{root-fits, VisitFits}
 use Rattle.walks.specs.Answers.{pushed-well}
-use Rattle.walks.specs.Counted.{answered, answerOf, bind, constantSort, countDown, Counted, counted, overflows, pushed, refused, stopped}
+use Rattle.walks.specs.Counted.{afterwards, answered, answerOf, bind, constantSort, countDown, Counted, counted, overflows, pushed, refused, stopped}
 use Rattle.arena.specs.Arena.{slotSize, index, held}
 use Rattle.plan_context.specs.View.{treeIn, treeOf, Arena}
 use Rattle.plan_context.specs.Records.{planT, tree-held}
@@ -48,7 +48,7 @@ alone D false false (stopped e) = refl
 alone D false false (counted d m) = refl
 
 count-plan : (n : ℕ) (t : Tree) → countDown (λ i. atRoot) n (planT t) ≡ bind (countedT atRoot n t) (λ y k. counted (plant y none) k)
-count-plan n t = alone (decided atRoot t) (constantSort (opT t) (strip (t .kids))) (overflows (decided atRoot t) n) _
+count-plan n t = alone (decided atRoot t) (constantSort (opT t) (strip (t .kids))) (overflows (decided atRoot t) n) (countDown (decided atRoot t .reqs) (afterwards (decided atRoot t) n) (strip (t .kids)))
 
 module _ (t : Tree) where
   pub push-partial : partialT t ≡ true → resultOf PushDown (planT t) ≡ refuses HasPartialSort
