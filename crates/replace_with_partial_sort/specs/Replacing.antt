@@ -53,6 +53,12 @@ becoming o AllKeysMet = pastTheEnd
 becoming o Same = becomes o
 becoming o (Partial n) = becomes (partial n o)
 
+-- A partial sort comes in a sort's place, with eight keys met at most
+abbrev pub Fitting : Op → Answer → Type 0
+Fitting o AllKeysMet = Unit {0}
+Fitting o Same = Unit {0}
+Fitting o (Partial n) = (n ≤ 8) × (code o ≡ 7)
+
 -- ---- how many keys are met
 
 common : (F : Facts) (done ks : List Key) (r : ℕ) → r ≤ length ks → ((i : ℕ) → i < r → met F (done ++ take (suc i) ks) ≡ true) → (r < length ks → met F (done ++ take (suc r) ks) ≡ false) → commonPrefixLength F done ks ≡ r
@@ -163,3 +169,6 @@ module _ (m : List ℕ) (u h : ℕ) (a : Standing m u h) (r : List ℕ) (hr : r 
 
           pub some-met : (n ≡ 0 → ⊥) → replaceWithPartialSort (opT (treeOf m h)) (strip (treeOf m h .kids)) ≡ becomes (partial n (opT (treeOf m h)))
           some-met w = not-all ∙ ap becomes (some-prefix (y .preserve) (y .keys) (y .fetch) n w) ∙ ap (λ o. becomes (partial n o)) (sym sorts)
+
+          pub some-fits : (n ≤ 8) × (code (opT (treeOf m h)) ≡ 7)
+          some-fits = let l = length-keys (ks .len) (ks .word) in let f = hn .few in let g = hks .few in (omega arith, ap code sorts)

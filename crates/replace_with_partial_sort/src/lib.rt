@@ -1,4 +1,7 @@
 // enforce_sorting/mod.rs: replace_with_partial_sort, which works on one node.
+pub mod by_number;
+
+use arena::At;
 use arena::child;
 use arena::record_at;
 use node_properties::is_sort;
@@ -11,7 +14,7 @@ ghost use Rattle.walks.specs.Marks.{opT, strip};
 ghost use Rattle.walks.specs.PartialSort.{replaceWithPartialSort as replaced};
 ghost use Rattle.plan_context.specs.View.{treeOf};
 ghost use Rattle.sort_removal.specs.Standing.{Standing};
-ghost use Rattle.replace_with_partial_sort.specs.Replacing.{becoming};
+ghost use Rattle.replace_with_partial_sort.specs.Replacing.{becoming, Fitting};
 
 // What becomes of the node: refusal 22, itself, or a partial sort with this many keys met.
 pub enum Replaced {
@@ -20,10 +23,23 @@ pub enum Replaced {
     Partial(usize),
 }
 
+// Refusal 20, refusal 22, or the tree that it becomes.
+pub enum Sorted {
+    NoSuchNode,
+    AllKeysMet,
+    Becomes(At),
+}
+
+// A child of a node, and a number within its tree; behind the last child, how far.
+pub struct Place {
+    pub child: usize,
+    pub left: usize,
+}
+
 // The node at h. A sort stays where its child is bounded or meets none of its keys.
 pub fn replace_with_partial_sort(m: &[u8], u: usize, h: usize) -> Replaced
     requires { ⌜ Standing (now m) u h ⌝ }
-    ensures { λ r. ⌜ replaced (opT (treeOf (now (m .entry)) h)) (strip (treeOf (now (m .entry)) h .kids)) ≡ becoming (opT (treeOf (now (m .entry)) h)) r ⌝ }
+    ensures { λ r. ⌜ (replaced (opT (treeOf (now (m .entry)) h)) (strip (treeOf (now (m .entry)) h .kids)) ≡ becoming (opT (treeOf (now (m .entry)) h)) r) × Fitting (opT (treeOf (now (m .entry)) h)) r ⌝ }
 {
     let r = record_at(m, h / 2);
     if !is_sort(r) {
