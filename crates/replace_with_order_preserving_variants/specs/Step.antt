@@ -126,7 +126,7 @@ module _ (m : List ℕ) (u : ℕ) (r : List ℕ) (h i : ℕ) (p : Sorting m u r 
       module _ (m₁ : List ℕ) (lm : length m₁ ≡ length m) (a : At)
           (g : Grown m u m₁ a (planWithOrderPreservingVariants (s .spr || b) (s .spm || b) f (treeOf m h)) (u + sizeT (treeOf m h)))
           (v : List ℕ) (t : Tells (treeOf m₁ (a .root)) v) (o : Keys) (eo : keysOf o ≡ knownOrder (fact (node (decode r) false (forest m (h ∷ [])))))
-              (x : Bool) (ex : x ≡ met (told v) (keysOf o)) where
+          (x : Bool) (ex : x ≡ met (told v) (keysOf o)) where
         met-is : x
             ≡ met (fact (planWithOrderPreservingVariants (s .spr || b) (s .spm || b) f (treeOf m h)))
             (knownOrder (fact (node (decode r) false (forest m (h ∷ [])))))
