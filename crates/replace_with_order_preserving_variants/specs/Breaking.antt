@@ -55,7 +55,8 @@ module _ (o : Op) (fs : List Facts) (j : ℕ) where
 
       pub enters-asked : (k : Keys) → v ≡ By k → (F : Facts) → F ≡ getD fs j nothing → (w : Bool) → w ≡ met F (keysOf k) → not w ≡ enters o fs j
       enters-asked k e F ef w c =
-          tests true false false w (sym ex ∙ a) (sym ey ∙ b) (some (k .len) (k .word) (subst Real e (q .real) .0) ∙ ap (λ l. isNil (orderOf l)) (sym e) ∙ ap isNil (q .is))
+          tests true false false w (sym ex ∙ a) (sym ey ∙ b)
+          (some (k .len) (k .word) (subst Real e (q .real) .0) ∙ ap (λ l. isNil (orderOf l)) (sym e) ∙ ap isNil (q .is))
           (c ∙ ap₂ met ef (ap orderOf (sym e) ∙ q .is))
         where
           some : (n v : ℕ) → 0 < n → false ≡ isNil (keysIn n v)
@@ -76,7 +77,8 @@ module _ (x : Bool) (c d : Forest Marked) where
 
   pub by-repartition : (o : Op) → eqb (code o) 5 ≡ true → breakBy (shape o) (record { op = o; mark = x }) c d ≡ brokenRepartition o c d
   by-repartition =
-      op-ind (λ o. eqb (code o) 5 ≡ true → Broken o ≡ brokenRepartition o c d) (λ p ks g e. no-bool e) (λ ks g e. no-bool e) (λ p n h ks e. refl) (λ g e. no-bool e)
+      op-ind (λ o. eqb (code o) 5 ≡ true → Broken o ≡ brokenRepartition o c d) (λ p ks g e. no-bool e) (λ ks g e. no-bool e) (λ p n h ks e. refl)
+      (λ g e. no-bool e)
       (λ o a e. no-bool (sym (a .1) ∙ e))
 
   pub by-merge : (o : Op) → eqb (code o) 8 ≡ true → breakBy (shape o) (record { op = o; mark = x }) c d ≡ brokenMerge o d
@@ -86,7 +88,8 @@ module _ (x : Bool) (c d : Forest Marked) where
 
   pub by-other : (o : Op) → eqb (code o) 5 ≡ false → eqb (code o) 8 ≡ false → breakBy (shape o) (record { op = o; mark = x }) c d ≡ rebuild o false d
   by-other =
-      op-ind (λ o. eqb (code o) 5 ≡ false → eqb (code o) 8 ≡ false → Broken o ≡ rebuild o false d) (λ p ks g e q. refl) (λ ks g e q. no-bool (sym q)) (λ p n h ks e q. no-bool (sym e)) (λ g e q. refl)
+      op-ind (λ o. eqb (code o) 5 ≡ false → eqb (code o) 8 ≡ false → Broken o ≡ rebuild o false d) (λ p ks g e q. refl) (λ ks g e q. no-bool (sym q))
+      (λ p n h ks e q. no-bool (sym e)) (λ g e q. refl)
       (λ o a e q. ap (λ s. breakBy s (record { op = o; mark = x }) c d) (a .0))
 
 by-mark : (x y : Bool) (o : Op) (c d : Forest Marked) (s : Shape) → breakBy s (record { op = o; mark = x }) c d ≡ breakBy s (record { op = o; mark = y }) c d
@@ -100,7 +103,8 @@ by-mark x y o c d another = refl
 merge-coalesce : (ws : List ℕ) (o : Op) → eqb (code o) 8 ≡ true → nodeOk o ws ≡ true → nodeOk (coalesce (cuts o .fetch)) ws ≡ true
 merge-coalesce ws =
     op-ind (λ o. eqb (code o) 8 ≡ true → nodeOk o ws ≡ true → nodeOk (coalesce (cuts o .fetch)) ws ≡ true) (λ p ks g e. no-bool e)
-    (λ ks g e u. coalesce-ok g ws (node-fetch (mergeOp ks g) ws u) (over-of (mergeOp ks g) ws refl u)) (λ p n h ks e. no-bool e) (λ g e. no-bool e) (λ o a e. no-bool (sym (a .4) ∙ e))
+    (λ ks g e u. coalesce-ok g ws (node-fetch (mergeOp ks g) ws u) (over-of (mergeOp ks g) ws refl u)) (λ p n h ks e. no-bool e) (λ g e. no-bool e)
+    (λ o a e. no-bool (sym (a .4) ∙ e))
 
 -- ---- sizes: nothing is added
 
@@ -108,7 +112,9 @@ by-size : (s : Shape) (m : Marked) (c d : Forest Marked) → size d ≤ size c �
 by-size (aSort p ks g) m c d h = omega arith
 by-size (aMerge ks g) m c d h = let x = first-size false d in omega arith
 by-size (aRepartition p n q ks) m c d h =
-    let x = first-size false d in cond-le (suc (size c)) (keepsOrder p (at0 (known c))) (node (repartition false n q ks) false (markFirst false d)) (rebuild (m .op) false d) (omega arith) (omega arith)
+    let x = first-size false d in
+    cond-le (suc (size c)) (keepsOrder p (at0 (known c))) (node (repartition false n q ks) false (markFirst false d)) (rebuild (m .op) false d) (omega arith)
+    (omega arith)
 by-size (aCoalesce g) m c d h = omega arith
 by-size another m c d h = omega arith
 
@@ -116,7 +122,8 @@ each-size : (q : ℕ → Bool) (c : Forest Marked) → size (breakEach q c) ≤ 
 each-size q none = omega arith
 each-size q (tree m c r) =
     let d = breakEach (enters (m .op) (known c)) c in
-    let x = cond-le (suc (size c)) (q 0) (breakBy (shape (m .op)) m c d) (at m c) (by-size (shape (m .op)) m c d (each-size (enters (m .op) (known c)) c)) (omega arith) in
+    let x = cond-le (suc (size c)) (q 0) (breakBy (shape (m .op)) m c d) (at m c) (by-size (shape (m .op)) m c d (each-size (enters (m .op) (known c)) c))
+    (omega arith) in
     let y = each-size (λ i. q (suc i)) r in omega arith
 
 -- ---- a repartition
@@ -127,7 +134,8 @@ module _ (m : List ℕ) (w i : ℕ) (r ks : List ℕ) (p : Puts m w r ks) (er : 
       → cond y (node (remark (λ q. false) (decode r)) false (markFirst false (forest m ks))) (rebuild (decode r) false (forest m ks))
       ≡ brokenRepartition (decode r) (forest m (slot m i .kids)) (forest m ks)
   parts y q =
-      ap (λ z. cond z (node (remark (λ q. false) (decode r)) false (markFirst false (forest m ks))) (rebuild (decode r) false (forest m ks))) (sym q ∙ hb ∙ ap (λ z. maintains (decode z) (known (forest m (slot m i .kids))) 0) (sym er))
+      ap (λ z. cond z (node (remark (λ q. false) (decode r)) false (markFirst false (forest m ks))) (rebuild (decode r) false (forest m ks)))
+      (sym q ∙ hb ∙ ap (λ z. maintains (decode z) (known (forest m (slot m i .kids))) 0) (sym er))
 
   pub repartition-kept : b ≡ false → (m' : List ℕ) (a : At) → Grown m w m' a (rebuild (decode r) false (forest m ks)) (w + 1)
       → Grown m w m' a (brokenRepartition (decode r) (forest m (slot m i .kids)) (forest m ks)) (w + 1)
@@ -148,7 +156,8 @@ module _ (m : List ℕ) (w i : ℕ) (r ks : List ℕ) (p : Puts m w r ks) (er : 
     pub repartition-broken : b ≡ true → (m' : List ℕ) (a : At) → Grown m w m' a (node (decode x) false (forest m (k ∷ []))) (w + 1)
         → Grown m w m' a (brokenRepartition (decode r) (forest m (slot m i .kids)) (forest m ks)) (w + 1)
     repartition-broken q m' a g =
-        grown-as (parts true q) (replaced-grown m w r ks p one-child false k hk (remark (λ q. false) (decode r)) x new-record (remark-ok m w r ks p one-child false (λ q. false)) m' a (w + 1) g)
+        grown-as (parts true q)
+        (replaced-grown m w r ks p one-child false k hk (remark (λ q. false) (decode r)) x new-record (remark-ok m w r ks p one-child false (λ q. false)) m' a (w + 1) g)
 
 -- ---- a merge
 
@@ -208,10 +217,12 @@ module _ (m₀ : List ℕ) (u h : ℕ) (p : Enters m₀ u h) where
         → (m' : List ℕ) → length m' ≡ length m → (r : At)
         → Grown m w m' r (breakOne b (treeOf m k)) (w + sizeT (treeOf m k)) → Going (eachOf m₀ h) m₀ u h (j + 1) (r .used) (set kids j (r .root)) m'
     break-more l k e b eb =
-        let asked : b ≡ q₀ j = (eb ∙ (λ i. enters (decode (same-slot m₀ u h p (eachOf m₀ h) j w kids m q i .rec)) (known (olds m₀ u h p (eachOf m₀ h) j w kids m q i)) j)) in
+        let asked : b ≡ q₀ j =
+        (eb ∙ (λ i. enters (decode (same-slot m₀ u h p (eachOf m₀ h) j w kids m q i .rec)) (known (olds m₀ u h p (eachOf m₀ h) j w kids m q i)) j)) in
         going-more m₀ u h p (eachOf m₀ h) j w kids m q l k e (breakOne b (treeOf m k))
         (ap (breakEach (from q₀ j)) (split m₀ u h p (eachOf m₀ h) j w kids m q l k e)
-        ∙ ap₂ (λ x g. plant (breakOne x (treeOf m k)) (breakEach g (forest m₀ (drop (suc j) (slot m₀ (index h) .kids))))) (from-first q₀ j ∙ sym asked) (from-next q₀ j))
+        ∙ ap₂ (λ x g. plant (breakOne x (treeOf m k)) (breakEach g (forest m₀ (drop (suc j) (slot m₀ (index h) .kids))))) (from-first q₀ j ∙ sym asked)
+        (from-next q₀ j))
 
     -- all children are done
     module _ (n : ℕ) (e : n ≡ j) (c : n ≡ length (slot m₀ (index h) .kids)) where

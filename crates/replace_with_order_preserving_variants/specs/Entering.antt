@@ -1,4 +1,5 @@
--- A recursion that enters the tree at h and makes its children anew, one after the other, in the arena that grows: `each j` is what the children from number j on become.
+-- A recursion that enters the tree at h and makes its children anew, one after the other, in the arena that grows: `each j` is what the
+-- children from number j on become.
 use mathlib.Core.Path.{_≡_, refl, sym, ap, _∙_, subst}
 use mathlib.Core.Bool.{false}
 use mathlib.Core.List.{List, []}
@@ -18,9 +19,10 @@ use Rattle.walks.specs.Marks.{Marked, Tree, node, plant, sizeT}
 use Rattle.walks.specs.Terms.{_⊕_}
 use Rattle.walks.specs.Trees.{OkT}
 use Rattle.plan_context.specs.View.{treeOf, forest, mostSlots, Arena, Grown, Puts}
-use Rattle.plan_context.specs.Laws.{slot-same, forest-same, tree-same, same-trans, fewer}
+use Rattle.plan_context.specs.Laws.{slot-same, forest-same, tree-same, fewer}
 use Rattle.plan_context.specs.Nodes.{Seen, seen}
 use Rattle.plan_context.specs.Kids.{Kids, kids-none, kids-more, kids-forest, plus-none}
+use Rattle.replace_with_order_preserving_variants.specs.Replacing.{made-then}
 
 -- What it asks: nothing is added, so there is room for as many nodes as the tree has
 pub record Enters (m : List ℕ) (u h : ℕ) : Type 0 where
@@ -89,7 +91,8 @@ module _ (m₀ : List ℕ) (u h : ℕ) (p : Enters m₀ u h) where
 
           pub going-next : (sizeT (treeOf m k) < sizeT (treeOf m₀ h)) × Enters m w k
           going-next =
-              let s = ap size split in let t = whole in let v = q .left in let o = q .made .long in let r = p .room in let n = p .small in let x = q .made .more in let y = kid-below in
+              let s = ap size split in let t = whole in let v = q .left in let o = q .made .long in let r = p .room in let n = p .small in let x = q .made .more in
+              let y = kid-below in
               (omega arith, record { arena = q .made .arena; here = omega arith; room = omega arith; small = omega arith })
 
           -- t: what the child becomes
@@ -126,7 +129,8 @@ module _ (m₀ : List ℕ) (u h : ℕ) (p : Enters m₀ u h) where
               room = omega arith;
               small = omega arith;
               below = subst (λ i. Below (2 * w) (take i kids)) (sym e) (q .made .below);
-              canon = subst (λ y. y .rec ≡ encode (length (take n kids)) (decode (y .rec))) (sym same-slot) (view .canon ∙ ap (λ i. encode i (decode (slot m₀ (index h) .rec))) (sym counted));
+              canon = subst (λ y. y .rec ≡ encode (length (take n kids)) (decode (y .rec))) (sym same-slot)
+                  (view .canon ∙ ap (λ i. encode i (decode (slot m₀ (index h) .rec))) (sym counted));
               ok = subst OkT (λ i. node (decode (sym same-slot i .rec)) false (sym (news z) i)) k;
               few = omega arith;
             }
@@ -135,6 +139,4 @@ module _ (m₀ : List ℕ) (u h : ℕ) (p : Enters m₀ u h) where
         going-here = let x = q .made .more in let y = half in omega arith
 
         pub going-end : (t : Tree) (m' : List ℕ) (r : At) → Grown m w m' r t (w + 1) → Grown m₀ u m' r t (u + sizeT (treeOf m₀ h))
-        going-end t m' r g =
-            let v = q .left in let z = whole in let x = q .made .more in let y = g .room in let a = g .more in
-            record { arena = g .arena; old = same-trans u w m₀ m m' x (q .made .old) (g .old); more = omega arith; here = g .here; tree = g .tree; room = omega arith }
+        going-end t m' r g = let v = q .left in let z = whole in made-then (u + sizeT (treeOf m₀ h)) (q .made) g (omega arith)

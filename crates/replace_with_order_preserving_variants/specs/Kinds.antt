@@ -41,7 +41,8 @@ treated o = (eqb (code o) 5 || eqb (code o) 6) || (eqb (code o) 7 || eqb (code o
 -- they have one child
 pub one-kid : (n : ℕ) (o : Op) → treated o ≡ true → childrenOk o n ≡ true → n ≡ 1
 one-kid n =
-    op-ind (λ o. treated o ≡ true → childrenOk o n ≡ true → n ≡ 1) (λ p ks f t e. eqb-true n 1 e) (λ ks f t e. eqb-true n 1 e) (λ p k h ks t e. eqb-true n 1 e) (λ f t e. eqb-true n 1 e)
+    op-ind (λ o. treated o ≡ true → childrenOk o n ≡ true → n ≡ 1) (λ p ks f t e. eqb-true n 1 e) (λ ks f t e. eqb-true n 1 e) (λ p k h ks t e. eqb-true n 1 e)
+    (λ f t e. eqb-true n 1 e)
     (λ o a t e. no-bool (sym (ap₂ _||_ (ap₂ _||_ (a .1) (a .2)) (ap₂ _||_ (a .3) (a .4))) ∙ t))
 
 module _ (o : Op) where

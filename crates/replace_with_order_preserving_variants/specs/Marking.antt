@@ -76,7 +76,9 @@ pub any-more : (ks : List ℕ) (j : ℕ) (b x : Bool) → j < length ks → x �
 any-more ks j b x l e p =
     record {
       low = omega arith;
-      is = rw (add-one j) (assoc b x (anyMarked (drop (suc j) ks)) ∙ ap (λ y. b || (y || anyMarked (drop (suc j) ks))) e ∙ ap (λ y. b || anyMarked y) (sym (drop-cons ks j 0 l)) ∙ p .is);
+      is = rw (add-one j)
+          (assoc b x (anyMarked (drop (suc j) ks)) ∙ ap (λ y. b || (y || anyMarked (drop (suc j) ks))) e
+          ∙ ap (λ y. b || anyMarked y) (sym (drop-cons ks j 0 l)) ∙ p .is);
     }
   where
     assoc : (a b c : Bool) → (a || b) || c ≡ a || (b || c)
@@ -144,7 +146,8 @@ module _ (m : List ℕ) (i : ℕ) (p : ℕ → Bool) (a : Arena m (i + 1)) where
             low = omega arith;
             made = kids-more m (i + 1) j (i + 1) kids m (q .made) f m refl (record { used = i + 1; root = r }) _ (i + 1) grown;
             is =
-                kids-forest m (i + 1) j (i + 1) kids m (q .made) f m refl (record { used = i + 1; root = r }) _ (i + 1) grown (masked (from p (j + 1)) (forest m (drop (j + 1) hs)))
+                kids-forest m (i + 1) j (i + 1) kids m (q .made) f m refl (record { used = i + 1; root = r }) _ (i + 1) grown
+                (masked (from p (j + 1)) (forest m (drop (j + 1) hs)))
                 ∙ rw (add-one j) (ap (λ z. forest m (take j kids) ⊕ z) (sym split)) ∙ q .is;
           }
 
@@ -157,7 +160,8 @@ module _ (m : List ℕ) (i : ℕ) (p : ℕ → Bool) (a : Arena m (i + 1)) where
         record {
           wide = q .made .wide;
           below = subst (λ z. Below (2 * (i + 1)) (take z kids)) (sym n) (q .made .below);
-          is = ap (λ z. forest m (take z kids)) n ∙ sym (plus-none (forest m (take j kids))) ∙ ap (λ z. forest m (take j kids) ⊕ masked (from p j) (forest m z)) (sym d) ∙ q .is;
+          is = ap (λ z. forest m (take z kids)) n ∙ sym (plus-none (forest m (take j kids)))
+              ∙ ap (λ z. forest m (take j kids) ⊕ masked (from p j) (forest m z)) (sym d) ∙ q .is;
         }
 
 -- ---- the mark of node i over them
@@ -196,7 +200,8 @@ module _ (m : List ℕ) (i : ℕ) (ks : List ℕ) (e : forest m ks ≡ inspected
         → not (headMark (forest m ks)) && initiates (decode (slot m i .rec)) (known (forest m ks)) ≡ s
         → cond f false (cond s true (anyMark (forest m ks))) ≡ carries (decode (slot m i .rec)) (forest m ks)
     by-tests f p s q =
-        sym (ap₂ (λ x y. cond (x || y) false (cond (not (headMark (forest m ks)) && initiates o (known (forest m ks))) true (anyMark (forest m ks)))) (roots-some m ks l) p ∙ ap (λ y. cond f false (cond y true (anyMark (forest m ks)))) q)
+        ap (λ y. cond f false (cond y true (anyMark (forest m ks)))) (sym q)
+        ∙ sym (ap₂ (λ x y. cond (x || y) false (cond (not (headMark (forest m ks)) && initiates o (known (forest m ks))) true (anyMark (forest m ks)))) (roots-some m ks l) p)
 
     pub carries-fetched : (x : Bool) → x ≡ isFetchedCoalesce (decode (slot m i .rec)) → x ≡ true → false ≡ carries (decode (slot m i .rec)) (forest m ks)
     carries-fetched x p t = by-tests true (sym p ∙ t) _ refl
@@ -262,7 +267,8 @@ module _ (m : List ℕ) (u h : ℕ) (p : Carrying m u h) where
           small = p .small;
           below = below-more (take n kids) (omega arith) (subst (λ z. Below (2 * (index h + 1)) (take z kids)) (sym en) (c .below));
           canon = s .canon ∙ ap (λ z. encode z (decode (slot m (index h) .rec))) (sym (length-take-le n kids (omega arith) ∙ en));
-          ok = marks-ok (decode (slot m (index h) .rec)) (forest m (slot m (index h) .kids)) (forest m (take n kids)) (ap strip cut-is ∙ strip-masked q (forest m (slot m (index h) .kids))) (s .ok);
+          ok = marks-ok (decode (slot m (index h) .rec)) (forest m (slot m (index h) .kids)) (forest m (take n kids))
+              (ap strip cut-is ∙ strip-masked q (forest m (slot m (index h) .kids))) (s .ok);
           few = omega arith;
         }
 
@@ -345,7 +351,8 @@ module _ (m₀ : List ℕ) (u : ℕ) (ks : List ℕ) (p : Updating m₀ u ks) wh
             low = omega arith;
             made = kids-more m₀ u j w kids m (q .made) (omega arith) m' lm r (carryOne (treeOf m (getD ks j 0))) (w + 1) g;
             is =
-                kids-forest m₀ u j w kids m (q .made) (omega arith) m' lm r (carryOne (treeOf m (getD ks j 0))) (w + 1) g (carryEach (forest m₀ (drop (j + 1) ks)))
+                kids-forest m₀ u j w kids m (q .made) (omega arith) m' lm r (carryOne (treeOf m (getD ks j 0))) (w + 1) g
+                (carryEach (forest m₀ (drop (j + 1) ks)))
                 ∙ rw (add-one j) (ap (λ z. forest m (take j kids) ⊕ z) (sym split-first)) ∙ q .is;
             left = omega arith;
           }
@@ -358,6 +365,7 @@ module _ (m₀ : List ℕ) (u : ℕ) (ks : List ℕ) (p : Updating m₀ u ks) wh
         let d : drop j ks ≡ [] = drop-of-length-le ks {i = j} l in
         record {
           made = subst (λ x. Kids m₀ u x w kids m) n (q .made);
-          is = ap (λ x. forest m (take x kids)) (sym n) ∙ sym (plus-none (forest m (take j kids))) ∙ ap (λ x. forest m (take j kids) ⊕ carryEach (forest m₀ x)) (sym d) ∙ q .is;
+          is = ap (λ x. forest m (take x kids)) (sym n) ∙ sym (plus-none (forest m (take j kids)))
+              ∙ ap (λ x. forest m (take j kids) ⊕ carryEach (forest m₀ x)) (sym d) ∙ q .is;
           room = omega arith;
         }

@@ -53,7 +53,8 @@ module _ (spr spm : Bool) (f : Fetch) (x : Bool) (c d : Forest Marked) where
 
   pub by-repartition : (o : Op) → eqb (code o) 5 ≡ true → preserveBy (shape o) spr spm f (record { op = o; mark = x }) c d ≡ preservedRepartition spr o c d
   by-repartition =
-      op-ind (λ o. eqb (code o) 5 ≡ true → Variant o ≡ preservedRepartition spr o c d) (λ p ks g e. no-bool e) (λ ks g e. no-bool e) (λ p n h ks e. refl) (λ g e. no-bool e)
+      op-ind (λ o. eqb (code o) 5 ≡ true → Variant o ≡ preservedRepartition spr o c d) (λ p ks g e. no-bool e) (λ ks g e. no-bool e) (λ p n h ks e. refl)
+      (λ g e. no-bool e)
       (λ o a e. no-bool (sym (a .1) ∙ e))
 
   by-fetched : (o : Op) → isFetchedCoalesce o ≡ true → preserveBy (shape o) spr spm f (record { op = o; mark = x }) c d ≡ node o false c
@@ -68,7 +69,8 @@ module _ (spr spm : Bool) (f : Fetch) (x : Bool) (c d : Forest Marked) where
   pub by-coalesce : (o : Op) → eqb (code o) 6 ≡ true → isFetchedCoalesce o ≡ false → preserveBy (shape o) spr spm f (record { op = o; mark = x }) c d
       ≡ mergeOver spm f (record { op = o; mark = true }) d
   by-coalesce =
-      op-ind (λ o. eqb (code o) 6 ≡ true → isFetchedCoalesce o ≡ false → Variant o ≡ mergeOver spm f (record { op = o; mark = true }) d) (λ p ks g e. no-bool e) (λ ks g e. no-bool e) (λ p n h ks e. no-bool e) plain
+      op-ind (λ o. eqb (code o) 6 ≡ true → isFetchedCoalesce o ≡ false → Variant o ≡ mergeOver spm f (record { op = o; mark = true }) d) (λ p ks g e. no-bool e)
+      (λ ks g e. no-bool e) (λ p n h ks e. no-bool e) plain
       (λ o a e. no-bool (sym (a .2) ∙ e))
     where
       plain : (g : Fetch) → eqb (code (coalesce g)) 6 ≡ true → isFetchedCoalesce (coalesce g) ≡ false → Variant (coalesce g)
@@ -79,7 +81,8 @@ module _ (spr spm : Bool) (f : Fetch) (x : Bool) (c d : Forest Marked) where
   pub by-other : (o : Op) → eqb (code o) 5 ≡ false → eqb (code o) 6 ≡ false → preserveBy (shape o) spr spm f (record { op = o; mark = x }) c d
       ≡ rebuild o false d
   by-other =
-      op-ind (λ o. eqb (code o) 5 ≡ false → eqb (code o) 6 ≡ false → Variant o ≡ rebuild o false d) (λ p ks g e q. refl) (λ ks g e q. refl) (λ p n h ks e q. no-bool (sym e)) (λ g e q. no-bool (sym q))
+      op-ind (λ o. eqb (code o) 5 ≡ false → eqb (code o) 6 ≡ false → Variant o ≡ rebuild o false d) (λ p ks g e q. refl) (λ ks g e q. refl)
+      (λ p n h ks e q. no-bool (sym e)) (λ g e q. no-bool (sym q))
       (λ o a e q. ap (λ s. preserveBy s spr spm f (record { op = o; mark = x }) c d) (a .0))
 
 -- the node's own mark does not matter
@@ -99,17 +102,20 @@ by-size (aSort p ks g) spr spm f m c d h = omega arith
 by-size (aMerge ks g) spr spm f m c d h = omega arith
 by-size (aRepartition p n q ks) spr spm f m c d h =
     let x = first-size true d in
-    cond-le (suc (size c)) (not (keepsOrder p (at0 (known c))) && spr) (rebuild (repartition true n q ks) false (markFirst true d)) (rebuild (m .op) false d) (omega arith) (omega arith)
+    cond-le (suc (size c)) (not (keepsOrder p (at0 (known c))) && spr) (rebuild (repartition true n q ks) false (markFirst true d)) (rebuild (m .op) false d)
+    (omega arith) (omega arith)
 by-size (aCoalesce Unlimited) spr spm f m c d h =
     let x = first-size true d in
-    cond-le (suc (size c)) (spm && not (isNil (knownOrder (at0 (known d))))) (node (mergeOp (knownOrder (at0 (known d))) f) false (markFirst true d)) (rebuild (m .op) false d) (omega arith) (omega arith)
+    cond-le (suc (size c)) (spm && not (isNil (knownOrder (at0 (known d))))) (node (mergeOp (knownOrder (at0 (known d))) f) false (markFirst true d))
+    (rebuild (m .op) false d) (omega arith) (omega arith)
 by-size (aCoalesce (AtMost n)) spr spm f m c d h = omega arith
 by-size another spr spm f m c d h = omega arith
 
 each-size : (spr spm : Bool) (f : Fetch) (c : Forest Marked) → size (preserveEach spr spm f c) ≤ size c
 each-size spr spm f none = omega arith
 each-size spr spm f (tree m c r) =
-    let x = cond-le (suc (size c)) (m .mark) (preserveBy (shape (m .op)) spr spm f m c (preserveEach spr spm f c)) (at m c) (by-size (shape (m .op)) spr spm f m c (preserveEach spr spm f c) (each-size spr spm f c)) (omega arith) in
+    let x = cond-le (suc (size c)) (m .mark) (preserveBy (shape (m .op)) spr spm f m c (preserveEach spr spm f c)) (at m c)
+    (by-size (shape (m .op)) spr spm f m c (preserveEach spr spm f c) (each-size spr spm f c)) (omega arith) in
     let y = each-size spr spm f r in omega arith
 
 -- ---- a repartition
@@ -138,7 +144,8 @@ module _ (m : List ℕ) (w i : ℕ) (r ks : List ℕ) (p : Puts m w r ks) (h : i
           → cond y (rebuild (remark (λ q. true) (decode r)) false (markFirst true (forest m ks))) (rebuild (decode r) false (forest m ks))
           ≡ preservedRepartition spr (decode r) (forest m (slot m i .kids)) (forest m ks)
       tests y q =
-          ap (λ z. cond z (rebuild (remark (λ q. true) (decode r)) false (markFirst true d)) (rebuild (decode r) false d)) (sym q ∙ ap (λ z. not z && spr) (hb ∙ ap (λ z. maintains (decode z) (known (forest m (slot m i .kids))) 0) (sym er)))
+          ap (λ z. cond z (rebuild (remark (λ q. true) (decode r)) false (markFirst true d)) (rebuild (decode r) false d))
+          (sym q ∙ ap (λ z. not z && spr) (hb ∙ ap (λ z. maintains (decode z) (known (forest m (slot m i .kids))) 0) (sym er)))
 
       pub repartition-kept : not b && spr ≡ false → (m' : List ℕ) (a : At) → Grown m w m' a (rebuild (decode r) false (forest m ks)) (w + 1)
           → Grown m w m' a (preservedRepartition spr (decode r) (forest m (slot m i .kids)) (forest m ks)) (w + 1)
@@ -188,7 +195,9 @@ module _ (m : List ℕ) (w : ℕ) (r ks : List ℕ) (p : Puts m w r ks) (e : eqb
         → Grown m w m' a (rebuild (decode r) false (forest m ks)) (w + 1)
         → Grown m w m' a (mergeOver spm f (record { op = decode r; mark = true }) (forest m ks)) (w + 1)
     coalesce-unordered v q z m' a g =
-        grown-as (sym (ap (λ z. cond z (node (mergeOp [] f) false (markFirst true (forest m ks))) (rebuild (decode r) false (forest m ks))) (nothing-left spm)) ∙ by-order [] (ap orderOf (sym z) ∙ q .is ∙ order-is)) g
+        grown-as
+        (sym (ap (λ z. cond z (node (mergeOp [] f) false (markFirst true (forest m ks))) (rebuild (decode r) false (forest m ks))) (nothing-left spm))
+        ∙ by-order [] (ap orderOf (sym z) ∙ q .is ∙ order-is)) g
 
     module _ (v : Order) (q : Ordered (knownOrder (told b)) v) (keys : Keys) (z : v ≡ By keys) (s : spm ≡ true)
         (ok : OkT (mergeOver spm f (record { op = decode r; mark = true }) (forest m ks)))
@@ -199,7 +208,8 @@ module _ (m : List ℕ) (w : ℕ) (r ks : List ℕ) (p : Puts m w r ks) (e : eqb
 
       merged : node (mergeOp (keysOf keys) f) false (markFirst true (forest m ks)) ≡ mergeOver spm f (record { op = decode r; mark = true }) (forest m ks)
       merged =
-          sym (ap₂ (λ z y. cond (z && y) (node (mergeOp (keysOf keys) f) false (markFirst true (forest m ks))) (rebuild (decode r) false (forest m ks))) s (some (keys .len) (keys .word) (subst Real z (q .real) .0)))
+          sym (ap₂ (λ z y. cond (z && y) (node (mergeOp (keysOf keys) f) false (markFirst true (forest m ks))) (rebuild (decode r) false (forest m ks))) s
+          (some (keys .len) (keys .word) (subst Real z (q .real) .0)))
           ∙ by-order (keysOf keys) (ap orderOf (sym z) ∙ q .is ∙ order-is)
 
       marks : Marks (getD ks 0 0) true h
@@ -249,11 +259,19 @@ module _ (m₀ : List ℕ) (u h : ℕ) (spr spm : Bool) (f : Fetch) (p : Preserv
   -- an unmarked node stays
   pub unmarked : marked h ≡ false → Grown m₀ u m₀ (record { used = u; root = h }) (preserveOne spr spm f (treeOf m₀ h)) (u + sizeT (treeOf m₀ h))
   unmarked z =
-      record { arena = E .arena; old = refl; more = omega arith; here = E .here; tree = sym (ap (λ x. cond x (planWithOrderPreservingVariants spr spm f (treeOf m₀ h)) (treeOf m₀ h)) z); room = omega arith }
+      record {
+        arena = E .arena;
+        old = refl;
+        more = omega arith;
+        here = E .here;
+        tree = sym (ap (λ x. cond x (planWithOrderPreservingVariants spr spm f (treeOf m₀ h)) (treeOf m₀ h)) z);
+        room = omega arith;
+      }
 
   -- a marked one
   now : marked h ≡ true → preserveOne spr spm f (treeOf m₀ h)
-      ≡ preserveBy (shape (decode (slot m₀ (index h) .rec))) spr spm f (record { op = decode (slot m₀ (index h) .rec); mark = true }) (forest m₀ (slot m₀ (index h) .kids)) (preserveEach spr spm f (forest m₀ (slot m₀ (index h) .kids)))
+      ≡ preserveBy (shape (decode (slot m₀ (index h) .rec))) spr spm f (record { op = decode (slot m₀ (index h) .rec); mark = true })
+      (forest m₀ (slot m₀ (index h) .kids)) (preserveEach spr spm f (forest m₀ (slot m₀ (index h) .kids)))
   now z = ap₂ (λ x s. preserveOne spr spm f (setMark x s)) z (view m₀ u h E .tree)
 
   -- a fetched coalesce stays too, unmarked
@@ -280,11 +298,13 @@ module _ (m₀ : List ℕ) (u h : ℕ) (spr spm : Bool) (f : Fetch) (p : Preserv
         → Grown m w m' r (preserveOne spr spm f (treeOf m k)) (w + sizeT (treeOf m k))
         → Going (eachOf spr spm f) m₀ u h (j + 1) (r .used) (set kids j (r .root)) m'
     preserve-more l k e =
-        going-more m₀ u h E (eachOf spr spm f) j w kids m q l k e (preserveOne spr spm f (treeOf m k)) (ap (preserveEach spr spm f) (split m₀ u h E (eachOf spr spm f) j w kids m q l k e))
+        going-more m₀ u h E (eachOf spr spm f) j w kids m q l k e (preserveOne spr spm f (treeOf m k))
+        (ap (preserveEach spr spm f) (split m₀ u h E (eachOf spr spm f) j w kids m q l k e))
 
     -- all children are done
     module _ (n : ℕ) (e : n ≡ j) (c : n ≡ length (slot m₀ (index h) .kids)) where
-      fit : FitsA (arity (decode (slot m₀ (index h) .rec))) (count (strip (forest m₀ (slot m₀ (index h) .kids)))) × Fit (strip (forest m₀ (slot m₀ (index h) .kids)))
+      fit : FitsA (arity (decode (slot m₀ (index h) .rec))) (count (strip (forest m₀ (slot m₀ (index h) .kids))))
+          × Fit (strip (forest m₀ (slot m₀ (index h) .kids)))
       fit = let x = view m₀ u h E .ok in let y = ok-fit (tree o (strip c₀) none) (x .0, x .1, tt) in (y .0, y .1)
 
       all-kept : KeepsAll false (isAll f) (fetchOk f) (forest m₀ (slot m₀ (index h) .kids)) (preserveEach spr spm f (forest m₀ (slot m₀ (index h) .kids)))
@@ -296,9 +316,11 @@ module _ (m₀ : List ℕ) (u h : ℕ) (spr spm : Bool) (f : Fetch) (p : Preserv
           (kept-node {a = false} {b = isAll f} {h = fetchOk f} o o false false c₀ (preserveEach spr spm f c₀) (like-refl o) (fit .0) all-kept .ok (p .fetch) (view m₀ u h E .ok))
 
       became : Became m (index h) (take n kids) spr spm f
-          ≡ preserveBy (shape (decode (slot m₀ (index h) .rec))) spr spm f (record { op = decode (slot m₀ (index h) .rec); mark = true }) (forest m₀ (slot m₀ (index h) .kids)) (preserveEach spr spm f (forest m₀ (slot m₀ (index h) .kids)))
+          ≡ preserveBy (shape (decode (slot m₀ (index h) .rec))) spr spm f (record { op = decode (slot m₀ (index h) .rec); mark = true })
+          (forest m₀ (slot m₀ (index h) .kids)) (preserveEach spr spm f (forest m₀ (slot m₀ (index h) .kids)))
       became =
-          λ i. preserveBy (shape (decode (same-slot m₀ u h E (eachOf spr spm f) j w kids m q i .rec))) spr spm f (record { op = decode (same-slot m₀ u h E (eachOf spr spm f) j w kids m q i .rec); mark = true })
+          λ i. preserveBy (shape (decode (same-slot m₀ u h E (eachOf spr spm f) j w kids m q i .rec))) spr spm f
+          (record { op = decode (same-slot m₀ u h E (eachOf spr spm f) j w kids m q i .rec); mark = true })
           (olds m₀ u h E (eachOf spr spm f) j w kids m q i) (news m₀ u h E (eachOf spr spm f) j w kids m q n e c refl i)
 
       pub preserve-ok : OkT (Became m (index h) (take n kids) spr spm f)
@@ -326,5 +348,6 @@ module _ (m : List ℕ) (u h : ℕ) (spr spm : Bool) (f : Fetch) (p : Preserves 
       → Grown m u m' a (planWithOrderPreservingVariants spr spm f (treeOf m h)) (u + sizeT (treeOf m h))
   entered-grown m' a g =
       let t = treeOf m h in
-      subst (λ x. Grown m u m' a x (u + sizeT (treeOf m h))) (by-mark spr spm f true (t .top .mark) (opT t) (t .kids) (preserveEach spr spm f (t .kids)) (shape (opT t)))
+      subst (λ x. Grown m u m' a x (u + sizeT (treeOf m h)))
+      (by-mark spr spm f true (t .top .mark) (opT t) (t .kids) (preserveEach spr spm f (t .kids)) (shape (opT t)))
       (subst (λ x. Grown m u m' a (preserveOne spr spm f x) (u + sizeT x)) (e .tree m) g)

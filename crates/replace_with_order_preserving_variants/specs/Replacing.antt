@@ -19,6 +19,8 @@ use Rattle.walks.specs.Keeps.{remark-like}
 use Rattle.walks.specs.OrderPreserving.{markFirst}
 use Rattle.walks.specs.OrderPreservingKept.{strip-first}
 use Rattle.plan_context.specs.View.{treeOf, forest, Grown, Puts}
+use Rattle.plan_context.specs.Laws.{same-trans}
+use Rattle.plan_context.specs.Kids.{Kids}
 use Rattle.plan_context.specs.Nodes.{rule, counts-of}
 use Rattle.plan_context.specs.Putting.{put-over}
 use Rattle.plan_context.specs.Covering.{one}
@@ -28,6 +30,12 @@ use Rattle.replace_with_order_preserving_variants.specs.Marking.{marks-o
 
 pub grown-as : {m : List ℕ} {u : ℕ} {m' : List ℕ} {a : At} {t t' : Tree} {top : ℕ} → t ≡ t' → Grown m u m' a t top → Grown m u m' a t' top
 grown-as {m} {u} {m'} {a} {t} {t'} {top} e g = subst (λ x. Grown m u m' a x top) e g
+
+-- over the children that a loop has made
+pub made-then : {m₀ : List ℕ} {u j w : ℕ} {kids m m' : List ℕ} {a : At} {t : Tree} {top : ℕ} (top' : ℕ) → Kids m₀ u j w kids m → Grown m w m' a t top → top ≤ top' → Grown m₀ u m' a t top'
+made-then {m₀} {u} {j} {w} {kids} {m} {m'} top' p g h =
+    let x = p .more in let y = g .more in let z = g .room in
+    record { arena = g .arena; old = same-trans u w m₀ m m' x (p .old) (g .old); more = omega arith; here = g .here; tree = g .tree; room = omega arith }
 
 pub cond-le : (n : ℕ) (x : Bool) (t u : Tree) → sizeT t ≤ n → sizeT u ≤ n → sizeT (cond x t u) ≤ n
 cond-le n true t u h k = h

@@ -33,6 +33,7 @@ use Rattle.plan_context.specs.declared.Summary.{Summary}
 use Rattle.plan_context.specs.View.{treeOf, forest, mostSlots, Sums, Grown, Here, Puts}
 use Rattle.plan_context.specs.Laws.{here, fewer, same-trans, forest-same, length-facts}
 use Rattle.plan_context.specs.Opened.{stepRoom, Opened}
+use Rattle.plan_context.specs.Opening.{grown-then}
 use Rattle.plan_context.specs.Facts.{Tells}
 use Rattle.plan_context.specs.Nodes.{counts-of, few-any}
 use Rattle.plan_context.specs.Covering.{one}
@@ -41,7 +42,7 @@ use Rattle.replace_with_order_preserving_variants.specs.Nodes.{record-pr
 use Rattle.replace_with_order_preserving_variants.specs.Kinds.{op-ind, one-kid, treated-7}
 use Rattle.replace_with_order_preserving_variants.specs.Marking.{Carrying, Updating, Updated, marks-ok, carry-size}
 use Rattle.replace_with_order_preserving_variants.specs.Preserving.{Preserves}
-use Rattle.replace_with_order_preserving_variants.specs.Replacing.{grown-as}
+use Rattle.replace_with_order_preserving_variants.specs.Replacing.{grown-as, made-then}
 
 -- The settings as the walks have them
 abbrev pub settingsOf : Settings → walk.Settings
@@ -119,13 +120,16 @@ module _ (m : List ℕ) (u : ℕ) (r : List ℕ) (h i : ℕ) (p : Sorting m u r 
       step-is =
           ap (λ o. replaceBy (shape o) (settingsOf s) T) (is-sort m r h sorting)
           ∙ ap (λ x. cond x (accepted T (alternatePlan (settingsOf s) (fromBytes r .keys) (fromBytes r .fetch) T (treeOf m h))) T) (p .path)
-          ∙ ap₂ (λ x g. accepted T (planWithOrderPreservingVariants (s .spr || x) (s .spm || x) g (treeOf m h))) (sym eb) (sym (ef ∙ ap (λ o. cuts o .fetch) (is-sort m r h sorting)))
+          ∙ ap₂ (λ x g. accepted T (planWithOrderPreservingVariants (s .spr || x) (s .spm || x) g (treeOf m h))) (sym eb)
+          (sym (ef ∙ ap (λ o. cuts o .fetch) (is-sort m r h sorting)))
 
       module _ (m₁ : List ℕ) (lm : length m₁ ≡ length m) (a : At)
           (g : Grown m u m₁ a (planWithOrderPreservingVariants (s .spr || b) (s .spm || b) f (treeOf m h)) (u + sizeT (treeOf m h)))
-          (v : List ℕ) (t : Tells (treeOf m₁ (a .root)) v) (o : Keys) (eo : keysOf o ≡ knownOrder (fact (node (decode r) false (forest m (h ∷ []))))) (x : Bool) (ex : x ≡ met (told v) (keysOf o)) where
+          (v : List ℕ) (t : Tells (treeOf m₁ (a .root)) v) (o : Keys) (eo : keysOf o ≡ knownOrder (fact (node (decode r) false (forest m (h ∷ [])))))
+          (x : Bool) (ex : x ≡ met (told v) (keysOf o)) where
         met-is : x
-            ≡ met (fact (planWithOrderPreservingVariants (s .spr || b) (s .spm || b) f (treeOf m h))) (knownOrder (fact (node (decode r) false (forest m (h ∷ [])))))
+            ≡ met (fact (planWithOrderPreservingVariants (s .spr || b) (s .spm || b) f (treeOf m h)))
+            (knownOrder (fact (node (decode r) false (forest m (h ∷ [])))))
         met-is = ex ∙ ap₂ met (t .is ∙ ap fact (g .tree)) eo
 
         by-met : (y : Bool) → x ≡ y
@@ -140,9 +144,9 @@ module _ (m : List ℕ) (u : ℕ) (r : List ℕ) (h i : ℕ) (p : Sorting m u r 
         pub sort-gone : x ≡ true → (m₂ : List ℕ) (z : At) → Grown m₁ (a .used) m₂ z (acceptOne (treeOf m₁ (a .root))) (a .used + 1)
             → Grown m u m₂ z (replaceBy (shape (decode r)) (settingsOf s) (node (decode r) false (forest m (h ∷ [])))) (u + sizeT (treeOf m h) + 1)
         sort-gone e m₂ z k =
-            let c = g .room in let y = g .more in let w = k .more in let n = k .room in
-            grown-as (by-met true e)
-            (record { arena = k .arena; old = same-trans u (a .used) m m₁ m₂ y (g .old) (k .old); more = omega arith; here = k .here; tree = k .tree ∙ ap acceptOne (g .tree); room = omega arith })
+            let c = g .room in
+            grown-as (ap acceptOne (g .tree) ∙ by-met true e)
+            (grown-then m u m₁ a A (u + sizeT (treeOf m h)) m₂ z (acceptOne (treeOf m₁ (a .root))) (a .used + 1) (u + sizeT (treeOf m h) + 1) g k (omega arith))
 
         -- the sort stays
         same-kids : forest m₁ (h ∷ []) ≡ forest m (h ∷ [])
@@ -166,7 +170,14 @@ module _ (m : List ℕ) (u : ℕ) (r : List ℕ) (h i : ℕ) (p : Sorting m u r 
         sort-stays e m₂ z k =
             let n = k .room in
             grown-as (by-met false e)
-            (record { arena = k .arena; old = same-trans u u m m₁ m₂ (omega arith) (g .old) (k .old); more = k .more; here = k .here; tree = k .tree ∙ ap (node (decode r) false) same-kids; room = omega arith })
+            (record {
+              arena = k .arena;
+              old = same-trans u u m m₁ m₂ (omega arith) (g .old) (k .old);
+              more = k .more;
+              here = k .here;
+              tree = k .tree ∙ ap (node (decode r) false) same-kids;
+              room = omega arith;
+            })
 
 -- ---- the open node
 
@@ -186,7 +197,8 @@ replace-not s c =
 module _ (m : List ℕ) (u : ℕ) (r ks : List ℕ) (i : ℕ) (p : Opened m u r ks i) where
   pub few : length ks ≤ 8
   few =
-      few-any (decode r) (length ks) (subst (λ n. childrenOk (decode r) n ≡ true) (length-facts m ks) (counts-of (decode r) (known (forest m ks)) (p .ok .0) .count))
+      few-any (decode r) (length ks)
+      (subst (λ n. childrenOk (decode r) n ≡ true) (length-facts m ks) (counts-of (decode r) (known (forest m ks)) (p .ok .0) .count))
 
   pub step-updating : Updating m u ks
   step-updating =
@@ -228,7 +240,8 @@ module _ (m : List ℕ) (u : ℕ) (r ks : List ℕ) (i : ℕ) (p : Opened m u r 
     module _ (e : eqb (code (decode r)) 7 ≡ true) where
       single-kid : length ks ≡ 1
       single-kid =
-          one-kid (length ks) (decode r) (treated-7 (decode r) e) (subst (λ n. childrenOk (decode r) n ≡ true) (length-facts m ks) (counts-of (decode r) (known (forest m ks)) (p .ok .0) .count))
+          one-kid (length ks) (decode r) (treated-7 (decode r) e)
+          (subst (λ n. childrenOk (decode r) n ≡ true) (length-facts m ks) (counts-of (decode r) (known (forest m ks)) (p .ok .0) .count))
 
       taken-one : take (length ks) kids ≡ getD kids 0 0 ∷ []
       taken-one = ap (λ n. take n kids) single-kid ∙ go kids (c .made .wide)
@@ -250,17 +263,18 @@ module _ (m : List ℕ) (u : ℕ) (r ks : List ℕ) (i : ℕ) (p : Opened m u r 
           record { puts = subst (Puts m₁ w r) taken-one step-puts; room = omega arith; small = omega arith; sort = e; path = t; hint = step-hint }
 
       pub step-sort : (m₂ : List ℕ) (a : At)
-          → Grown m₁ w m₂ a (replaceBy (shape (decode r)) (settingsOf s) (node (decode r) false (forest m₁ (getD kids 0 0 ∷ [])))) (w + sizeT (treeOf m₁ (getD kids 0 0)) + 1)
+          → Grown m₁ w m₂ a (replaceBy (shape (decode r)) (settingsOf s) (node (decode r) false (forest m₁ (getD kids 0 0 ∷ []))))
+          (w + sizeT (treeOf m₁ (getD kids 0 0)) + 1)
           → Grown m u m₂ a (replaceWithOrderPreservingVariants (settingsOf s) (node (decode r) false (forest m ks))) (u + stepRoom (suc (size (forest m ks))))
       step-sort m₂ a g =
-          let x = kids-few m ks in let n = c .room in let v = first-size in let y = g .room in let z = g .more in let k = c .made .more in
+          let x = kids-few m ks in let n = c .room in let v = first-size in
           grown-as (ap (λ l. replaceBy (shape (decode r)) (settingsOf s) (node (decode r) false (forest m₁ l))) (sym taken-one) ∙ step-def)
-          (record { arena = g .arena; old = same-trans u w m m₁ m₂ k (c .made .old) (g .old); more = omega arith; here = g .here; tree = g .tree; room = omega arith })
+          (made-then (u + stepRoom (suc (size (forest m ks)))) (c .made) g (omega arith))
 
     pub step-other : (x y : Bool) → x ≡ eqb (code (decode r)) 7 → y ≡ marked (getD kids 0 0) → x && y ≡ false → (m₂ : List ℕ) (a : At)
         → Grown m₁ w m₂ a (node (decode r) false (forest m₁ (take (length ks) kids))) (w + 1)
         → Grown m u m₂ a (replaceWithOrderPreservingVariants (settingsOf s) (node (decode r) false (forest m ks))) (u + stepRoom (suc (size (forest m ks))))
     step-other x y ex ey e m₂ a g =
-        let n = c .room in let q = kids-few m ks in let v = g .room in let z = g .more in let k = c .made .more in
+        let n = c .room in let q = kids-few m ks in
         grown-as (sym (replace-not (settingsOf s) (forest m₁ (take (length ks) kids)) (decode r) x y ex e (λ t. ey ∙ head-marked (sym ex ∙ t))) ∙ step-def)
-        (record { arena = g .arena; old = same-trans u w m m₁ m₂ k (c .made .old) (g .old); more = omega arith; here = g .here; tree = g .tree; room = omega arith })
+        (made-then (u + stepRoom (suc (size (forest m ks)))) (c .made) g (omega arith))
