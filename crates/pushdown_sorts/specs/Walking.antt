@@ -29,10 +29,13 @@ use Rattle.walks.specs.Terms.{_⊕_}
 use Rattle.walks.specs.Trees.{Ok, OkT, ok-fit}
 use Rattle.walks.specs.PushdownSorts as walk
 use Rattle.walks.specs.PushOk.{VisitFits, EachFits, helper-fitted, push-ok}
-use Rattle.walks.specs.Counted.{Counted, stopped, counted, bind, one, constantSort, overflows, afterwards, countDown}
+use Rattle.walks.specs.Keys.{no-keys}
+use Rattle.walks.specs.Counted.{answered, answerOf, Counted, stopped, counted, bind, one, constantSort, overflows, afterwards, countDown}
 use Rattle.walks.specs.CountedWalks.{one-le, one-visited}
 use Rattle.plan_context.specs.View.{treeIn, treeOf, forest, mostSlots, Arena, Grown}
 use Rattle.plan_context.specs.Laws.{facts-at, length-facts, same-trans}
+use Rattle.plan_context.specs.Facts.{size-strip}
+use Rattle.plan_context.specs.Records.{planT}
 use Rattle.plan_context.specs.Kids.{Kids, kids-none, kids-more, kids-forest, plus-none}
 use Rattle.plan_context.specs.Opening.{grown-more, grown-then}
 use Rattle.sort_pushdown.specs.declared.Visit.{Visit}
@@ -46,7 +49,7 @@ use Rattle.sort_pushdown.specs.Visits.{children-visited, after-is, constant-is,
 use Rattle.pushdown_sorts.specs.declared.Walked.{Walked}
 use Rattle.pushdown_sorts.specs.declared.Pushed.{Pushed}
 use Rattle.pushdown_sorts.specs.declared.Pushed.the-variants.{Refused, Done}
-use Rattle.pushdown_sorts.specs.Walk.{countedT, pushedT, Pushes, Ended, Ends, refusedBy, from, Visiting}
+use Rattle.pushdown_sorts.specs.Walk.{Rooted, Answers, countedT, pushedT, Pushes, Ended, Ends, refusedBy, from, Visiting}
 use Rattle.push_visits.specs.Carried.{carriedBy, belowBy, opBy, Carries}
 use Rattle.push_visits.specs.Visiting.{shown, proper-at, own-tells}
 
@@ -447,3 +450,35 @@ module _ (a : List ℕ) (ua h : ℕ) (b : List ℕ) (v : ℕ) (visit : Visit) (n
               low = omega arith;
               high = omega arith;
             })
+
+-- ---- a whole plan
+module _ (a : List ℕ) (ua h : ℕ) (b : List ℕ) (p : Rooted a ua h b) (visit : Visit) (ev : visitOf visit ≡ walk.atRoot) (n : ℕ) (en : n ≡ sizeT (treeOf a h)) where
+  pub root-pushes : Real (visit .req .order) → Pushes a ua h b 0 visit n
+  root-pushes r =
+      let x = p .few in let y = p .room in
+      record {
+        visits = record { from = p .arena; here = p .here; real = r; fits = subst⁻¹ (VisitFits (fact (treeOf a h) .width)) ev (record { keys = no-keys; fetch = refl }) };
+        arena = record { slots = omega arith; small = omega arith; all = λ i l. absurd (omega arith) };
+        room = omega arith;
+        small = omega arith;
+        low = omega arith;
+        high = omega arith;
+      }
+
+  counted-is : countDown (λ i. walk.atRoot) (size (planT (treeOf a h))) (planT (treeOf a h)) ≡ bind (countedT (visitOf visit) n (treeIn a (index h))) (λ u m. counted (plant u none) m)
+  counted-is =
+      let e : size (planT (treeOf a h)) ≡ n = (let z = size-strip (treeIn a (index h) .kids) in omega arith) in
+      ap (λ m. countDown (λ i. walk.atRoot) m (planT (treeOf a h))) e
+      ∙ count-tree (λ i. walk.atRoot) n (treeIn a (index h)) none
+      ∙ ap (λ q. bind (countedT q n (treeIn a (index h))) (λ u m. counted (plant u none) m)) (sym ev)
+
+  pub root-ends : (b' : List ℕ) (r : Pushed) → Ends (visitOf visit) n (treeIn a (index h)) b 0 b' r → Answers (planT (treeOf a h)) b' r
+  root-ends b' (Refused e) x = ap answerOf (counted-is ∙ ap (λ y. bind y (λ u m. counted (plant u none) m)) x)
+  root-ends b' (Done w) x =
+      let z = size-strip (treeIn a (index h) .kids) in let g = x .grown .room in
+      record {
+        is = ap answerOf (counted-is ∙ ap (λ y. bind y (λ u m. counted (plant u none) m)) (x .is)) ∙ ap (λ t. answered (planT t)) (sym (x .grown .tree));
+        arena = x .grown .arena;
+        here = x .grown .here;
+        room = omega arith;
+      }
