@@ -8,7 +8,7 @@ use Rattle.plan.specs.Forest.{size}
 use Rattle.plan.specs.Op.{Plan}
 use Rattle.plan.specs.declared.Refusal.the-variants.{Accepted, TooManyNodes, ConstantSort}
 use Rattle.arena.specs.Arena.{slotSize}
-use Rattle.walks.specs.Marks.{Tree, strip, opT, sizeT, node}
+use Rattle.walks.specs.Marks.{Tree, strip, opT, sizeT}
 use Rattle.walks.specs.Terms.{_⊕_}
 use Rattle.walks.specs.PushdownSorts as walk
 use Rattle.walks.specs.Counted.{Answer, refused, answered, answerOf, Counted, stopped, counted, bind, constantSort, overflows, afterwards, countDown}

