@@ -168,6 +168,9 @@ stricter-own C own k ps h x e t r = record { is = sym (ap (λ b. cond b (orderOf
 pub stricter-parent : (C : Facts) (own : Order) (k : Keys) (ps : List Key) → Keyed (orderOf own) k → (x : Bool) → x ≡ compatible C (keysOf k) ps → x ≡ false → (o : Order) → Ordered ps o → Ordered (cond (compatible C (orderOf own) ps) (orderOf own) ps) o
 stricter-parent C own k ps h x e t o r = subst⁻¹ (λ b. Ordered (cond b (orderOf own) ps) o) (sym (e ∙ ap (λ l. compatible C l ps) (h .is)) ∙ t) r
 
+pub stricter-is : (C : Facts) (x own : Order) (p : Keys) (ks ls : List Key) → Ordered (cond (compatible C (orderOf own) (keysOf p)) (orderOf own) (keysOf p)) x → orderOf own ≡ ks → keysOf p ≡ ls → orderOf x ≡ cond (compatible C ks ls) ks ls
+stricter-is C x own p ks ls h e d = h .is ∙ ap₂ (λ o l. cond (compatible C o l) o l) e d
+
 -- ---- tests
 
 module _ (o : Op) (c : Plan) (D E : walk.Decision) (b : Bool) (r : Decision) where
