@@ -1,11 +1,10 @@
 -- Answers of the code are the definition's, test by test. Assumes nothing.
 use mathlib.Core.Path.{_≡_, sym, ap, _∙_, subst⁻¹}
 use mathlib.Core.Bool.{Bool, true, false, cond, not, _&&_, _||_}
-use mathlib.Core.List.{List, [], _∷_}
+use mathlib.Core.List.{List, []}
 use Prim.Native.Nat.{ℕ, zero, suc, _<_}
 use native.Mathlib.Omega.{arith}
 use Rattle.row_order.specs.Iso.{Key}
-use Rattle.row_order.specs.Order.{no-bool}
 use Rattle.semantics.specs.Facts.{Facts, isNil, compatible, knownOrder}
 use Rattle.key_lists.specs.declared.Keys.{Keys}
 use Rattle.key_lists.specs.declared.Order.{Order}
@@ -13,7 +12,7 @@ use Rattle.key_lists.specs.declared.Order.the-variants.{Unordered, By}
 use Rattle.key_lists.specs.Keys.{keysIn, keysOf, orderOf, Real, Ordered}
 use Rattle.walks.specs.SortPushdown as walk
 use Rattle.push_requirements.specs.declared.Pushed.{Pushed}
-use Rattle.push_requirements.specs.declared.Pushed.the-variants.{Stop, Goes}
+use Rattle.push_requirements.specs.declared.Pushed.the-variants.{Stop}
 use Rattle.push_requirements.specs.Pushing.{orderBy, Going, Pushes}
 
 -- ---- going and stopping
@@ -80,7 +79,7 @@ and-last false b e = λ i. false
 pub none-in : (ks : List Key) (o : Order) → Ordered ks o → o ≡ Unordered → isNil ks ≡ true
 none-in ks o h e = ap isNil (sym (ap orderOf (sym e) ∙ h .is))
 
-some-keys : (k : Keys) → Real (By k) → isNil (keysOf k) ≡ false
+pub some-keys : (k : Keys) → Real (By k) → isNil (keysOf k) ≡ false
 some-keys k h = go (k .len) (h .0)
   where
     go : (n : ℕ) → 0 < n → isNil (keysIn n (k .word)) ≡ false

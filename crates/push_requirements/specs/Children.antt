@@ -2,7 +2,7 @@
 use mathlib.Core.Path.{_≡_, refl, sym, ap, ap₂, _∙_, subst, subst⁻¹}
 use mathlib.Core.Bool.{Bool, true, false, cond, not, _&&_, _||_}
 use mathlib.Core.List.{List, [], _∷_}
-use Prim.Native.Nat.{ℕ, zero, suc, _-_, _<_, _≤_}
+use Prim.Native.Nat.{ℕ, _-_, _<_}
 use native.Mathlib.Omega.{arith}
 use lib.Dec.{eqb, leb}
 use lib.ListN.{length, getD}
@@ -18,8 +18,8 @@ use Rattle.plan.specs.declared.Kind.{Kind}
 use Rattle.plan.specs.declared.Kind.the-variants.{Sort, Merge, OutputRequirement}
 use Rattle.plan_codec.specs.Decode.{decode, fromBytes, operatorOf}
 use Rattle.record_fields.specs.Proper.{pairsOf}
-use Rattle.semantics.specs.Facts.{Facts, at0, at1, factsOp, compatible, isNil, hashKept, nothing}
-use Rattle.semantics.specs.Properties.{keptSide, fetchOp, maintains, supportsLimitPushdown, remark, wanted}
+use Rattle.semantics.specs.Facts.{Facts, at0, at1, factsOp, compatible, hashKept, nothing}
+use Rattle.semantics.specs.Properties.{keptSide, fetchOp, maintains, supportsLimitPushdown, wanted}
 use Rattle.key_lists.specs.declared.Keys.{Keys}
 use Rattle.key_lists.specs.declared.Order.{Order}
 use Rattle.key_lists.specs.declared.Order.the-variants.{Unordered, By}
@@ -29,9 +29,8 @@ use Rattle.node_properties.specs.Nodes.{Among}
 use Rattle.walks.specs.SortPushdown as walk
 use Rattle.walks.specs.Keeps.{remark-same}
 use Rattle.push_requirements.specs.declared.Pushed.{Pushed}
-use Rattle.push_requirements.specs.declared.Pushed.the-variants.{Stop}
 use Rattle.push_requirements.specs.Pushing.{Pushes, Seen}
-use Rattle.push_requirements.specs.Answers.{none-in, by-is, by-some, cond-yes, cond-no}
+use Rattle.push_requirements.specs.Answers.{none-in, by-is, by-some}
 
 -- ---- pushdown_would_violate_requirements, of one child
 

@@ -1,6 +1,6 @@
 -- How an order goes past a join, step by step. Assumes nothing.
 use mathlib.Core.Path.{_≡_, refl, sym, ap, ap₂, _∙_, subst, subst⁻¹}
-use mathlib.Core.Bool.{Bool, true, false, cond, not, _&&_}
+use mathlib.Core.Bool.{Bool, true, false, cond}
 use mathlib.Core.List.{List, [], _∷_}
 use Prim.Native.Nat.{ℕ, zero, suc, _-_, _<_, _≤_}
 use native.Mathlib.Omega.{arith}
@@ -11,11 +11,11 @@ use Rattle.plan.specs.WellFormed.{joinWidth, member}
 use Rattle.plan.specs.declared.JoinType.{JoinType}
 use Rattle.plan.specs.declared.JoinType.the-variants.{Inner, Left, Right, Full, LeftSemi, LeftAnti, RightSemi, RightAnti}
 use Rattle.plan_codec.specs.Decode.{decode}
-use Rattle.semantics.specs.Facts.{Facts, Kept, met, compatible, reorder, ordered, dropRepeats, joinOrder, smjKept, hashKept, knownOrder}
+use Rattle.semantics.specs.Facts.{Facts, met, compatible, ordered, dropRepeats, joinOrder, smjKept, hashKept, knownOrder}
 use Rattle.semantics.specs.Properties.{keptSide, wanted}
 use Rattle.key_lists.specs.declared.Keys.{Keys}
 use Rattle.key_lists.specs.declared.Order.{Order}
-use Rattle.key_lists.specs.Keys.{keysOf, keysIn, orderOf, Keyed, Ordered}
+use Rattle.key_lists.specs.Keys.{keysOf, keysIn, Keyed, Ordered}
 use Rattle.row_facts.specs.Asked.{told}
 use Rattle.join_facts.specs.declared.KeptSide.{KeptSide}
 use Rattle.join_facts.specs.Joining.{Placeable, keptOf}

@@ -6,7 +6,6 @@ use Prim.Native.Nat.{ℕ, zero, suc, _+_, _*_, _≤_, _<_}
 use native.Mathlib.Omega.{arith}
 use lib.ListN.{length, getD}
 use Rattle.row_order.specs.Iso.{Key}
-use Rattle.row_order.specs.Order.{no-bool}
 use Rattle.plan.specs.Forest.{Forest, none, tree, size}
 use Rattle.plan.specs.Op.{Op, source, filter, projection, union, repartition, coalesce, sortOp, mergeOp, globalLimit, localLimit, sortMergeJoin, hashJoin, outputRequirement, partialSort}
 use Rattle.plan.specs.Numbers.{kindOf}
@@ -18,7 +17,7 @@ use Rattle.plan.specs.declared.Fetch.{Fetch}
 use Rattle.plan_codec.specs.Decode.{decode, fromBytes, operatorOf}
 use Rattle.plan_codec.specs.Encode.{encode}
 use Rattle.plan_codec.specs.OneRecord.{decode-encode}
-use Rattle.semantics.specs.Facts.{Facts, at0, counts, nothing}
+use Rattle.semantics.specs.Facts.{Facts, at0, counts}
 use Rattle.semantics.specs.Properties.{remark, rebuilt}
 use Rattle.key_lists.specs.declared.Keys.{Keys}
 use Rattle.key_lists.specs.declared.Order.{Order}
@@ -26,24 +25,24 @@ use Rattle.key_lists.specs.declared.Order.the-variants.{Unordered, By}
 use Rattle.key_lists.specs.Keys.{keysIn, keysOf, orderOf, Real}
 use Rattle.row_facts.specs.Asked.{told}
 use Rattle.node_properties.specs.Kinds.{op-of}
-use Rattle.arena.specs.Arena.{slotSize, slot, Below}
+use Rattle.arena.specs.Arena.{slot}
 use Rattle.arena.specs.Laws.{below-at}
 use Rattle.arena.specs.declared.At.{At}
-use Rattle.walks.specs.Marks.{Marked, Tree, strip, known, opT, fact, sizeT, node, plant, over, kid0, rebuild, cover}
+use Rattle.walks.specs.Marks.{Marked, Tree, strip, known, fact, sizeT, node, plant, over, kid0, rebuild, cover}
 use Rattle.walks.specs.Utils.{newSort, newMerge}
 use Rattle.walks.specs.Keeps.{remark-same}
 use Rattle.walks.specs.Trees.{Ok, OkT}
-use Rattle.plan_context.specs.View.{treeOf, forest, mostNodes, mostSlots, Arena, Grown, Over, Puts}
+use Rattle.plan_context.specs.View.{treeOf, forest, Arena, Grown, Over, Puts}
 use Rattle.plan_context.specs.Laws.{length-facts}
 use Rattle.plan_context.specs.Nodes.{counts-of}
-use Rattle.plan_context.specs.Covering.{Under, cover-puts, cover-grown, ok-of}
-use Rattle.plan_context.specs.Opening.{grown-none, grown-more, grown-then}
+use Rattle.plan_context.specs.Covering.{cover-puts, cover-grown, ok-of}
+use Rattle.plan_context.specs.Opening.{grown-none, grown-then}
 use Rattle.plan_context.specs.Putting.{put-over}
 use Rattle.plan_context.specs.Rebuilt.{rebuilt-puts, rebuilt-grown}
 use Rattle.sort_pushdown.specs.declared.Decision.{Decision}
 use Rattle.sort_pushdown.specs.Decisions.{topsOf}
 use Rattle.push_visits.specs.Carried.{RowOf, opBy, belowBy, carriedBy, Topping, Carries}
-use Rattle.push_visits.specs.Visiting.{shown, proper-at}
+use Rattle.push_visits.specs.Visiting.{first-of, shown}
 
 -- ---- new nodes over a tree
 
@@ -118,10 +117,6 @@ own-mark HashJoin r F = refl
 own-mark OutputRequirement r F = refl
 own-mark PartialSort r F = refl
 
-first-of : (fs : List Facts) → at0 fs ≡ getD fs 0 nothing
-first-of [] = refl
-first-of (F ∷ fs) = refl
-
 -- without children there is no mark
 no-mark : (o : Op) (n : ℕ) (g h : Bool → Bool) → childrenOk o n ≡ true → n ≡ 0 → remark g o ≡ remark h o
 no-mark (source s) n g h c e = refl
@@ -168,15 +163,20 @@ module _ (a : List ℕ) (ua i : ℕ) (g : Arena a ua) (l : i < ua) where
 
 -- ---- the node over its walked children
 
+kid-size : (t : Tree) (g : Forest Marked) → sizeT t ≤ suc (size g) → sizeT (kid0 t g) ≤ suc (size g)
+kid-size t none h = h
+kid-size t (tree m c r) h = omega arith
+
+pub below-size : (g : Bool) (o : Op) (f : Forest Marked) → sizeT (cond g (kid0 (node o false f) f) (rebuild o false f)) ≤ suc (size f)
+below-size true o f = kid-size (node o false f) f (omega arith)
+below-size false o f = omega arith
+
 first-kid : (b : List ℕ) (o : Op) (hs : List ℕ) → 0 < length hs → treeOf b (getD hs 0 0) ≡ kid0 (node o false (forest b hs)) (forest b hs)
 unfolding forest
 first-kid b o [] l = absurd (omega arith)
 first-kid b o (h ∷ hs) l = refl
 
 module _ (a : List ℕ) (ua i : ℕ) (b : List ℕ) (w : ℕ) (d : Decision) (kids : List ℕ) (p : Carries a ua i b w d kids) where
-  abbrev f : Forest Marked
-  f = forest b kids
-
   below-ok : OkT (belowBy a i d (forest b kids))
   below-ok = cover-ok (topsOf (d .tops)) (belowBy a i d (forest b kids)) (p .ok)
 
@@ -190,9 +190,6 @@ module _ (a : List ℕ) (ua i : ℕ) (b : List ℕ) (w : ℕ) (d : Decision) (ki
 
   -- it stays
   module _ (e : d .gone ≡ false) (x : List ℕ) (c : x ≡ encode (length (slot a i .kids)) (opBy a i (d .rebuilt))) where
-    o : Op
-    o = opBy a i (d .rebuilt)
-
     stays : belowBy a i d (forest b kids) ≡ rebuild (opBy a i (d .rebuilt)) false (forest b kids)
     stays = ap (λ y. cond y (kid0 (node (opBy a i (d .rebuilt)) false (forest b kids)) (forest b kids)) (rebuild (opBy a i (d .rebuilt)) false (forest b kids))) e
 
@@ -231,17 +228,6 @@ module _ (a : List ℕ) (ua i : ℕ) (b : List ℕ) (w : ℕ) (d : Decision) (ki
 
   -- ---- the new nodes
 
-  kid-size : (t : Tree) (g : Forest Marked) → sizeT t ≤ suc (size g) → sizeT (kid0 t g) ≤ suc (size g)
-  kid-size t none h = h
-  kid-size t (tree m c r) h = omega arith
-
-  below-size : sizeT (belowBy a i d (forest b kids)) ≤ suc (size (forest b kids))
-  below-size = go (d .gone)
-    where
-      go : (x : Bool) → sizeT (cond x (kid0 (node (opBy a i (d .rebuilt)) false (forest b kids)) (forest b kids)) (rebuild (opBy a i (d .rebuilt)) false (forest b kids))) ≤ suc (size (forest b kids))
-      go true = kid-size (node (opBy a i (d .rebuilt)) false (forest b kids)) (forest b kids) (omega arith)
-      go false = omega arith
-
   sort-size : (q : Bool) (ks : List Key) (g : Fetch) (t : Tree) → sizeT (cover (newSort q ks g) t) ≤ suc (sizeT t)
   sort-size q [] g t = omega arith
   sort-size q (k ∷ ks) g t = let z = size-one t in omega arith
@@ -261,7 +247,7 @@ module _ (a : List ℕ) (ua i : ℕ) (b : List ℕ) (w : ℕ) (d : Decision) (ki
 
     pub sort-topping : Topping b₁ (t .used) (t .root) (d .tops .sort) (newSort (d .tops .preserve) (orderOf (d .tops .sort)) (d .tops .sfetch))
     sort-topping =
-        let r = p .room in let s = p .small in let n = p .few in let x = g .room in let z = below-size in let y = ap sizeT (g .tree) in
+        let r = p .room in let s = p .small in let n = p .few in let x = g .room in let z = below-size (d .gone) (opBy a i (d .rebuilt)) (forest b kids) in let y = ap sizeT (g .tree) in
         record {
           under = record { arena = g .arena; here = g .here; room = omega arith; small = omega arith; few = omega arith };
           real = p .sort;
@@ -271,7 +257,7 @@ module _ (a : List ℕ) (ua i : ℕ) (b : List ℕ) (w : ℕ) (d : Decision) (ki
     module _ (b₂ : List ℕ) (lc : length b₂ ≡ length b₁) (s : At) (k : Grown b₁ (t .used) b₂ s (cover (newSort (d .tops .preserve) (orderOf (d .tops .sort)) (d .tops .sfetch)) (treeOf b₁ (t .root))) (t .used + 1)) where
       pub merge-topping : Topping b₂ (s .used) (s .root) (d .tops .merge) (newMerge (orderOf (d .tops .merge)) (d .tops .mfetch))
       merge-topping =
-          let r = p .room in let o = p .small in let n = p .few in let x = g .room in let z = below-size in let y = ap sizeT (g .tree) in let u = k .room in
+          let r = p .room in let o = p .small in let n = p .few in let x = g .room in let z = below-size (d .gone) (opBy a i (d .rebuilt)) (forest b kids) in let y = ap sizeT (g .tree) in let u = k .room in
           let v = sort-size (d .tops .preserve) (orderOf (d .tops .sort)) (d .tops .sfetch) (treeOf b₁ (t .root)) in let q = ap sizeT (k .tree) in
           record {
             under = record { arena = k .arena; here = k .here; room = omega arith; small = omega arith; few = omega arith };

@@ -1,15 +1,15 @@
 -- What a visit reads from the arena is what the decision asks. Assumes nothing.
-use mathlib.Core.Path.{_≡_, refl, sym, ap, ap₂, _∙_, subst, subst⁻¹}
-use mathlib.Core.Bool.{Bool, true, false, _&&_}
+use mathlib.Core.Path.{_≡_, refl, sym, ap, ap₂, _∙_, subst}
+use mathlib.Core.Bool.{true, _&&_}
 use mathlib.Core.List.{List, [], _∷_, map}
-use Prim.Native.Nat.{ℕ, zero, suc, _+_, _*_, _/_, _≤_, _<_}
+use Prim.Native.Nat.{ℕ, zero, suc, _*_, _/_, _≤_, _<_}
 use native.Mathlib.Omega.{arith}
 use lib.Dec.{eqb, leb}
 use lib.ListN.{length, getD}
 use borrow.Author.Tests.{eqb-true, leb-true}
 use Rattle.row_order.specs.Lists.{All}
 use Rattle.plan.specs.Forest.{none, tree, roots}
-use Rattle.plan.specs.Op.{On, Op, source, filter, projection, union, repartition, coalesce, sortOp, mergeOp, globalLimit, localLimit, sortMergeJoin, hashJoin, outputRequirement, partialSort, Plan}
+use Rattle.plan.specs.Op.{Op, source, filter, projection, union, repartition, coalesce, sortOp, mergeOp, globalLimit, localLimit, sortMergeJoin, hashJoin, outputRequirement, partialSort, Plan}
 use Rattle.plan.specs.WellFormed.{fieldsOk, childrenOk, unionOk, columnsOk, width, nodeOk, joinWidth}
 use Rattle.plan.specs.declared.JoinType.{JoinType}
 use Rattle.plan.specs.declared.Fetch.{Fetch}
@@ -21,12 +21,11 @@ use Rattle.semantics.specs.Facts.{Facts, at0, at1, facts, factsOp, nothing}
 use Rattle.semantics.specs.Fits.{join-width}
 use Rattle.semantics.specs.Properties.{remark, fetches, fetchOp}
 use Rattle.key_lists.specs.Keys.{orderOf}
-use Rattle.fact_slots.specs.Slots.{loaded}
 use Rattle.row_facts.specs.Asked.{told, FactRow}
 use Rattle.arena.specs.Arena.{index, slot, keptPart}
 use Rattle.arena.specs.Laws.{index-even, below-at}
 use Rattle.walks.specs.Marks.{strip, known, fact, fetchT}
-use Rattle.walks.specs.Trees.{Ok, OkT}
+use Rattle.walks.specs.Trees.{Ok}
 use Rattle.walks.specs.NewNodes.{narrow}
 use Rattle.walks.specs.PushdownSorts as walk
 use Rattle.plan_context.specs.View.{treeIn, treeOf, forest, Arena}
@@ -70,11 +69,11 @@ width-at (tree o c r) h (suc i) = width-at r (h .2) i
 columns-of : (o : Op) (ws : List ℕ) → nodeOk o ws ≡ true → columnsOk o ws ≡ true
 columns-of o ws e = and-left (columnsOk o ws) (leb (width o ws) 32) (and-right (unionOk o ws) (columnsOk o ws && leb (width o ws) 32) (and-right (fieldsOk o && childrenOk o (length ws)) (unionOk o ws && (columnsOk o ws && leb (width o ws) 32)) e))
 
-roots-long : (c : Plan) → length (facts c) ≡ length (roots c)
+pub roots-long : (c : Plan) → length (facts c) ≡ length (roots c)
 roots-long none = refl
 roots-long (tree o c r) = ap suc (roots-long r)
 
-first-of : (fs : List Facts) → at0 fs ≡ getD fs 0 nothing
+pub first-of : (fs : List Facts) → at0 fs ≡ getD fs 0 nothing
 first-of [] = refl
 first-of (F ∷ fs) = refl
 
@@ -101,12 +100,6 @@ same-mark (partialSort p ks n f) = refl
 
 -- the record of node i
 module _ (a : List ℕ) (ua i : ℕ) (g : Arena a ua) (l : i < ua) where
-  rec : List ℕ
-  rec = slot a i .rec
-
-  fs : List Facts
-  fs = known (forest a (slot a i .kids))
-
   rule : Counts (decode (slot a i .rec)) (length (slot a i .kids))
   rule = subst (Counts (decode (slot a i .rec))) (length-facts a (slot a i .kids)) (counts-of (decode (slot a i .rec)) (known (forest a (slot a i .kids))) (shown a ua i g l .ok .0))
 
@@ -125,19 +118,19 @@ module _ (a : List ℕ) (ua i : ℕ) (g : Arena a ua) (l : i < ua) where
   count-at = subst (λ n. childrenOk (decode (slot a i .rec)) n ≡ true) (sym (length-facts a (slot a i .kids)) ∙ roots-long (strip (forest a (slot a i .kids)))) (rule .count)
 
   module _ (own f s : List ℕ) (eo : own ≡ keptPart a i) (rf : RowOf a i 0 f) (rs : RowOf a i 1 s) where
-    two : (t : JoinType) → (childrenOk (decode (slot a i .rec)) (length (slot a i .kids)) ≡ eqb (length (slot a i .kids)) 2) → length (slot a i .kids) ≡ 2
-    two t e = eqb-true (length (slot a i .kids)) 2 (sym e ∙ rule .count)
+    two : childrenOk (decode (slot a i .rec)) (length (slot a i .kids)) ≡ eqb (length (slot a i .kids)) 2 → length (slot a i .kids) ≡ 2
+    two e = eqb-true (length (slot a i .kids)) 2 (sym e ∙ rule .count)
 
-    join-wide : (t : JoinType) → (on : List On) → length (slot a i .kids) ≡ 2 → factsOp (decode (slot a i .rec)) (known (forest a (slot a i .kids))) .width ≡ joinWidth t (at0 (known (forest a (slot a i .kids))) .width) (at1 (known (forest a (slot a i .kids))) .width)
+    join-wide : (t : JoinType) → length (slot a i .kids) ≡ 2 → factsOp (decode (slot a i .rec)) (known (forest a (slot a i .kids))) .width ≡ joinWidth t (at0 (known (forest a (slot a i .kids))) .width) (at1 (known (forest a (slot a i .kids))) .width)
         → told own .width ≡ joinWidth t (told f .width) (told s .width)
-    join-wide t on n e =
+    join-wide t n e =
         ap (λ F. F .width) (own-tells own eo .1) ∙ e
         ∙ ap₂ (λ F G. joinWidth t (F .width) (G .width)) (first-of (known (forest a (slot a i .kids))) ∙ sym (rf .is (omega arith))) (second-of (known (forest a (slot a i .kids))) ∙ sym (rs .is (omega arith)))
 
     merged-at : (t : JoinType) → decode (slot a i .rec) ≡ sortMergeJoin t (pairsOf (slot a i .rec)) → JoinRows t (slot a i .rec) own f s
     merged-at t e =
-        let n = two t (ap (λ o. childrenOk o (length (slot a i .kids))) e) in
-        let w = join-wide t (pairsOf (slot a i .rec)) n (ap (λ o. factsOp o (known (forest a (slot a i .kids))) .width) e ∙ join-width t (pairsOf (slot a i .rec)) (at0 (known (forest a (slot a i .kids)))) (at1 (known (forest a (slot a i .kids))))) in
+        let n = two (ap (λ o. childrenOk o (length (slot a i .kids))) e) in
+        let w = join-wide t n (ap (λ o. factsOp o (known (forest a (slot a i .kids))) .width) e ∙ join-width t (pairsOf (slot a i .rec)) (at0 (known (forest a (slot a i .kids)))) (at1 (known (forest a (slot a i .kids))))) in
         let o = own-tells own eo .0 in let z = o .fine .wide in
         record {
           proper = proper-at;
@@ -150,7 +143,7 @@ module _ (a : List ℕ) (ua i : ℕ) (g : Arena a ua) (l : i < ua) where
 
     hashed-at : (t : JoinType) → decode (slot a i .rec) ≡ hashJoin t (pairsOf (slot a i .rec)) → told own .width ≡ joinWidth t (told f .width) (told s .width)
     hashed-at t e =
-        join-wide t (pairsOf (slot a i .rec)) (two t (ap (λ o. childrenOk o (length (slot a i .kids))) e))
+        join-wide t (two (ap (λ o. childrenOk o (length (slot a i .kids))) e))
         (ap (λ o. factsOp o (known (forest a (slot a i .kids))) .width) e ∙ join-width t (pairsOf (slot a i .rec)) (at0 (known (forest a (slot a i .kids)))) (at1 (known (forest a (slot a i .kids)))))
 
     pub seen-at : Seen (decode (slot a i .rec)) (decode (slot a i .rec)) (facts (strip (forest a (slot a i .kids)))) (walk.childCount (strip (forest a (slot a i .kids)))) (told own) (told f) (told s)

@@ -2,16 +2,18 @@
 use mathlib.Core.Path.{_≡_}
 use mathlib.Core.Bool.{cond}
 use mathlib.Core.List.{List}
-use Prim.Native.Nat.{ℕ, _+_, _*_, _≤_}
+use Prim.Native.Nat.{ℕ, _+_, _*_, _≤_, _<_}
 use lib.ListN.{length, take, drop}
 use Rattle.plan.specs.Forest.{size}
+use Rattle.plan.specs.Op.{Plan}
 use Rattle.plan.specs.declared.Refusal.the-variants.{Accepted, TooManyNodes, ConstantSort}
 use Rattle.arena.specs.Arena.{slotSize}
-use Rattle.walks.specs.Marks.{Tree, strip, opT, sizeT, node}
+use Rattle.walks.specs.Marks.{Tree, strip, opT, sizeT}
 use Rattle.walks.specs.Terms.{_⊕_}
 use Rattle.walks.specs.PushdownSorts as walk
-use Rattle.walks.specs.Counted.{Counted, stopped, counted, bind, constantSort, overflows, afterwards, countDown}
+use Rattle.walks.specs.Counted.{Answer, refused, answered, answerOf, Counted, stopped, counted, bind, constantSort, overflows, afterwards, countDown}
 use Rattle.plan_context.specs.View.{treeOf, forest, mostSlots, Arena, Grown}
+use Rattle.plan_context.specs.Records.{planT}
 use Rattle.plan_context.specs.Kids.{Kids}
 use Rattle.sort_pushdown.specs.declared.Visit.{Visit}
 use Rattle.sort_pushdown.specs.declared.Decision.{Decision}
@@ -61,6 +63,30 @@ pub record Ended (q : walk.Visit) (n : ℕ) (t : Tree) (b : List ℕ) (v : ℕ) 
 abbrev pub Ends : walk.Visit → ℕ → Tree → List ℕ → ℕ → List ℕ → Pushed → Type 0
 Ends q n t b v b' (Refused e) = countedT q n t ≡ stopped e
 Ends q n t b v b' (Done x) = Ended q n t b v b' x
+
+-- ---- a whole plan
+
+-- The plan at h, of 126 nodes at most, and room in b for three slots for each
+pub record Rooted (a : List ℕ) (ua h : ℕ) (b : List ℕ) : Type 0 where
+  pub arena : Arena a ua
+  pub here : h < 2 * ua
+  pub few : sizeT (treeOf a h) ≤ 126
+  pub room : 3 * sizeT (treeOf a h) * slotSize ≤ length b
+
+-- What push answers to a plan without partial sorts: `pushed` is this after 21
+abbrev pub answerIn : Plan → Answer
+answerIn f = answerOf (countDown (λ i. walk.atRoot) (size f) f)
+
+-- The answer to f stands at x in b
+pub record Answered (f : Plan) (b : List ℕ) (x : Walked) : Type 0 where
+  pub is : answerIn f ≡ answered (planT (treeOf b (x .root)))
+  pub arena : Arena b (x .used)
+  pub here : x .root < 2 * x .used
+  pub room : x .used ≤ 3 * size f
+
+abbrev pub Answers : Plan → List ℕ → Pushed → Type 0
+Answers f b (Refused e) = answerIn f ≡ refused e
+Answers f b (Done x) = Answered f b x
 
 -- The refusal of a step; a step that goes on has none
 abbrev pub refusedBy : Step → Pushed

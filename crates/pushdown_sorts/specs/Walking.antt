@@ -1,8 +1,8 @@
 -- The walk: a step, the children from left to right, and the decision carried out. Assumes nothing.
 use mathlib.Core.Path.{_≡_, refl, sym, ap, ap₂, _∙_, subst, subst⁻¹, fun-ext}
-use mathlib.Core.Bool.{Bool, true, false, cond, not, _&&_}
-use mathlib.Core.List.{List, [], _∷_, _++_}
-use Prim.Native.Nat.{ℕ, zero, suc, _+_, _*_, _-_, _≤_, _<_}
+use mathlib.Core.Bool.{Bool, true, false, cond, _&&_}
+use mathlib.Core.List.{List, [], _∷_}
+use Prim.Native.Nat.{ℕ, zero, suc, _+_, _*_, _≤_, _<_}
 use native.Mathlib.Omega.{arith}
 use native.Mathlib.Numerals.{add-one}
 use lib.ListN.{length, getD, take, drop, set, length-append, drop-of-length-le}
@@ -16,25 +16,27 @@ use Rattle.plan.specs.declared.Refusal.{Refusal}
 use Rattle.plan.specs.declared.Refusal.the-variants.{Accepted, TooManyNodes, ConstantSort}
 use Rattle.plan_format.specs.Record.{children}
 use Rattle.plan_codec.specs.Decode.{decode}
-use Rattle.semantics.specs.Facts.{Facts, facts, factsOp, isNil, knownOrder, nothing}
+use Rattle.semantics.specs.Facts.{facts, factsOp, isNil, knownOrder}
 use Rattle.semantics.specs.Properties.{fetches, rebuilt}
 use Rattle.key_lists.specs.Keys.{orderOf, Real}
 use Rattle.row_facts.specs.Asked.{told}
-use Rattle.arena.specs.Arena.{slotSize, index, slot, keptPart, Below}
+use Rattle.arena.specs.Arena.{index, slot, keptPart}
 use Rattle.arena.specs.Laws.{below-at}
 use Rattle.arena.specs.declared.At.{At}
-use Rattle.walks.specs.Marks.{Marked, Tree, strip, known, opT, fact, fetchT, sizeT, node, plant, kid0, rebuild, cover, setMark}
+use Rattle.walks.specs.Marks.{Marked, Tree, strip, known, opT, fact, fetchT, sizeT, node, plant, kid0, rebuild, cover}
 use Rattle.walks.specs.Utils.{isSort, newMerge, newSort}
 use Rattle.walks.specs.Terms.{_⊕_}
-use Rattle.walks.specs.Trees.{Ok, OkT, ok-fit}
+use Rattle.walks.specs.Trees.{OkT, ok-fit}
 use Rattle.walks.specs.PushdownSorts as walk
 use Rattle.walks.specs.PushOk.{VisitFits, EachFits, helper-fitted, push-ok}
-use Rattle.walks.specs.Counted.{Counted, stopped, counted, bind, one, constantSort, overflows, afterwards, countDown}
+use Rattle.walks.specs.Keys.{no-keys}
+use Rattle.walks.specs.Counted.{answered, answerOf, Counted, stopped, counted, bind, constantSort, overflows, afterwards, countDown}
 use Rattle.walks.specs.CountedWalks.{one-le, one-visited}
-use Rattle.plan_context.specs.View.{treeIn, treeOf, forest, mostSlots, Arena, Grown}
+use Rattle.plan_context.specs.View.{treeIn, treeOf, forest, Arena, Grown}
 use Rattle.plan_context.specs.Laws.{facts-at, length-facts, same-trans}
-use Rattle.plan_context.specs.Kids.{Kids, kids-none, kids-more, kids-forest, plus-none}
-use Rattle.plan_context.specs.Opening.{grown-more, grown-then}
+use Rattle.plan_context.specs.Facts.{size-strip}
+use Rattle.plan_context.specs.Records.{planT}
+use Rattle.plan_context.specs.Kids.{kids-none, kids-more, kids-forest, plus-none}
 use Rattle.sort_pushdown.specs.declared.Visit.{Visit}
 use Rattle.sort_pushdown.specs.declared.Decision.{Decision}
 use Rattle.sort_pushdown.specs.declared.NewNodes.{NewNodes}
@@ -46,9 +48,10 @@ use Rattle.sort_pushdown.specs.Visits.{children-visited, after-is, constant-is,
 use Rattle.pushdown_sorts.specs.declared.Walked.{Walked}
 use Rattle.pushdown_sorts.specs.declared.Pushed.{Pushed}
 use Rattle.pushdown_sorts.specs.declared.Pushed.the-variants.{Refused, Done}
-use Rattle.pushdown_sorts.specs.Walk.{countedT, pushedT, Pushes, Ended, Ends, refusedBy, from, Visiting}
+use Rattle.pushdown_sorts.specs.Walk.{Rooted, Answers, countedT, pushedT, Pushes, Ended, Ends, refusedBy, from, Visiting}
 use Rattle.push_visits.specs.Carried.{carriedBy, belowBy, opBy, Carries}
-use Rattle.push_visits.specs.Visiting.{shown, proper-at, own-tells}
+use Rattle.push_visits.specs.Carrying.{below-size}
+use Rattle.push_visits.specs.Visiting.{roots-long, shown, own-tells}
 
 -- ---- one tree of a forest
 
@@ -235,21 +238,9 @@ cover-size : (ts : List Op) (t : Tree) → sizeT (cover ts t) ≡ length ts + si
 cover-size [] t = omega arith
 cover-size (o ∷ os) t = let x = cover-size os t in omega arith
 
-kid-size : (t : Tree) (g : Forest Marked) → sizeT t ≤ suc (size g) → sizeT (kid0 t g) ≤ suc (size g)
-kid-size t none h = h
-kid-size t (tree m c r) h = omega arith
-
-below-size : (g : Bool) (o : Op) (f : Forest Marked) → sizeT (cond g (kid0 (node o false f) f) (rebuild o false f)) ≤ suc (size f)
-below-size true o f = kid-size (node o false f) f (omega arith)
-below-size false o f = omega arith
-
 roots-strip : (f : Forest Marked) → length (known f) ≡ length (roots f)
 roots-strip none = refl
 roots-strip (tree m c r) = ap suc (roots-strip r)
-
-roots-plan : (c : Plan) → length (facts c) ≡ length (roots c)
-roots-plan none = refl
-roots-plan (tree o c r) = ap suc (roots-plan r)
 
 module _ (a : List ℕ) (ua h : ℕ) (b : List ℕ) (v : ℕ) (visit : Visit) (n : ℕ) (p : Pushes a ua h b v visit n) where
   abbrev i : ℕ
@@ -359,7 +350,7 @@ module _ (a : List ℕ) (ua h : ℕ) (b : List ℕ) (v : ℕ) (visit : Visit) (n
 
           child-fits : VisitFits (fact (treeOf a k) .width) (visitOf below)
           child-fits =
-              let y = length-facts a ks in let u = roots-plan c in
+              let y = length-facts a ks in let u = roots-long c in
               subst⁻¹ (λ x. VisitFits (fact (treeOf a k) .width) x) (visit-is ∙ dec .reqs j (omega arith)) (subst (λ F. VisitFits (F .width) (D .reqs j)) (facts-at a ks j l) (each j (omega arith)))
 
           pub child-pushes : (sizeT (treeOf a (getD (slot a (index h) .kids) j 0)) < sizeT (treeOf a h)) × Pushes a ua (getD (slot a (index h) .kids) j 0) b₁ w below m
@@ -447,3 +438,35 @@ module _ (a : List ℕ) (ua h : ℕ) (b : List ℕ) (v : ℕ) (visit : Visit) (n
               low = omega arith;
               high = omega arith;
             })
+
+-- ---- a whole plan
+module _ (a : List ℕ) (ua h : ℕ) (b : List ℕ) (p : Rooted a ua h b) (visit : Visit) (ev : visitOf visit ≡ walk.atRoot) (n : ℕ) (en : n ≡ sizeT (treeOf a h)) where
+  pub root-pushes : Real (visit .req .order) → Pushes a ua h b 0 visit n
+  root-pushes r =
+      let x = p .few in let y = p .room in
+      record {
+        visits = record { from = p .arena; here = p .here; real = r; fits = subst⁻¹ (VisitFits (fact (treeOf a h) .width)) ev (record { keys = no-keys; fetch = refl }) };
+        arena = record { slots = omega arith; small = omega arith; all = λ i l. absurd (omega arith) };
+        room = omega arith;
+        small = omega arith;
+        low = omega arith;
+        high = omega arith;
+      }
+
+  counted-is : countDown (λ i. walk.atRoot) (size (planT (treeOf a h))) (planT (treeOf a h)) ≡ bind (countedT (visitOf visit) n (treeIn a (index h))) (λ u m. counted (plant u none) m)
+  counted-is =
+      let e : size (planT (treeOf a h)) ≡ n = (let z = size-strip (treeIn a (index h) .kids) in omega arith) in
+      ap (λ m. countDown (λ i. walk.atRoot) m (planT (treeOf a h))) e
+      ∙ count-tree (λ i. walk.atRoot) n (treeIn a (index h)) none
+      ∙ ap (λ q. bind (countedT q n (treeIn a (index h))) (λ u m. counted (plant u none) m)) (sym ev)
+
+  pub root-ends : (b' : List ℕ) (r : Pushed) → Ends (visitOf visit) n (treeIn a (index h)) b 0 b' r → Answers (planT (treeOf a h)) b' r
+  root-ends b' (Refused e) x = ap answerOf (counted-is ∙ ap (λ y. bind y (λ u m. counted (plant u none) m)) x)
+  root-ends b' (Done w) x =
+      let z = size-strip (treeIn a (index h) .kids) in let g = x .grown .room in
+      record {
+        is = ap answerOf (counted-is ∙ ap (λ y. bind y (λ u m. counted (plant u none) m)) (x .is)) ∙ ap (λ t. answered (planT t)) (sym (x .grown .tree));
+        arena = x .grown .arena;
+        here = x .grown .here;
+        room = omega arith;
+      }

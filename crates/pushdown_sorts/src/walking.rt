@@ -6,6 +6,7 @@ use arena::child_count;
 use arena::kept_at;
 use arena::record_at;
 use plan::Refusal;
+use plan_context::kept::nodes;
 use push_visits::carrying::carry_out;
 use push_visits::visiting::decide_at;
 use push_visits::visiting::fetch_at;
@@ -15,9 +16,10 @@ use sort_pushdown::children::child_visit;
 use sort_pushdown::steps::step_at;
 ghost use mathlib.Core.Path.{_≡_};
 ghost use Rattle.arena.specs.Arena.{index};
-ghost use Rattle.plan_context.specs.View.{treeIn};
+ghost use Rattle.plan_context.specs.View.{treeIn, treeOf};
+ghost use Rattle.plan_context.specs.Records.{planT};
 ghost use Rattle.sort_pushdown.specs.Decisions.{visitOf};
-ghost use Rattle.pushdown_sorts.specs.Walk.{Pushes, Ends, refusedBy};
+ghost use Rattle.pushdown_sorts.specs.Walk.{Pushes, Ends, refusedBy, Rooted, Answers};
 
 // The refusal of a step; of one that goes on it is not asked.
 fn refused(s: Step) -> Pushed
@@ -72,4 +74,14 @@ pub fn push_at(
         count: m,
     };
     Pushed::Done(done)
+}
+
+// The plan at h, pushed: from the first slot of b on.
+pub fn pushdown_sorts(a: &[u8], ua: usize, h: usize, b: &mut [u8]) -> Pushed
+    requires { ⌜ Rooted (now a) ua h (now b) ⌝ }
+    ensures { λ r. ⌜ Answers (planT (treeOf (now (a .entry)) h)) (now (b .exit)) r ⌝ }
+{
+    let visit = Visit::at_root();
+    let count = nodes(a, h);
+    push_at(a, ua, h, b, 0, visit, count)
 }

@@ -1,8 +1,8 @@
 -- The decision, piece by piece. Assumes nothing.
 use mathlib.Core.Path.{_≡_, refl, sym, ap, ap₂, _∙_, subst, subst⁻¹}
-use mathlib.Core.Bool.{Bool, true, false, cond, not, _&&_, _||_}
+use mathlib.Core.Bool.{Bool, true, false, cond, not, _&&_}
 use mathlib.Core.List.{List, [], _∷_, _++_, append-nil}
-use Prim.Native.Nat.{ℕ, zero, suc, _+_, _-_, _<_, _≤_}
+use Prim.Native.Nat.{ℕ, zero, suc, _+_, _<_, _≤_}
 use native.Mathlib.Omega.{arith}
 use lib.Dec.{eqb, ltb}
 use lib.ListN.{length, getD, length-append}
@@ -17,29 +17,26 @@ use Rattle.plan.specs.declared.Distribution.the-variants.{Unspecified}
 use Rattle.plan.specs.declared.Fetch.{Fetch}
 use Rattle.plan.specs.declared.Fetch.the-variants.{Unlimited}
 use Rattle.plan.specs.declared.Refusal.the-variants.{TooManyNodes, ConstantSort}
-use Rattle.semantics.specs.Facts.{Facts, at0, facts, factsOp, isNil, met, compatible, knownOrder}
+use Rattle.semantics.specs.Facts.{Facts, facts, factsOp, isNil, compatible}
 use Rattle.semantics.specs.Properties.{freshKeys, wanted, distOf, fetches, rebuilt, cuts, sortDist}
 use Rattle.key_lists.specs.declared.Keys.{Keys}
 use Rattle.key_lists.specs.declared.Order.{Order}
 use Rattle.key_lists.specs.declared.Order.the-variants.{Unordered, By}
-use Rattle.key_lists.specs.Keys.{keysIn, keysOf, orderOf, Keyed, Ordered, Real}
+use Rattle.key_lists.specs.Keys.{keysOf, orderOf, Keyed, Ordered, Real}
 use Rattle.push_requirements.specs.declared.ParentRequirements.{ParentRequirements as Coded}
+use Rattle.push_requirements.specs.Answers.{some-keys}
 use Rattle.push_requirements.specs.Pushing.{required, orderBy, Going, Seen}
 use Rattle.walks.specs.Utils.{needsMerge, newMerge, newSort, sortAboveWithDistribution, isSort}
 use Rattle.walks.specs.Keeps.{remark-same}
-use Rattle.walks.specs.SortPushdown.{ParentRequirements, strongerDistribution, minFetch}
+use Rattle.walks.specs.SortPushdown.{ParentRequirements, strongerDistribution}
 use Rattle.walks.specs.PushdownSorts as walk
 use Rattle.walks.specs.Counted.{one, tooMany}
 use Rattle.sort_pushdown.specs.declared.NewNodes.{NewNodes}
 use Rattle.sort_pushdown.specs.declared.ChildRequirements.{ChildRequirements}
 use Rattle.sort_pushdown.specs.declared.Decision.{Decision}
 use Rattle.sort_pushdown.specs.declared.Step.the-variants.{Refused, On}
-use Rattle.sort_pushdown.specs.Decisions.{topsOf, Adds, ofChild, reqFor, Asks, visitFor, Decides, removedBy, staysBy, sortOn}
+use Rattle.sort_pushdown.specs.Decisions.{topsOf, Adds, ofChild, reqFor, Asks, visitFor, Decides, removedBy, staysBy}
 use Rattle.sort_pushdown.specs.Steps.{some, stepBy}
-
--- the definition is the one over facts
-pub sort-on : (p : Bool) (ks : List Key) (f : Fetch) (q : walk.Visit) (c : Plan) → walk.decideSort p ks f q c ≡ sortOn p ks f q (factsOp (sortOp p ks f) (facts c)) (at0 (facts c))
-sort-on p ks f q c = refl
 
 -- ---- new nodes
 
@@ -132,18 +129,11 @@ module _ (o : Op) (a b : Order) (f : Fetch) (d₀ d₁ : Distribution) where
 pub wanted-going : (o : Op) (a b : Order) (m : ℕ) → childrenOk o m ≡ true → Ordered (wanted o 0) a → Ordered (wanted o 1) b → Going m (wanted o) a b
 wanted-going o a b m v x y = record { is = at; first = x .real; rest = y .real }
   where
-    use-at : (i : ℕ) → suc i < m → orderOf b ≡ wanted o (suc i)
-    use-at i l = y .is ∙ wanted-rest o m v i l
-
     at : (i : ℕ) → i < m → orderBy a b i ≡ wanted o i
     at zero l = x .is
-    at (suc i) l = use-at i l
+    at (suc i) l = y .is ∙ wanted-rest o m v i l
 
 -- child number j
-pub first-child : (reqs : ChildRequirements) (j : ℕ) → j ≡ 0 → reqs .first ≡ ofChild reqs j
-first-child reqs zero e = refl
-first-child reqs (suc j) e = absurd (omega arith)
-
 pub other-child : (reqs : ChildRequirements) (j : ℕ) → (j ≡ 0 → ⊥) → reqs .rest ≡ ofChild reqs j
 other-child reqs zero e = absurd (e refl)
 other-child reqs (suc j) e = refl
@@ -178,6 +168,9 @@ stricter-own C own k ps h x e t r = record { is = sym (ap (λ b. cond b (orderOf
 pub stricter-parent : (C : Facts) (own : Order) (k : Keys) (ps : List Key) → Keyed (orderOf own) k → (x : Bool) → x ≡ compatible C (keysOf k) ps → x ≡ false → (o : Order) → Ordered ps o → Ordered (cond (compatible C (orderOf own) ps) (orderOf own) ps) o
 stricter-parent C own k ps h x e t o r = subst⁻¹ (λ b. Ordered (cond b (orderOf own) ps) o) (sym (e ∙ ap (λ l. compatible C l ps) (h .is)) ∙ t) r
 
+pub stricter-is : (C : Facts) (x own : Order) (p : Keys) (ks ls : List Key) → Ordered (cond (compatible C (orderOf own) (keysOf p)) (orderOf own) (keysOf p)) x → orderOf own ≡ ks → keysOf p ≡ ls → orderOf x ≡ cond (compatible C ks ls) ks ls
+stricter-is C x own p ks ls h e d = h .is ∙ ap₂ (λ o l. cond (compatible C o l) o l) e d
+
 -- ---- tests
 
 module _ (o : Op) (c : Plan) (D E : walk.Decision) (b : Bool) (r : Decision) where
@@ -186,13 +179,6 @@ module _ (o : Op) (c : Plan) (D E : walk.Decision) (b : Bool) (r : Decision) whe
 
   pub if-not : b ≡ false → Decides o c E r → Decides o c (cond b D E) r
   if-not e h = subst⁻¹ (λ x. Decides o c (cond x D E) r) e h
-
-some-keys : (k : Keys) → Real (By k) → isNil (keysOf k) ≡ false
-some-keys k h = go (k .len) (h .0)
-  where
-    go : (n : ℕ) → 0 < n → isNil (keysIn n (k .word)) ≡ false
-    go zero l = absurd (omega arith)
-    go (suc n) l = refl
 
 -- an order by keys
 module _ (o : Order) (k : Keys) (r : Real o) (e : o ≡ By k) where

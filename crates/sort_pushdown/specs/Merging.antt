@@ -2,7 +2,7 @@
 use mathlib.Core.Path.{_≡_, refl, sym, ap, ap₂, _∙_, subst, subst⁻¹, fun-ext}
 use mathlib.Core.Bool.{Bool, true, false, cond, not, _&&_, _||_}
 use mathlib.Core.List.{List, [], _∷_, _++_}
-use Prim.Native.Nat.{ℕ, zero, suc, _<_, _≤_}
+use Prim.Native.Nat.{ℕ, _<_}
 use native.Mathlib.Omega.{arith}
 use lib.Dec.{eqb, ltb}
 use Rattle.row_order.specs.Iso.{Key}
@@ -12,19 +12,18 @@ use Rattle.plan.specs.Op.{Op, source, filter, projection, union, repartition, c
 use Rattle.plan.specs.Numbers.{code}
 use Rattle.plan.specs.WellFormed.{childrenOk, member}
 use borrow.Author.Tests.{eqb-true}
-use Rattle.plan.specs.declared.Distribution.{Distribution}
 use Rattle.plan.specs.declared.Distribution.the-variants.{Unspecified}
 use Rattle.plan.specs.declared.Fetch.{Fetch}
 use Rattle.semantics.specs.Facts.{Facts, at0, facts, factsOp, isNil, met, nf, isC, cl, counts, knownOrder}
 use Rattle.semantics.specs.NormalForm.{nf-all}
-use Rattle.semantics.specs.Properties.{freshKeys, fetches, fetchOp, rebuilt, remark, wanted}
+use Rattle.semantics.specs.Properties.{freshKeys, fetches, fetchOp, rebuilt, remark}
 use Rattle.key_lists.specs.declared.Keys.{Keys}
 use Rattle.key_lists.specs.declared.Order.{Order}
 use Rattle.key_lists.specs.declared.Order.the-variants.{By}
 use Rattle.key_lists.specs.Keys.{keysOf, orderOf, Keyed, Real}
 use Rattle.facts.specs.Reading.{classes}
 use Rattle.fact_slots.specs.Slots.{loaded}
-use Rattle.row_facts.specs.Asked.{told, FactRow}
+use Rattle.row_facts.specs.Asked.{told}
 use Rattle.push_requirements.specs.declared.Pushed.the-variants.{Stop, Goes}
 use Rattle.push_requirements.specs.declared.Pushed.{Pushed as Answered}
 use Rattle.push_requirements.specs.Pushing.{Pushes, Going, Asked, Seen}
@@ -218,9 +217,6 @@ no-sort (hashJoin t on) q x c e = refl
 no-sort (outputRequirement ks d f) q x c e = refl
 no-sort (partialSort p ks n f) q x c e = refl
 
-pub seen-same : (n : Op) (fs : List Facts) (m : ℕ) (F L R : Facts) → Seen n n fs m F L R → Seen n (rebuilt n fs) fs m F L R
-seen-same n fs m F L R s = seen-again n n fs m F L R s
-
 module _ (o : Op) (q : walk.Visit) (c : Plan) (r : Decision) where
   -- the node is rebuilt before it is looked at: rebuilt once more it is the same
   pub helper-touched : eqb (code o) 7 ≡ false → q .touch ≡ true → (d : Decision) → r ≡ rebuiltBy d → Decides (rebuilt o (facts c)) c (walk.decideNode q (rebuilt o (facts c)) c) d → Decides o c (walk.pushdownSortsHelper q o c) r
@@ -250,9 +246,6 @@ module _ (c : Plan) (n o : Op) (q : walk.Visit) (F L R : Facts) (s : Seen n o (f
 
   pub pushed-down : (p : Answered) → Pushes (walk.childCount c) (pushdownRequirementToChildren o limit (walk.childCount c) (facts c) (keysOf k) (q .req .fetch)) p → Pushes (walk.childCount c) (walk.pushDown (q .req .order) q o c) p
   pushed-down p h = subst (λ P. Pushes (walk.childCount c) P p) (ap₂ (λ (l : Fetch) (ks : List Key). pushdownRequirementToChildren o l (walk.childCount c) (facts c) ks (q .req .fetch)) e eo) h
-
-  pub merge-is : (d : Distribution) (x : Bool) → x ≡ needsMerge F d → needsMerge (factsOp o (facts c)) d ≡ x
-  merge-is d x h = sym (h ∙ ap (λ G. needsMerge G d) (facts-like n o (facts c) (walk.childCount c) F L R s))
 
   module _ (some : isNil (q .req .order) ≡ false) (r : Decision) (x : Bool) (h : x ≡ met F (keysOf k)) where
     pub node-met : x ≡ true → Decides o c (walk.satisfied q o c) r → Decides o c (walk.decideNode q o c) r

@@ -1,6 +1,6 @@
--- The walk at a node goes by the step and by the child visits in code. Assumes nothing.
-use mathlib.Core.Path.{_≡_, refl, sym, ap, ap₂, _∙_, fun-ext}
-use mathlib.Core.Bool.{Bool, true, false, cond, not, _&&_}
+-- The walk reads of a decision what the code says of it: the visits of the children, the step and the count. Assumes nothing.
+use mathlib.Core.Path.{_≡_, refl, ap, ap₂, fun-ext}
+use mathlib.Core.Bool.{Bool, cond, not, _&&_}
 use mathlib.Core.List.{List}
 use Prim.Native.Nat.{ℕ, zero, suc, _+_, _-_, _<_}
 use native.Mathlib.Omega.{arith}
@@ -12,13 +12,11 @@ use Rattle.semantics.specs.Facts.{Facts, facts, factsOp, isNil, knownOrder}
 use Rattle.semantics.specs.Properties.{fetches}
 use Rattle.walks.specs.Utils.{isSort}
 use Rattle.walks.specs.Marks.{Marked, plant}
-use Rattle.walks.specs.PushdownSorts.{Visit, pushdownSortsHelper, carryOut, Decision as Decided}
+use Rattle.walks.specs.PushdownSorts.{Visit, pushdownSortsHelper, carryOut}
 use Rattle.walks.specs.Counted.{Counted, stopped, counted, bind, one, tooMany, constantSort, overflows, afterwards, countDown}
 use Rattle.sort_pushdown.specs.declared.Decision.{Decision}
-use Rattle.sort_pushdown.specs.declared.Step.{Step}
-use Rattle.sort_pushdown.specs.declared.Step.the-variants.{Refused, On}
-use Rattle.sort_pushdown.specs.Decisions.{Decides, visitFor, topsOf}
-use Rattle.sort_pushdown.specs.Steps.{stepBy, afterBy}
+use Rattle.sort_pushdown.specs.Decisions.{Decides, visitFor}
+use Rattle.sort_pushdown.specs.Steps.{afterBy}
 
 -- What the children are visited with is read below their number only
 visits-below : (q p : ℕ → Visit) (n : ℕ) (f : Plan) → ((i : ℕ) → i < length (roots f) → q i ≡ p i) → countDown q n f ≡ countDown p n f
@@ -36,16 +34,6 @@ visits-below q p n (tree o c r) h =
 pub children-visited : (q : Visit) (o : Op) (c : Plan) (r : Decision) (n : ℕ) → Decides o c (pushdownSortsHelper q o c) r → countDown (visitFor r (fetches c)) n c ≡ countDown (pushdownSortsHelper q o c .reqs) n c
 children-visited q o c r n h = visits-below (visitFor r (fetches c)) (pushdownSortsHelper q o c .reqs) n c (h .reqs)
 
--- what is left to do after a step
-abbrev pub goOn : {A : Type 0} → Step → (ℕ → Counted A) → Counted A
-goOn (Refused e) g = stopped e
-goOn (On n) g = g n
-
-step-on : {A : Type 0} (a b : Bool) (n : ℕ) (g : ℕ → Counted A) → cond a (stopped ConstantSort) (cond b (stopped TooManyNodes) (g n)) ≡ goOn (cond a (Refused ConstantSort) (cond b (Refused TooManyNodes) (On n))) g
-step-on true b n g = refl
-step-on false true n g = refl
-step-on false false n g = refl
-
 module _ (o : Op) (q : Visit) (c : Plan) (F : Facts) (r : Decision) (d : Decides o c (pushdownSortsHelper q o c) r) (f : F ≡ factsOp o (facts c)) where
   pub after-is : (n : ℕ) → afterBy r n ≡ afterwards (pushdownSortsHelper q o c) n
   after-is n = ap₂ (λ (l : List Op) (b : Bool). (n + length l) - one b) (d .tops .is) (d .gone)
@@ -55,16 +43,3 @@ module _ (o : Op) (q : Visit) (c : Plan) (F : Facts) (r : Decision) (d : Decides
 
   pub over-is : (n : ℕ) → not (r .quiet) && tooMany (afterBy r n + one (r .peak)) ≡ overflows (pushdownSortsHelper q o c) n
   over-is n = ap₂ (λ (b : Bool) (m : ℕ). not b && tooMany m) (d .quiet) (ap₂ _+_ (after-is n) (d .peak))
-
-  pub counts-down : (v : ℕ → Visit) (n : ℕ) (s : Plan) → v 0 ≡ q
-      → countDown v n (tree o c s)
-      ≡ goOn (stepBy (isSort o && isNil (knownOrder F)) (r .quiet) (r .peak) (afterBy r n))
-      (λ j. bind (countDown (visitFor r (fetches c)) j c) (λ x m. bind (countDown (λ i. v (suc i)) m s) (λ y l. counted (plant (carryOut (pushdownSortsHelper q o c) x) y) l)))
-  counts-down v n s e =
-      let D : Decided = pushdownSortsHelper q o c in
-      let g : ℕ → Counted (Forest Marked) = λ j. bind (countDown (D .reqs) j c) (λ x m. bind (countDown (λ i. v (suc i)) m s) (λ y l. counted (plant (carryOut D x) y) l)) in
-      ap (λ (w : Visit). cond (constantSort o c) (stopped ConstantSort) (cond (overflows (pushdownSortsHelper w o c) n) (stopped TooManyNodes) (bind (countDown (pushdownSortsHelper w o c .reqs) (afterwards (pushdownSortsHelper w o c) n) c) (λ x m. bind (countDown (λ i. v (suc i)) m s) (λ y l. counted (plant (carryOut (pushdownSortsHelper w o c) x) y) l))))) e
-      ∙ step-on (constantSort o c) (overflows D n) (afterwards D n) g
-      ∙ sym (ap₂ (λ (a : Bool) (b : Bool). goOn (cond a (Refused ConstantSort) (cond b (Refused TooManyNodes) (On (afterwards D n)))) g) constant-is (over-is n))
-      ∙ sym (ap (λ (m : ℕ). goOn (cond (isSort o && isNil (knownOrder F)) (Refused ConstantSort) (cond (not (r .quiet) && tooMany (afterBy r n + one (r .peak))) (Refused TooManyNodes) (On m))) g) (after-is n))
-      ∙ ap (λ (h : ℕ → Counted (Forest Marked)). goOn (stepBy (isSort o && isNil (knownOrder F)) (r .quiet) (r .peak) (afterBy r n)) (λ j. bind (h j) (λ x m. bind (countDown (λ i. v (suc i)) m s) (λ y l. counted (plant (carryOut D x) y) l)))) (fun-ext (λ j. sym (children-visited q o c r j d)))

@@ -1,14 +1,9 @@
+-- `push_requirements::children::fetch_blocks` meets its contract. Assumes nothing.
 use borrow.Author.Needs.{needs}
-use native.Mathlib.Omega.{arith}
 use mathlib.Core.Path.{ap, ap₂}
 use mathlib.Core.Bool.{not, _&&_}
 use Rattle.push_requirements.proofs.children.fetch_blocks.Statement.{statement}
 use Rattle.push_requirements.proofs.children.fetch_blocks.Tie as tie
-use Rattle.push_requirements.proofs.children.fetch_blocks.Reads as reads
-use Rattle.push_requirements.proofs.children.fetch_blocks.Lts as lts
-use Rattle.node_properties.proofs.cardinality_equal.Reads as cardinality-equal-reads
-use Rattle.node_properties.proofs.some_fetch.Reads as some-fetch-reads
-use Rattle.node_properties.proofs.supports_limit_pushdown.Reads as supports-limit-pushdown-reads
 
 some-fetch-requires : tie.Need-some-fetch-requires
 some-fetch-requires c κs = search needs

@@ -1,11 +1,8 @@
+-- `push_requirements::children::handle_custom_pushdown` meets its contract. Assumes nothing.
 use borrow.Author.Needs.{needs}
-use native.Mathlib.Omega.{arith}
 use Rattle.push_requirements.specs.Answers.{alike}
 use Rattle.push_requirements.proofs.children.handle_custom_pushdown.Statement.{statement}
 use Rattle.push_requirements.proofs.children.handle_custom_pushdown.Tie as tie
-use Rattle.push_requirements.proofs.children.handle_custom_pushdown.Reads as reads
-use Rattle.push_requirements.proofs.children.handle_custom_pushdown.Lts as lts
-use Rattle.key_lists.proofs.order_of.Reads as order-of-reads
 
 order-of-requires : tie.Need-order-of-requires
 order-of-requires c κs = search needs

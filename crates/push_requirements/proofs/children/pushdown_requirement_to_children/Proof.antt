@@ -1,5 +1,4 @@
-use borrow.Author.Needs.{needs}
-use native.Mathlib.Omega.{arith}
+-- `push_requirements::children::pushdown_requirement_to_children` meets its contract. Assumes nothing.
 use mathlib.Core.Path.{sym, _∙_, subst}
 use Rattle.plan_codec.specs.Decode.{decode}
 use Rattle.key_lists.specs.Keys.{keysOf}
@@ -13,12 +12,6 @@ use Rattle.push_requirements.proofs.children.pushdown_requirement_to_ch
   statement,
 }
 use Rattle.push_requirements.proofs.children.pushdown_requirement_to_children.Tie as tie
-use Rattle.push_requirements.proofs.children.pushdown_requirement_to_children.Reads as reads
-use Rattle.push_requirements.proofs.children.pushdown_requirement_to_children.Lts as lts
-use Rattle.push_requirements.proofs.children.fetch_blocks.Reads as fetch-blocks-reads
-use Rattle.push_requirements.proofs.children.handle_fetch.Reads as handle-fetch-reads
-use Rattle.push_requirements.proofs.children.push_by_kind.Reads as push-by-kind-reads
-use Rattle.push_requirements.proofs.children.through_fetch.Reads as through-fetch-reads
 
 fetch-blocks-requires : tie.Need-fetch-blocks-requires
 fetch-blocks-requires c κs = c .before .before .before .before .pre .proper

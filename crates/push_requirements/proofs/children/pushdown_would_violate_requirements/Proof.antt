@@ -1,5 +1,5 @@
+-- `push_requirements::children::pushdown_would_violate_requirements` meets its contract. Assumes nothing.
 use borrow.Author.Needs.{needs}
-use native.Mathlib.Omega.{arith}
 use Rattle.plan_codec.specs.Decode.{decode}
 use Rattle.key_lists.specs.Keys.{keysOf}
 use Rattle.push_requirements.specs.Children.{violates-none, violates-some}
@@ -7,10 +7,6 @@ use Rattle.push_requirements.proofs.children.pushdown_would_violate_req
   statement,
 }
 use Rattle.push_requirements.proofs.children.pushdown_would_violate_requirements.Tie as tie
-use Rattle.push_requirements.proofs.children.pushdown_would_violate_requirements.Reads as reads
-use Rattle.push_requirements.proofs.children.pushdown_would_violate_requirements.Lts as lts
-use Rattle.join_sides.proofs.none_equal.Reads as none-equal-reads
-use Rattle.node_properties.proofs.wanted_order.Reads as wanted-order-reads
 
 wanted-order-requires : tie.Need-wanted-order-requires
 wanted-order-requires c κs = search needs

@@ -1,16 +1,11 @@
+-- `push_requirements::children::through_fetch` meets its contract. Assumes nothing.
 use borrow.Author.Needs.{needs}
-use native.Mathlib.Omega.{arith}
 use mathlib.Core.Path.{ap, ap₂, _∙_}
 use mathlib.Core.Bool.{Bool, _&&_}
 use Rattle.plan_codec.specs.Decode.{decode}
 use Rattle.push_requirements.specs.Children.{through-is, first-among}
 use Rattle.push_requirements.proofs.children.through_fetch.Statement.{statement}
 use Rattle.push_requirements.proofs.children.through_fetch.Tie as tie
-use Rattle.push_requirements.proofs.children.through_fetch.Reads as reads
-use Rattle.push_requirements.proofs.children.through_fetch.Lts as lts
-use Rattle.node_properties.proofs.maintains.Reads as maintains-reads
-use Rattle.node_properties.proofs.some_fetch.Reads as some-fetch-reads
-use Rattle.node_properties.proofs.supports_limit_pushdown.Reads as supports-limit-pushdown-reads
 
 some-fetch-requires : tie.Need-some-fetch-requires
 some-fetch-requires c κs = search needs

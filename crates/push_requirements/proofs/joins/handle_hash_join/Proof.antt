@@ -1,5 +1,5 @@
+-- `push_requirements::joins::handle_hash_join` meets its contract. Assumes nothing.
 use borrow.Author.Needs.{needs}
-use native.Mathlib.Omega.{arith}
 use native.Mathlib.Omega.{arith}
 use mathlib.Core.Path.{sym, _∙_, subst}
 use mathlib.Core.List.{List}
@@ -13,12 +13,6 @@ use Rattle.push_requirements.specs.Answers.{go-stop, go-on, right-only, 
 use Rattle.semantics.specs.Facts as sem
 use Rattle.push_requirements.proofs.joins.handle_hash_join.Statement.{statement}
 use Rattle.push_requirements.proofs.joins.handle_hash_join.Tie as tie
-use Rattle.push_requirements.proofs.joins.handle_hash_join.Reads as reads
-use Rattle.push_requirements.proofs.joins.handle_hash_join.Lts as lts
-use Rattle.join_sides.proofs.all_from.Reads as all-from-reads
-use Rattle.join_sides.proofs.moved_back.Reads as moved-back-reads
-use Rattle.key_lists.proofs.order_of.Reads as order-of-reads
-use Rattle.node_properties.proofs.hash_keeps.Reads as hash-keeps-reads
 
 hash-keeps-requires : tie.Need-hash-keeps-requires
 hash-keeps-requires c κs = search needs

@@ -1,15 +1,11 @@
+-- `push_requirements::joins::meets_reordered` meets its contract. Assumes nothing.
 use borrow.Author.Needs.{needs}
-use native.Mathlib.Omega.{arith}
 use mathlib.Core.Path.{_∙_}
 use Rattle.key_lists.specs.Keys.{keysOf}
 use Rattle.row_facts.specs.Asked.{told}
 use Rattle.push_requirements.specs.Joins.{reorder-none, reorder-some}
 use Rattle.push_requirements.proofs.joins.meets_reordered.Statement.{statement}
 use Rattle.push_requirements.proofs.joins.meets_reordered.Tie as tie
-use Rattle.push_requirements.proofs.joins.meets_reordered.Reads as reads
-use Rattle.push_requirements.proofs.joins.meets_reordered.Lts as lts
-use Rattle.row_facts.proofs.asked.compatible.Reads as compatible-reads
-use Rattle.row_facts.proofs.asked.meets.Reads as meets-reads
 
 meets-requires : tie.Need-meets-requires
 meets-requires c κs = search needs

@@ -1,5 +1,5 @@
+-- `push_requirements::joins::try_left` meets its contract. Assumes nothing.
 use borrow.Author.Needs.{needs}
-use native.Mathlib.Omega.{arith}
 use mathlib.Core.Path.{refl, _∙_}
 use mathlib.Core.List.{[]}
 use borrow.Author.Tests.{not-true, not-false}
@@ -7,18 +7,6 @@ use Rattle.key_lists.specs.Keys.{keysOf}
 use Rattle.push_requirements.specs.Joins.{left-place, left-new, left-unmet, left-lost, left-goes}
 use Rattle.push_requirements.proofs.joins.try_left.Statement.{statement}
 use Rattle.push_requirements.proofs.joins.try_left.Tie as tie
-use Rattle.push_requirements.proofs.joins.try_left.Reads as reads
-use Rattle.push_requirements.proofs.joins.try_left.Lts as lts
-use Rattle.join_facts.proofs.join_order.Reads as join-order-reads
-use Rattle.join_facts.proofs.sort_merge_kept.Reads as sort-merge-kept-reads
-use Rattle.key_lists.proofs.drop_repeats.Reads as drop-repeats-reads
-use Rattle.key_lists.proofs.order_of.Reads as order-of-reads
-use Rattle.node_properties.proofs.wanted_order.Reads as wanted-order-reads
-use Rattle.push_requirements.proofs.joins.meets_reordered.Reads as meets-reordered-reads
-use Rattle.push_requirements.proofs.requirements.keys_in.Reads as keys-in-reads
-use Rattle.row_facts.proofs.asked.compatible.Reads as compatible-reads
-use Rattle.row_facts.proofs.asked.known_order.Reads as known-order-reads
-use Rattle.row_facts.proofs.asked.width.Reads as width-reads
 
 wanted-order-requires : tie.Need-wanted-order-requires
 wanted-order-requires c κs = c .before .before .before .before .pre .0 .proper

@@ -1,5 +1,5 @@
+-- `push_requirements::joins::try_pushdown_requirements_to_join` meets its contract. Assumes nothing.
 use borrow.Author.Needs.{needs}
-use native.Mathlib.Omega.{arith}
 use native.Mathlib.Omega.{arith}
 use mathlib.Core.Path.{sym, ap, _∙_}
 use Prim.Native.Nat.{ℕ}
@@ -11,13 +11,6 @@ use Rattle.push_requirements.proofs.joins.try_pushdown_requirements_to_
   statement,
 }
 use Rattle.push_requirements.proofs.joins.try_pushdown_requirements_to_join.Tie as tie
-use Rattle.push_requirements.proofs.joins.try_pushdown_requirements_to_join.Reads as reads
-use Rattle.push_requirements.proofs.joins.try_pushdown_requirements_to_join.Lts as lts
-use Rattle.join_sides.proofs.expr_source_side.Reads as expr-source-side-reads
-use Rattle.join_sides.proofs.moved_back.Reads as moved-back-reads
-use Rattle.push_requirements.proofs.joins.try_left.Reads as try-left-reads
-use Rattle.push_requirements.proofs.joins.try_right.Reads as try-right-reads
-use Rattle.row_facts.proofs.asked.width.Reads as width-reads
 
 width-requires : tie.Need-width-requires
 width-requires c κs = c .before .before .before .before .pre .0 .first

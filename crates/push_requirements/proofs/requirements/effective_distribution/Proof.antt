@@ -1,5 +1,5 @@
+-- `push_requirements::requirements::effective_distribution` meets its contract. Assumes nothing.
 use borrow.Author.Needs.{needs}
-use native.Mathlib.Omega.{arith}
 use mathlib.Core.Path.{sym, ap, _∙_}
 use mathlib.Core.Bool.{Bool, cond}
 use Rattle.plan.specs.declared.Distribution.the-variants.{Unspecified}
@@ -7,9 +7,6 @@ use Rattle.push_requirements.proofs.requirements.effective_distribution
   statement,
 }
 use Rattle.push_requirements.proofs.requirements.effective_distribution.Tie as tie
-use Rattle.push_requirements.proofs.requirements.effective_distribution.Reads as reads
-use Rattle.push_requirements.proofs.requirements.effective_distribution.Lts as lts
-use Rattle.row_facts.proofs.asked.one_stream.Reads as one-stream-reads
 
 one-stream-requires : tie.Need-one-stream-requires
 one-stream-requires c κs = search needs

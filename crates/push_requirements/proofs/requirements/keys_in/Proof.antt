@@ -1,13 +1,10 @@
+-- `push_requirements::requirements::keys_in` meets its contract. Assumes nothing.
 use borrow.Author.Needs.{needs}
-use native.Mathlib.Omega.{arith}
 use mathlib.Core.Path.{sym, ap, subst, subst⁻¹}
 use Rattle.key_lists.specs.declared.Order.{Order}
 use Rattle.key_lists.specs.Keys.{orderOf, Keyed, Real}
 use Rattle.push_requirements.proofs.requirements.keys_in.Statement.{statement}
 use Rattle.push_requirements.proofs.requirements.keys_in.Tie as tie
-use Rattle.push_requirements.proofs.requirements.keys_in.Reads as reads
-use Rattle.push_requirements.proofs.requirements.keys_in.Lts as lts
-use Rattle.key_lists.proofs.no_keys.Reads as no-keys-reads
 
 enum-known-o : tie.Need-enum-known-o
 enum-known-o c = search needs

@@ -1,12 +1,9 @@
+-- `push_requirements::requirements::min_fetch` meets its contract. Assumes nothing.
 use borrow.Author.Needs.{needs}
-use native.Mathlib.Omega.{arith}
 use mathlib.Core.Path.{ap}
 use Rattle.plan.specs.declared.Fetch.the-variants.{AtMost}
 use Rattle.push_requirements.proofs.requirements.min_fetch.Statement.{statement}
 use Rattle.push_requirements.proofs.requirements.min_fetch.Tie as tie
-use Rattle.push_requirements.proofs.requirements.min_fetch.Reads as reads
-use Rattle.push_requirements.proofs.requirements.min_fetch.Lts as lts
-use Rattle.push_requirements.proofs.requirements.lower.Reads as lower-reads
 
 enum-known-f : tie.Need-enum-known-f
 enum-known-f c = search needs

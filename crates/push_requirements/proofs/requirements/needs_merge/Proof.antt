@@ -1,13 +1,9 @@
-use borrow.Author.Needs.{needs}
-use native.Mathlib.Omega.{arith}
-use mathlib.Core.Path.{ap₂}
+-- `push_requirements::requirements::needs_merge` meets its contract. Assumes nothing.
 use mathlib.Core.Bool.{_&&_}
+use borrow.Author.Needs.{needs}
+use mathlib.Core.Path.{ap₂}
 use Rattle.push_requirements.proofs.requirements.needs_merge.Statement.{statement}
 use Rattle.push_requirements.proofs.requirements.needs_merge.Tie as tie
-use Rattle.push_requirements.proofs.requirements.needs_merge.Reads as reads
-use Rattle.push_requirements.proofs.requirements.needs_merge.Lts as lts
-use Rattle.node_properties.proofs.is_single.Reads as is-single-reads
-use Rattle.row_facts.proofs.asked.several_streams.Reads as several-streams-reads
 
 several-streams-requires : tie.Need-several-streams-requires
 several-streams-requires c κs = search needs

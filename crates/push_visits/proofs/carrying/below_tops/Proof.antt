@@ -1,13 +1,8 @@
+-- `push_visits::carrying::below_tops` meets its contract. Assumes nothing.
 use borrow.Author.Needs.{needs}
-use native.Mathlib.Omega.{arith}
 use Rattle.push_visits.specs.Carrying.{gone-grown, stay-over, node-puts, node-grown}
 use Rattle.push_visits.proofs.carrying.below_tops.Statement.{statement}
 use Rattle.push_visits.proofs.carrying.below_tops.Tie as tie
-use Rattle.push_visits.proofs.carrying.below_tops.Reads as reads
-use Rattle.push_visits.proofs.carrying.below_tops.Lts as lts
-use Rattle.plan_context.proofs.putting.put.Reads as put-reads
-use Rattle.plan_context.proofs.putting.rebuilt.Reads as rebuilt-reads
-use Rattle.push_visits.proofs.carrying.record_by.Reads as record-by-reads
 
 shared-slice-read-t12 : tie.Need-shared-slice-read-t12
 shared-slice-read-t12 c = c .before .before .before .before .before .pre .some (c .before .if1 .taken)

@@ -1,13 +1,8 @@
+-- `push_visits::carrying::carry_out` meets its contract. Assumes nothing.
 use borrow.Author.Needs.{needs}
-use native.Mathlib.Omega.{arith}
 use Rattle.push_visits.specs.Carrying.{sort-topping, merge-topping, carried}
 use Rattle.push_visits.proofs.carrying.carry_out.Statement.{statement}
 use Rattle.push_visits.proofs.carrying.carry_out.Tie as tie
-use Rattle.push_visits.proofs.carrying.carry_out.Reads as reads
-use Rattle.push_visits.proofs.carrying.carry_out.Lts as lts
-use Rattle.push_visits.proofs.carrying.below_tops.Reads as below-tops-reads
-use Rattle.push_visits.proofs.carrying.merge_over.Reads as merge-over-reads
-use Rattle.push_visits.proofs.carrying.sort_over.Reads as sort-over-reads
 
 below-tops-requires : tie.Need-below-tops-requires
 below-tops-requires c κs = search needs

@@ -1,5 +1,5 @@
+-- `push_visits::carrying::merge_over` meets its contract. Assumes nothing.
 use borrow.Author.Needs.{needs}
-use native.Mathlib.Omega.{arith}
 use mathlib.Core.Path.{refl}
 use mathlib.Core.List.{List}
 use Rattle.row_order.specs.Iso.{Key}
@@ -9,10 +9,6 @@ use Rattle.walks.specs.Utils.{newMerge}
 use Rattle.push_visits.specs.Carrying.{top-none, top-puts, top-grown, top-few, merge-is}
 use Rattle.push_visits.proofs.carrying.merge_over.Statement.{statement}
 use Rattle.push_visits.proofs.carrying.merge_over.Tie as tie
-use Rattle.push_visits.proofs.carrying.merge_over.Reads as reads
-use Rattle.push_visits.proofs.carrying.merge_over.Lts as lts
-use Rattle.new_records.proofs.merge_record.Reads as merge-record-reads
-use Rattle.plan_context.proofs.putting.put_over.Reads as put-over-reads
 
 enum-known-order : tie.Need-enum-known-order
 enum-known-order c = search needs

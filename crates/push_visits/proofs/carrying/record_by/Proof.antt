@@ -1,5 +1,5 @@
+-- `push_visits::carrying::record_by` meets its contract. Assumes nothing.
 use borrow.Author.Needs.{needs}
-use native.Mathlib.Omega.{arith}
 use mathlib.Core.Path.{ap, _∙_, subst⁻¹}
 use lib.ListN.{length}
 use Rattle.record_fields.specs.Proper.{Proper}
@@ -7,14 +7,6 @@ use Rattle.push_visits.specs.Visiting.{shown, proper-at}
 use Rattle.push_visits.specs.Carrying.{record-rebuilt, record-kept}
 use Rattle.push_visits.proofs.carrying.record_by.Statement.{statement}
 use Rattle.push_visits.proofs.carrying.record_by.Tie as tie
-use Rattle.push_visits.proofs.carrying.record_by.Reads as reads
-use Rattle.push_visits.proofs.carrying.record_by.Lts as lts
-use Rattle.arena.proofs.read64.Reads as read64-reads
-use Rattle.arena.proofs.record_at.Reads as record-at-reads
-use Rattle.new_records.proofs.with_mark.Reads as with-mark-reads
-use Rattle.node_properties.proofs.preserve_mark.Reads as preserve-mark-reads
-use Rattle.push_visits.proofs.visiting.child_row.Reads as child-row-reads
-use Rattle.row_facts.proofs.asked.counts.Reads as counts-reads
 
 record-at-requires : tie.Need-record-at-requires
 record-at-requires c κs = search needs

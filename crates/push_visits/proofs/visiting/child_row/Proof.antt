@@ -1,5 +1,5 @@
+-- `push_visits::visiting::child_row` meets its contract. Assumes nothing.
 use borrow.Author.Needs.{needs}
-use native.Mathlib.Omega.{arith}
 use native.Mathlib.Omega.{arith}
 use Prim.Native.Nat.{_*_}
 use Rattle.arena.specs.Arena.{slot}
@@ -7,11 +7,6 @@ use Rattle.arena.specs.Laws.{below-at}
 use Rattle.push_visits.specs.Visiting.{shown, row-child, row-none}
 use Rattle.push_visits.proofs.visiting.child_row.Statement.{statement}
 use Rattle.push_visits.proofs.visiting.child_row.Tie as tie
-use Rattle.push_visits.proofs.visiting.child_row.Reads as reads
-use Rattle.push_visits.proofs.visiting.child_row.Lts as lts
-use Rattle.arena.proofs.child.Reads as child-reads
-use Rattle.arena.proofs.child_count.Reads as child-count-reads
-use Rattle.arena.proofs.kept_at.Reads as kept-at-reads
 
 child-count-requires : tie.Need-child-count-requires
 child-count-requires c κs = search needs

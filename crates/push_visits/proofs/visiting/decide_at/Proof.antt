@@ -1,5 +1,5 @@
+-- `push_visits::visiting::decide_at` meets its contract. Assumes nothing.
 use borrow.Author.Needs.{needs}
-use native.Mathlib.Omega.{arith}
 use native.Mathlib.Omega.{arith}
 use mathlib.Core.Path.{_≡_, refl, subst, subst⁻¹}
 use mathlib.Core.List.{List}
@@ -16,13 +16,6 @@ use Rattle.semantics.specs.Facts as sem
 use Rattle.walks.specs.PushdownSorts as walk
 use Rattle.push_visits.proofs.visiting.decide_at.Statement.{statement}
 use Rattle.push_visits.proofs.visiting.decide_at.Tie as tie
-use Rattle.push_visits.proofs.visiting.decide_at.Reads as reads
-use Rattle.push_visits.proofs.visiting.decide_at.Lts as lts
-use Rattle.arena.proofs.kept_at.Reads as kept-at-reads
-use Rattle.arena.proofs.record_at.Reads as record-at-reads
-use Rattle.push_visits.proofs.visiting.child_row.Reads as child-row-reads
-use Rattle.push_visits.proofs.visiting.fetch_at.Reads as fetch-at-reads
-use Rattle.sort_pushdown.proofs.deciding.pushdown_sorts_helper.Reads as pushdown-sorts-helper-reads
 
 child-row-requires : tie.Need-child-row-requires
 child-row-requires c κs = search needs

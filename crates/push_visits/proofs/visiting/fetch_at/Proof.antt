@@ -1,12 +1,8 @@
+-- `push_visits::visiting::fetch_at` meets its contract. Assumes nothing.
 use borrow.Author.Needs.{needs}
-use native.Mathlib.Omega.{arith}
 use mathlib.Core.Path.{_∙_}
 use Rattle.push_visits.proofs.visiting.fetch_at.Statement.{statement}
 use Rattle.push_visits.proofs.visiting.fetch_at.Tie as tie
-use Rattle.push_visits.proofs.visiting.fetch_at.Reads as reads
-use Rattle.push_visits.proofs.visiting.fetch_at.Lts as lts
-use Rattle.plan_context.proofs.kept.summary.Reads as summary-reads
-use Rattle.push_visits.proofs.visiting.fetch_from.Reads as fetch-from-reads
 
 summary-requires : tie.Need-summary-requires
 summary-requires c κs = search needs

@@ -1,10 +1,7 @@
-use borrow.Author.Needs.{needs}
-use native.Mathlib.Omega.{arith}
+-- `push_visits::visiting::fetch_from` meets its contract. Assumes nothing.
 use Rattle.node_properties.specs.Fields.{no-fetch, some-fetch}
 use Rattle.push_visits.proofs.visiting.fetch_from.Statement.{statement}
 use Rattle.push_visits.proofs.visiting.fetch_from.Tie as tie
-use Rattle.push_visits.proofs.visiting.fetch_from.Reads as reads
-use Rattle.push_visits.proofs.visiting.fetch_from.Lts as lts
 
 returns : tie.Need-returns
 returns c = no-fetch (c .before .args .n) (c .if1 .taken)

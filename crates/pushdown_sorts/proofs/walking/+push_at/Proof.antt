@@ -1,7 +1,8 @@
+-- `pushdown_sorts::walking::push_at` meets its contract. Assumes nothing.
 use native.Mathlib.Omega.{arith}
 use borrow.Author.Needs.{needs}
 use mathlib.Core.Path.{_≡_, refl, sym, ap, _∙_, subst⁻¹}
-use Prim.Native.Nat.{_≤_, _-_, _/_, _*_}
+use Prim.Native.Nat.{_≤_, _-_, _/_, _*_, _<_}
 use lib.ListN.{replicate}
 use lib.Seq.{length-take-le}
 use Rattle.plan_format.specs.Record.{children}
@@ -16,7 +17,7 @@ use Rattle.sort_pushdown.specs.Decisions.{visitFor}
 use Rattle.push_visits.specs.Visiting.{shown, proper-at, own-tells}
 use Rattle.pushdown_sorts.specs.Walk.{Visiting}
 use Rattle.pushdown_sorts.specs.Walking.{low-i, step-ends, goes-on, start, child-pushes, child-more, child-stop, all-carries, all-ends}
-use Prim.Native.Nat.{ℕ, _<_}
+use Prim.Native.Nat.{ℕ}
 use borrow.Fn.Kinds.{In}
 use borrow.Fn.PlainCycle.{Measures, is, falls, and}
 use Rattle.pushdown_sorts.proofs.walking.push_at.Reads as push-at

@@ -1,11 +1,9 @@
+-- `pushdown_sorts::walking::refused` meets its contract. Assumes nothing.
 use borrow.Author.Needs.{needs}
-use native.Mathlib.Omega.{arith}
 use mathlib.Core.Path.{sym, ap}
 use Rattle.pushdown_sorts.specs.Walk.{refusedBy}
 use Rattle.pushdown_sorts.proofs.walking.refused.Statement.{statement}
 use Rattle.pushdown_sorts.proofs.walking.refused.Tie as tie
-use Rattle.pushdown_sorts.proofs.walking.refused.Reads as reads
-use Rattle.pushdown_sorts.proofs.walking.refused.Lts as lts
 
 enum-known-s : tie.Need-enum-known-s
 enum-known-s c = search needs

@@ -1,13 +1,10 @@
+-- `sort_pushdown::Visit::at_root` meets its contract. Assumes nothing.
 use borrow.Author.Needs.{needs}
-use native.Mathlib.Omega.{arith}
 use mathlib.Core.Path.{ap}
 use mathlib.Core.Bool.{true, false}
 use Rattle.walks.specs.SortPushdown.{ParentRequirements}
 use Rattle.sort_pushdown.proofs.Visit.at_root.Statement.{statement}
 use Rattle.sort_pushdown.proofs.Visit.at_root.Tie as tie
-use Rattle.sort_pushdown.proofs.Visit.at_root.Reads as reads
-use Rattle.sort_pushdown.proofs.Visit.at_root.Lts as lts
-use Rattle.push_requirements.proofs.ParentRequirements.default.Reads as default-reads
 
 default-requires : tie.Need-default-requires
 default-requires c κs = search needs

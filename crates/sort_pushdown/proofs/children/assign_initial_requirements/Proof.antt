@@ -1,14 +1,10 @@
+-- `sort_pushdown::children::assign_initial_requirements` meets its contract. Assumes nothing.
 use borrow.Author.Needs.{needs}
-use native.Mathlib.Omega.{arith}
 use Rattle.plan.specs.declared.Fetch.the-variants.{Unlimited}
 use Rattle.plan_codec.specs.Decode.{decode}
 use Rattle.sort_pushdown.specs.Deciding.{initial-asks}
 use Rattle.sort_pushdown.proofs.children.assign_initial_requirements.Statement.{statement}
 use Rattle.sort_pushdown.proofs.children.assign_initial_requirements.Tie as tie
-use Rattle.sort_pushdown.proofs.children.assign_initial_requirements.Reads as reads
-use Rattle.sort_pushdown.proofs.children.assign_initial_requirements.Lts as lts
-use Rattle.node_properties.proofs.wanted_distribution.Reads as wanted-distribution-reads
-use Rattle.node_properties.proofs.wanted_order.Reads as wanted-order-reads
 
 wanted-order-requires : tie.Need-wanted-order-requires
 wanted-order-requires c κs = search needs

@@ -1,13 +1,9 @@
+-- `sort_pushdown::children::child_visit` meets its contract. Assumes nothing.
 use borrow.Author.Needs.{needs}
-use native.Mathlib.Omega.{arith}
 use mathlib.Core.Path.{ap}
 use Rattle.sort_pushdown.specs.Deciding.{child-is}
 use Rattle.sort_pushdown.proofs.children.child_visit.Statement.{statement}
 use Rattle.sort_pushdown.proofs.children.child_visit.Tie as tie
-use Rattle.sort_pushdown.proofs.children.child_visit.Reads as reads
-use Rattle.sort_pushdown.proofs.children.child_visit.Lts as lts
-use Rattle.sort_pushdown.proofs.children.fetch_for.Reads as fetch-for-reads
-use Rattle.sort_pushdown.proofs.children.of_child.Reads as of-child-reads
 
 of-child-requires : tie.Need-of-child-requires
 of-child-requires c κs = search needs

@@ -1,15 +1,11 @@
+-- `sort_pushdown::children::hand_down` meets its contract. Assumes nothing.
 use borrow.Author.Needs.{needs}
-use native.Mathlib.Omega.{arith}
 use mathlib.Core.Path.{ap, _∙_}
 use Rattle.plan_codec.specs.Decode.{decode}
 use Rattle.walks.specs.SortPushdown.{strongerDistribution}
 use Rattle.sort_pushdown.specs.Deciding.{hand-asks}
 use Rattle.sort_pushdown.proofs.children.hand_down.Statement.{statement}
 use Rattle.sort_pushdown.proofs.children.hand_down.Tie as tie
-use Rattle.sort_pushdown.proofs.children.hand_down.Reads as reads
-use Rattle.sort_pushdown.proofs.children.hand_down.Lts as lts
-use Rattle.node_properties.proofs.wanted_distribution.Reads as wanted-distribution-reads
-use Rattle.push_requirements.proofs.requirements.stronger_distribution.Reads as stronger-distribution-reads
 
 wanted-distribution-requires : tie.Need-wanted-distribution-requires
 wanted-distribution-requires c κs = search needs

@@ -1,10 +1,8 @@
+-- `sort_pushdown::children::of_child` meets its contract. Assumes nothing.
 use borrow.Author.Needs.{needs}
-use native.Mathlib.Omega.{arith}
 use Rattle.sort_pushdown.specs.Deciding.{other-child}
 use Rattle.sort_pushdown.proofs.children.of_child.Statement.{statement}
 use Rattle.sort_pushdown.proofs.children.of_child.Tie as tie
-use Rattle.sort_pushdown.proofs.children.of_child.Reads as reads
-use Rattle.sort_pushdown.proofs.children.of_child.Lts as lts
 
 returns : tie.Need-returns
 returns c = search needs

@@ -1,15 +1,11 @@
+-- `sort_pushdown::children::with_own_distribution` meets its contract. Assumes nothing.
 use borrow.Author.Needs.{needs}
-use native.Mathlib.Omega.{arith}
 use mathlib.Core.Path.{ap}
 use Rattle.plan_codec.specs.Decode.{decode}
 use Rattle.walks.specs.SortPushdown.{ParentRequirements}
 use Rattle.sort_pushdown.specs.Deciding.{own-asks}
 use Rattle.sort_pushdown.proofs.children.with_own_distribution.Statement.{statement}
 use Rattle.sort_pushdown.proofs.children.with_own_distribution.Tie as tie
-use Rattle.sort_pushdown.proofs.children.with_own_distribution.Reads as reads
-use Rattle.sort_pushdown.proofs.children.with_own_distribution.Lts as lts
-use Rattle.node_properties.proofs.wanted_distribution.Reads as wanted-distribution-reads
-use Rattle.push_requirements.proofs.ParentRequirements.default.Reads as default-reads
 
 default-requires : tie.Need-default-requires
 default-requires c κs = search needs

@@ -1,5 +1,5 @@
+-- `sort_pushdown::deciding::decide_node` meets its contract. Assumes nothing.
 use borrow.Author.Needs.{needs}
-use native.Mathlib.Omega.{arith}
 use mathlib.Core.Path.{refl, sym, ap, _∙_, subst}
 use mathlib.Core.List.{List}
 use Rattle.row_order.specs.Iso.{Key}
@@ -20,17 +20,6 @@ use Rattle.semantics.specs.Facts as sem
 use Rattle.walks.specs.PushdownSorts as walk
 use Rattle.sort_pushdown.proofs.deciding.decide_node.Statement.{statement}
 use Rattle.sort_pushdown.proofs.deciding.decide_node.Tie as tie
-use Rattle.sort_pushdown.proofs.deciding.decide_node.Reads as reads
-use Rattle.sort_pushdown.proofs.deciding.decide_node.Lts as lts
-use Rattle.node_properties.proofs.wanted_order.Reads as wanted-order-reads
-use Rattle.push_requirements.proofs.children.pushdown_requirement_to_children.Reads as pushdown-requirement-to-children-reads
-use Rattle.push_requirements.proofs.requirements.min_fetch.Reads as min-fetch-reads
-use Rattle.push_requirements.proofs.requirements.needs_merge.Reads as needs-merge-reads
-use Rattle.row_facts.proofs.asked.meets.Reads as meets-reads
-use Rattle.sort_pushdown.proofs.deciding.handed_on.Reads as handed-on-reads
-use Rattle.sort_pushdown.proofs.deciding.merge_added.Reads as merge-added-reads
-use Rattle.sort_pushdown.proofs.deciding.sort_added.Reads as sort-added-reads
-use Rattle.sort_pushdown.proofs.deciding.unasked.Reads as unasked-reads
 
 enum-known-wish : tie.Need-enum-known-wish
 enum-known-wish c = search needs

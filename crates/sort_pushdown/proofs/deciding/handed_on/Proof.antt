@@ -1,5 +1,5 @@
+-- `sort_pushdown::deciding::handed_on` meets its contract. Assumes nothing.
 use borrow.Author.Needs.{needs}
-use native.Mathlib.Omega.{arith}
 use mathlib.Core.Path.{refl, ap, _∙_, subst}
 use mathlib.Core.Bool.{false}
 use mathlib.Core.List.{[]}
@@ -13,12 +13,6 @@ use Rattle.semantics.specs.Facts as sem
 use Rattle.walks.specs.PushdownSorts as walk
 use Rattle.sort_pushdown.proofs.deciding.handed_on.Statement.{statement}
 use Rattle.sort_pushdown.proofs.deciding.handed_on.Tie as tie
-use Rattle.sort_pushdown.proofs.deciding.handed_on.Reads as reads
-use Rattle.sort_pushdown.proofs.deciding.handed_on.Lts as lts
-use Rattle.push_requirements.proofs.requirements.effective_distribution.Reads as effective-distribution-reads
-use Rattle.sort_pushdown.proofs.children.hand_down.Reads as hand-down-reads
-use Rattle.sort_pushdown.proofs.deciding.stays.Reads as stays-reads
-use Rattle.sort_pushdown.proofs.new_nodes.no_nodes.Reads as no-nodes-reads
 
 effective-distribution-requires : tie.Need-effective-distribution-requires
 effective-distribution-requires c κs = search needs

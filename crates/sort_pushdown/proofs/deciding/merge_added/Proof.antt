@@ -1,5 +1,5 @@
+-- `sort_pushdown::deciding::merge_added` meets its contract. Assumes nothing.
 use borrow.Author.Needs.{needs}
-use native.Mathlib.Omega.{arith}
 use mathlib.Core.Path.{subst}
 use Rattle.plan_codec.specs.Decode.{decode}
 use Rattle.semantics.specs.Properties.{fetches, rebuilt}
@@ -13,17 +13,6 @@ use Rattle.semantics.specs.Facts as sem
 use Rattle.walks.specs.PushdownSorts as walk
 use Rattle.sort_pushdown.proofs.deciding.merge_added.Statement.{statement}
 use Rattle.sort_pushdown.proofs.deciding.merge_added.Tie as tie
-use Rattle.sort_pushdown.proofs.deciding.merge_added.Reads as reads
-use Rattle.sort_pushdown.proofs.deciding.merge_added.Lts as lts
-use Rattle.push_requirements.proofs.children.pushdown_requirement_to_children.Reads as pushdown-requirement-to-children-reads
-use Rattle.push_requirements.proofs.requirements.min_fetch.Reads as min-fetch-reads
-use Rattle.row_facts.proofs.asked.fresh_keys.Reads as fresh-keys-reads
-use Rattle.row_facts.proofs.asked.normal_form.Reads as normal-form-reads
-use Rattle.sort_pushdown.proofs.children.hand_down.Reads as hand-down-reads
-use Rattle.sort_pushdown.proofs.children.with_own_distribution.Reads as with-own-distribution-reads
-use Rattle.sort_pushdown.proofs.deciding.stays.Reads as stays-reads
-use Rattle.sort_pushdown.proofs.new_nodes.merge_and_sort.Reads as merge-and-sort-reads
-use Rattle.sort_pushdown.proofs.new_nodes.merge_only.Reads as merge-only-reads
 
 fresh-keys-requires : tie.Need-fresh-keys-requires
 fresh-keys-requires c κs = search needs

@@ -1,5 +1,5 @@
+-- `sort_pushdown::deciding::pushdown_sorts_helper` meets its contract. Assumes nothing.
 use borrow.Author.Needs.{needs}
-use native.Mathlib.Omega.{arith}
 use mathlib.Core.Path.{sym, _∙_}
 use Rattle.plan.specs.declared.Kind.the-variants.{Sort}
 use Rattle.plan_codec.specs.Decode.{decode}
@@ -7,17 +7,11 @@ use Rattle.semantics.specs.Properties.{rebuilt}
 use Rattle.row_facts.specs.Asked.{told}
 use Rattle.node_properties.specs.Kinds.{op-of, code-kind}
 use Rattle.sort_pushdown.specs.Decisions.{visitOf}
-use Rattle.sort_pushdown.specs.Merging.{seen-same, helper-touched, helper-node, helper-sort, sort-one, limit-again}
+use Rattle.sort_pushdown.specs.Merging.{seen-again, helper-touched, helper-node, helper-sort, sort-one, limit-again}
 use Rattle.semantics.specs.Facts as sem
 use Rattle.walks.specs.PushdownSorts as walk
 use Rattle.sort_pushdown.proofs.deciding.pushdown_sorts_helper.Statement.{statement}
 use Rattle.sort_pushdown.proofs.deciding.pushdown_sorts_helper.Tie as tie
-use Rattle.sort_pushdown.proofs.deciding.pushdown_sorts_helper.Reads as reads
-use Rattle.sort_pushdown.proofs.deciding.pushdown_sorts_helper.Lts as lts
-use Rattle.node_properties.proofs.is_sort.Reads as is-sort-reads
-use Rattle.sort_pushdown.proofs.deciding.decide_node.Reads as decide-node-reads
-use Rattle.sort_pushdown.proofs.deciding.touched.Reads as touched-reads
-use Rattle.sort_pushdown.proofs.sorts.decide_sort.Reads as decide-sort-reads
 
 is-sort-requires : tie.Need-is-sort-requires
 is-sort-requires c κs = search needs
@@ -35,7 +29,7 @@ touched-requires : tie.Need-touched-requires
 touched-requires c κs = search needs
 
 returns-2 : tie.Need-returns-2
-returns-2 c = let s = c .before .before .before .before .before .before .before .before .before in let r = s .args .r .now in let n = decode r in let F = told (s .args .own .now) in let L = told (s .args .a .now) in let R = told (s .args .b .now) in let q = visitOf (s .args .v) in λ pl z e. helper-touched n q pl _ (sym (c .before .before .before .before .is-sort .ensures) ∙ c .before .before .before .if1 .left) (c .before .if2 .taken) (c .before .before .decide-node .result) (c .touched .ensures) (c .before .before .decide-node .ensures pl (rebuilt n (sem.facts pl)) (seen-same n (sem.facts pl) (walk.childCount pl) F L R z) (limit-again n pl _ e))
+returns-2 c = let s = c .before .before .before .before .before .before .before .before .before in let r = s .args .r .now in let n = decode r in let F = told (s .args .own .now) in let L = told (s .args .a .now) in let R = told (s .args .b .now) in let q = visitOf (s .args .v) in λ pl z e. helper-touched n q pl _ (sym (c .before .before .before .before .is-sort .ensures) ∙ c .before .before .before .if1 .left) (c .before .if2 .taken) (c .before .before .decide-node .result) (c .touched .ensures) (c .before .before .decide-node .ensures pl (rebuilt n (sem.facts pl)) (seen-again n n (sem.facts pl) (walk.childCount pl) F L R z) (limit-again n pl _ e))
 
 returns-3 : tie.Need-returns-3
 returns-3 c = let s = c .before .before .before .before .before .before .before .before in let r = s .args .r .now in let n = decode r in let F = told (s .args .own .now) in let L = told (s .args .a .now) in let R = told (s .args .b .now) in let q = visitOf (s .args .v) in λ pl z e. helper-node n q pl _ (sym (c .before .before .before .is-sort .ensures) ∙ c .before .before .if1 .left) (c .if2 .left) (c .before .decide-node .ensures pl n z e)

@@ -1,5 +1,5 @@
+-- `sort_pushdown::deciding::sort_added` meets its contract. Assumes nothing.
 use borrow.Author.Needs.{needs}
-use native.Mathlib.Omega.{arith}
 use mathlib.Core.Path.{refl, subst}
 use mathlib.Core.Bool.{false}
 use Rattle.plan_codec.specs.Decode.{decode}
@@ -13,11 +13,6 @@ use Rattle.semantics.specs.Facts as sem
 use Rattle.walks.specs.PushdownSorts as walk
 use Rattle.sort_pushdown.proofs.deciding.sort_added.Statement.{statement}
 use Rattle.sort_pushdown.proofs.deciding.sort_added.Tie as tie
-use Rattle.sort_pushdown.proofs.deciding.sort_added.Reads as reads
-use Rattle.sort_pushdown.proofs.deciding.sort_added.Lts as lts
-use Rattle.sort_pushdown.proofs.children.with_own_distribution.Reads as with-own-distribution-reads
-use Rattle.sort_pushdown.proofs.deciding.stays.Reads as stays-reads
-use Rattle.sort_pushdown.proofs.new_nodes.sort_above_with_distribution.Reads as sort-above-with-distribution-reads
 
 sort-above-with-distribution-requires : tie.Need-sort-above-with-distribution-requires
 sort-above-with-distribution-requires c κs = search needs

@@ -1,5 +1,5 @@
+-- `sort_pushdown::deciding::unasked` meets its contract. Assumes nothing.
 use borrow.Author.Needs.{needs}
-use native.Mathlib.Omega.{arith}
 use mathlib.Core.Path.{refl, subst⁻¹}
 use mathlib.Core.Bool.{Bool, false, cond}
 use mathlib.Core.List.{[]}
@@ -11,12 +11,6 @@ use Rattle.semantics.specs.Facts as sem
 use Rattle.walks.specs.PushdownSorts as walk
 use Rattle.sort_pushdown.proofs.deciding.unasked.Statement.{statement}
 use Rattle.sort_pushdown.proofs.deciding.unasked.Tie as tie
-use Rattle.sort_pushdown.proofs.deciding.unasked.Reads as reads
-use Rattle.sort_pushdown.proofs.deciding.unasked.Lts as lts
-use Rattle.sort_pushdown.proofs.children.assign_initial_requirements.Reads as assign-initial-requirements-reads
-use Rattle.sort_pushdown.proofs.children.with_own_distribution.Reads as with-own-distribution-reads
-use Rattle.sort_pushdown.proofs.deciding.stays.Reads as stays-reads
-use Rattle.sort_pushdown.proofs.new_nodes.no_nodes.Reads as no-nodes-reads
 
 no-nodes-requires : tie.Need-no-nodes-requires
 no-nodes-requires c κs = search needs

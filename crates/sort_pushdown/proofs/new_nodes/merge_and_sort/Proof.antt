@@ -1,15 +1,10 @@
+-- `sort_pushdown::new_nodes::merge_and_sort` meets its contract. Assumes nothing.
 use borrow.Author.Needs.{needs}
-use native.Mathlib.Omega.{arith}
 use Rattle.key_lists.specs.Keys.{keysOf}
 use Rattle.row_facts.specs.Asked.{told}
 use Rattle.sort_pushdown.specs.Deciding.{merge-above}
 use Rattle.sort_pushdown.proofs.new_nodes.merge_and_sort.Statement.{statement}
 use Rattle.sort_pushdown.proofs.new_nodes.merge_and_sort.Tie as tie
-use Rattle.sort_pushdown.proofs.new_nodes.merge_and_sort.Reads as reads
-use Rattle.sort_pushdown.proofs.new_nodes.merge_and_sort.Lts as lts
-use Rattle.key_lists.proofs.order_of.Reads as order-of-reads
-use Rattle.row_facts.proofs.asked.fresh_keys.Reads as fresh-keys-reads
-use Rattle.row_facts.proofs.asked.several_streams.Reads as several-streams-reads
 
 order-of-requires : tie.Need-order-of-requires
 order-of-requires c κs = search needs

@@ -1,12 +1,9 @@
+-- `sort_pushdown::new_nodes::merge_only` meets its contract. Assumes nothing.
 use borrow.Author.Needs.{needs}
-use native.Mathlib.Omega.{arith}
 use Rattle.key_lists.specs.Keys.{keysOf}
 use Rattle.sort_pushdown.specs.Deciding.{merge-alone}
 use Rattle.sort_pushdown.proofs.new_nodes.merge_only.Statement.{statement}
 use Rattle.sort_pushdown.proofs.new_nodes.merge_only.Tie as tie
-use Rattle.sort_pushdown.proofs.new_nodes.merge_only.Reads as reads
-use Rattle.sort_pushdown.proofs.new_nodes.merge_only.Lts as lts
-use Rattle.key_lists.proofs.order_of.Reads as order-of-reads
 
 order-of-requires : tie.Need-order-of-requires
 order-of-requires c κs = search needs

@@ -1,5 +1,5 @@
+-- `sort_pushdown::new_nodes::sort_above_with_distribution` meets its contract. Assumes nothing.
 use borrow.Author.Needs.{needs}
-use native.Mathlib.Omega.{arith}
 use mathlib.Core.Path.{sym, _∙_}
 use Rattle.key_lists.specs.Keys.{keysOf}
 use Rattle.row_facts.specs.Asked.{told}
@@ -8,12 +8,6 @@ use Rattle.sort_pushdown.proofs.new_nodes.sort_above_with_distribution.
   statement,
 }
 use Rattle.sort_pushdown.proofs.new_nodes.sort_above_with_distribution.Tie as tie
-use Rattle.sort_pushdown.proofs.new_nodes.sort_above_with_distribution.Reads as reads
-use Rattle.sort_pushdown.proofs.new_nodes.sort_above_with_distribution.Lts as lts
-use Rattle.key_lists.proofs.order_of.Reads as order-of-reads
-use Rattle.push_requirements.proofs.requirements.needs_merge.Reads as needs-merge-reads
-use Rattle.row_facts.proofs.asked.fresh_keys.Reads as fresh-keys-reads
-use Rattle.row_facts.proofs.asked.several_streams.Reads as several-streams-reads
 
 fresh-keys-requires : tie.Need-fresh-keys-requires
 fresh-keys-requires c κs = search needs

@@ -1,5 +1,5 @@
+-- `sort_pushdown::sorts::decide_sort` meets its contract. Assumes nothing.
 use borrow.Author.Needs.{needs}
-use native.Mathlib.Omega.{arith}
 use mathlib.Core.Path.{sym, ap, _∙_}
 use mathlib.Core.Bool.{_||_}
 use mathlib.Core.List.{List}
@@ -12,14 +12,6 @@ use Rattle.sort_pushdown.specs.Deciding.{if-so, if-not, wish-is, wish-fe
 use Rattle.semantics.specs.Facts as sem
 use Rattle.sort_pushdown.proofs.sorts.decide_sort.Statement.{statement}
 use Rattle.sort_pushdown.proofs.sorts.decide_sort.Tie as tie
-use Rattle.sort_pushdown.proofs.sorts.decide_sort.Reads as reads
-use Rattle.sort_pushdown.proofs.sorts.decide_sort.Lts as lts
-use Rattle.push_requirements.proofs.requirements.needs_merge.Reads as needs-merge-reads
-use Rattle.sort_pushdown.proofs.sorts.sort_replaced.Reads as sort-replaced-reads
-use Rattle.sort_pushdown.proofs.sorts.sort_replaced_twice.Reads as sort-replaced-twice-reads
-use Rattle.sort_pushdown.proofs.sorts.sort_unasked.Reads as sort-unasked-reads
-use Rattle.sort_pushdown.proofs.sorts.sort_unnecessary.Reads as sort-unnecessary-reads
-use Rattle.sort_pushdown.proofs.sorts.unnecessary.Reads as unnecessary-reads
 
 enum-known-wish : tie.Need-enum-known-wish
 enum-known-wish c = search needs

@@ -1,5 +1,5 @@
+-- `sort_pushdown::sorts::root_distribution` meets its contract. Assumes nothing.
 use borrow.Author.Needs.{needs}
-use native.Mathlib.Omega.{arith}
 use mathlib.Core.Path.{sym, ap, _∙_}
 use mathlib.Core.Bool.{Bool, cond}
 use Rattle.plan.specs.declared.Distribution.the-variants.{Unspecified}
@@ -7,9 +7,6 @@ use Rattle.plan_codec.specs.Decode.{decode}
 use Rattle.semantics.specs.Properties.{distOf}
 use Rattle.sort_pushdown.proofs.sorts.root_distribution.Statement.{statement}
 use Rattle.sort_pushdown.proofs.sorts.root_distribution.Tie as tie
-use Rattle.sort_pushdown.proofs.sorts.root_distribution.Reads as reads
-use Rattle.sort_pushdown.proofs.sorts.root_distribution.Lts as lts
-use Rattle.node_properties.proofs.wanted_distribution.Reads as wanted-distribution-reads
 
 wanted-distribution-requires : tie.Need-wanted-distribution-requires
 wanted-distribution-requires c κs = search needs

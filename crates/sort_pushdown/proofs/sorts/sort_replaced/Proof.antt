@@ -1,5 +1,5 @@
+-- `sort_pushdown::sorts::sort_replaced` meets its contract. Assumes nothing.
 use borrow.Author.Needs.{needs}
-use native.Mathlib.Omega.{arith}
 use mathlib.Core.Path.{refl, subst}
 use mathlib.Core.Bool.{false}
 use mathlib.Core.List.{List}
@@ -13,12 +13,6 @@ use Rattle.sort_pushdown.specs.Decisions.{Adds}
 use Rattle.sort_pushdown.specs.Deciding.{sort-cut, gone-by, parts}
 use Rattle.sort_pushdown.proofs.sorts.sort_replaced.Statement.{statement}
 use Rattle.sort_pushdown.proofs.sorts.sort_replaced.Tie as tie
-use Rattle.sort_pushdown.proofs.sorts.sort_replaced.Reads as reads
-use Rattle.sort_pushdown.proofs.sorts.sort_replaced.Lts as lts
-use Rattle.node_properties.proofs.fetch.Reads as fetch-reads
-use Rattle.row_facts.proofs.asked.known_order.Reads as known-order-reads
-use Rattle.sort_pushdown.proofs.new_nodes.sort_above_with_distribution.Reads as sort-above-with-distribution-reads
-use Rattle.sort_pushdown.proofs.sorts.removed.Reads as removed-reads
 
 known-order-requires : tie.Need-known-order-requires
 known-order-requires c κs = search needs

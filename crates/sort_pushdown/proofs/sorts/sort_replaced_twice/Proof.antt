@@ -1,5 +1,5 @@
+-- `sort_pushdown::sorts::sort_replaced_twice` meets its contract. Assumes nothing.
 use borrow.Author.Needs.{needs}
-use native.Mathlib.Omega.{arith}
 use mathlib.Core.Path.{refl, ap, ap₂, _∙_, subst}
 use mathlib.Core.Bool.{false}
 use mathlib.Core.List.{List, [], _++_}
@@ -17,16 +17,6 @@ use Rattle.sort_pushdown.specs.Deciding.{sort-cut, gone-by, parts}
 use Rattle.semantics.specs.Facts as sem
 use Rattle.sort_pushdown.proofs.sorts.sort_replaced_twice.Statement.{statement}
 use Rattle.sort_pushdown.proofs.sorts.sort_replaced_twice.Tie as tie
-use Rattle.sort_pushdown.proofs.sorts.sort_replaced_twice.Reads as reads
-use Rattle.sort_pushdown.proofs.sorts.sort_replaced_twice.Lts as lts
-use Rattle.key_lists.proofs.order_of.Reads as order-of-reads
-use Rattle.node_properties.proofs.fetch.Reads as fetch-reads
-use Rattle.push_requirements.proofs.requirements.keys_in.Reads as keys-in-reads
-use Rattle.row_facts.proofs.asked.fresh_keys.Reads as fresh-keys-reads
-use Rattle.row_facts.proofs.asked.known_order.Reads as known-order-reads
-use Rattle.row_facts.proofs.asked.normal_form.Reads as normal-form-reads
-use Rattle.sort_pushdown.proofs.new_nodes.merge_and_sort.Reads as merge-and-sort-reads
-use Rattle.sort_pushdown.proofs.sorts.removed.Reads as removed-reads
 
 fresh-keys-requires : tie.Need-fresh-keys-requires
 fresh-keys-requires c κs = search needs

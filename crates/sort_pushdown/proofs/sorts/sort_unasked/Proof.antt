@@ -1,5 +1,5 @@
+-- `sort_pushdown::sorts::sort_unasked` meets its contract. Assumes nothing.
 use borrow.Author.Needs.{needs}
-use native.Mathlib.Omega.{arith}
 use mathlib.Core.Path.{ap, _∙_}
 use mathlib.Core.Bool.{true}
 use mathlib.Core.List.{[]}
@@ -10,14 +10,6 @@ use Rattle.walks.specs.SortPushdown.{minFetch}
 use Rattle.sort_pushdown.specs.Deciding.{sort-cut, sort-dist, gone-by, parts}
 use Rattle.sort_pushdown.proofs.sorts.sort_unasked.Statement.{statement}
 use Rattle.sort_pushdown.proofs.sorts.sort_unasked.Tie as tie
-use Rattle.sort_pushdown.proofs.sorts.sort_unasked.Reads as reads
-use Rattle.sort_pushdown.proofs.sorts.sort_unasked.Lts as lts
-use Rattle.node_properties.proofs.fetch.Reads as fetch-reads
-use Rattle.push_requirements.proofs.requirements.min_fetch.Reads as min-fetch-reads
-use Rattle.row_facts.proofs.asked.known_order.Reads as known-order-reads
-use Rattle.sort_pushdown.proofs.new_nodes.no_nodes.Reads as no-nodes-reads
-use Rattle.sort_pushdown.proofs.sorts.removed.Reads as removed-reads
-use Rattle.sort_pushdown.proofs.sorts.root_distribution.Reads as root-distribution-reads
 
 fetch-requires : tie.Need-fetch-requires
 fetch-requires c κs = search needs

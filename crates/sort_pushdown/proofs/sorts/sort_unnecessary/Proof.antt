@@ -1,27 +1,17 @@
+-- `sort_pushdown::sorts::sort_unnecessary` meets its contract. Assumes nothing.
 use borrow.Author.Needs.{needs}
-use native.Mathlib.Omega.{arith}
-use mathlib.Core.Path.{refl, ap, ap₂, _∙_}
-use mathlib.Core.Bool.{true, cond}
-use mathlib.Core.List.{List, []}
-use Rattle.row_order.specs.Iso.{Key}
+use mathlib.Core.Path.{refl, ap, _∙_}
+use mathlib.Core.Bool.{true}
+use mathlib.Core.List.{[]}
 use Rattle.plan.specs.declared.Fetch.{Fetch}
 use Rattle.plan.specs.declared.Distribution.the-variants.{Unspecified}
 use Rattle.plan_codec.specs.Decode.{decode}
 use Rattle.key_lists.specs.Keys.{orderOf}
 use Rattle.row_facts.specs.Asked.{told}
 use Rattle.walks.specs.SortPushdown.{minFetch}
-use Rattle.sort_pushdown.specs.Deciding.{sort-cut, gone-by, parts}
-use Rattle.semantics.specs.Facts as sem
+use Rattle.sort_pushdown.specs.Deciding.{stricter-is, sort-cut, gone-by, parts}
 use Rattle.sort_pushdown.proofs.sorts.sort_unnecessary.Statement.{statement}
 use Rattle.sort_pushdown.proofs.sorts.sort_unnecessary.Tie as tie
-use Rattle.sort_pushdown.proofs.sorts.sort_unnecessary.Reads as reads
-use Rattle.sort_pushdown.proofs.sorts.sort_unnecessary.Lts as lts
-use Rattle.node_properties.proofs.fetch.Reads as fetch-reads
-use Rattle.push_requirements.proofs.requirements.min_fetch.Reads as min-fetch-reads
-use Rattle.row_facts.proofs.asked.known_order.Reads as known-order-reads
-use Rattle.sort_pushdown.proofs.new_nodes.no_nodes.Reads as no-nodes-reads
-use Rattle.sort_pushdown.proofs.sorts.removed.Reads as removed-reads
-use Rattle.sort_pushdown.proofs.sorts.stricter.Reads as stricter-reads
 
 fetch-requires : tie.Need-fetch-requires
 fetch-requires c κs = search needs
@@ -44,7 +34,7 @@ removed-requires c κs = search needs
 returns : tie.Need-returns
 returns c = λ p ks f pl x. let s = c .before .before .before .before .before .before .before .before .before .before in let n = decode (s .args .r .now) in let q = s .args .v .req in let C = told (s .args .a .now) in
     gone-by p ks f pl [] _ true (c .before .no-nodes .result) _ _ (c .removed .ensures) (c .before .no-nodes .ensures)
-    (parts _ _ Unspecified (orderOf (c .before .before .before .stricter .result)) (c .before .before .min-fetch .result) Unspecified (c .before .before .before .stricter .ensures .is ∙ ap₂ (λ (o l : List Key). cond (sem.compatible C o l) o l) (c .before .before .before .before .known-order .ensures .is) (s .pre .4)) (c .before .before .min-fetch .ensures ∙ ap (λ (g : Fetch). minFetch g (q .fetch)) (sort-cut n p ks f (c .before .before .before .before .before .fetch .result) x (c .before .before .before .before .before .fetch .ensures))) refl) (c .before .before .before .stricter .ensures .real)
+    (parts _ _ Unspecified (orderOf (c .before .before .before .stricter .result)) (c .before .before .min-fetch .result) Unspecified (stricter-is C (c .before .before .before .stricter .result) (c .before .before .before .before .known-order .result) (s .args .parent) _ _ (c .before .before .before .stricter .ensures) (c .before .before .before .before .known-order .ensures .is) (s .pre .4)) (c .before .before .min-fetch .ensures ∙ ap (λ (g : Fetch). minFetch g (q .fetch)) (sort-cut n p ks f (c .before .before .before .before .before .fetch .result) x (c .before .before .before .before .before .fetch .ensures))) refl) (c .before .before .before .stricter .ensures .real)
 
 pub sort-unnecessary-spec : {M : Type 1} → statement M
 sort-unnecessary-spec =

@@ -1,15 +1,10 @@
+-- `sort_pushdown::sorts::stricter` meets its contract. Assumes nothing.
 use borrow.Author.Needs.{needs}
-use native.Mathlib.Omega.{arith}
 use Rattle.key_lists.specs.Keys.{keysOf}
 use Rattle.row_facts.specs.Asked.{told}
 use Rattle.sort_pushdown.specs.Deciding.{stricter-own, stricter-parent}
 use Rattle.sort_pushdown.proofs.sorts.stricter.Statement.{statement}
 use Rattle.sort_pushdown.proofs.sorts.stricter.Tie as tie
-use Rattle.sort_pushdown.proofs.sorts.stricter.Reads as reads
-use Rattle.sort_pushdown.proofs.sorts.stricter.Lts as lts
-use Rattle.key_lists.proofs.order_of.Reads as order-of-reads
-use Rattle.push_requirements.proofs.requirements.keys_in.Reads as keys-in-reads
-use Rattle.row_facts.proofs.asked.compatible.Reads as compatible-reads
 
 keys-in-requires : tie.Need-keys-in-requires
 keys-in-requires c κs = search needs

@@ -1,18 +1,12 @@
-use borrow.Author.Needs.{needs}
-use native.Mathlib.Omega.{arith}
-use mathlib.Core.Path.{ap, ap₂, _∙_}
+-- `sort_pushdown::sorts::unnecessary` meets its contract. Assumes nothing.
 use mathlib.Core.Bool.{_||_}
+use borrow.Author.Needs.{needs}
+use mathlib.Core.Path.{ap, ap₂, _∙_}
 use Rattle.key_lists.specs.Keys.{keysOf}
 use Rattle.row_facts.specs.Asked.{told}
 use Rattle.semantics.specs.Facts as sem
 use Rattle.sort_pushdown.proofs.sorts.unnecessary.Statement.{statement}
 use Rattle.sort_pushdown.proofs.sorts.unnecessary.Tie as tie
-use Rattle.sort_pushdown.proofs.sorts.unnecessary.Reads as reads
-use Rattle.sort_pushdown.proofs.sorts.unnecessary.Lts as lts
-use Rattle.push_requirements.proofs.requirements.keys_in.Reads as keys-in-reads
-use Rattle.row_facts.proofs.asked.compatible.Reads as compatible-reads
-use Rattle.row_facts.proofs.asked.known_order.Reads as known-order-reads
-use Rattle.row_facts.proofs.asked.meets.Reads as meets-reads
 
 meets-requires : tie.Need-meets-requires
 meets-requires c κs = search needs

@@ -1,5 +1,5 @@
+-- `sort_pushdown::steps::constant_sort` meets its contract. Assumes nothing.
 use borrow.Author.Needs.{needs}
-use native.Mathlib.Omega.{arith}
 use mathlib.Core.Path.{ap, ap₂, _∙_}
 use mathlib.Core.Bool.{not, _&&_}
 use Rattle.plan_codec.specs.Decode.{decode}
@@ -8,10 +8,6 @@ use Rattle.sort_pushdown.specs.Deciding.{sort-code, not-not}
 use Rattle.semantics.specs.Facts as sem
 use Rattle.sort_pushdown.proofs.steps.constant_sort.Statement.{statement}
 use Rattle.sort_pushdown.proofs.steps.constant_sort.Tie as tie
-use Rattle.sort_pushdown.proofs.steps.constant_sort.Reads as reads
-use Rattle.sort_pushdown.proofs.steps.constant_sort.Lts as lts
-use Rattle.node_properties.proofs.is_sort.Reads as is-sort-reads
-use Rattle.row_facts.proofs.asked.is_ordered.Reads as is-ordered-reads
 
 is-sort-requires : tie.Need-is-sort-requires
 is-sort-requires c κs = search needs

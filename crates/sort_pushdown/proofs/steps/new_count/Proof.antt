@@ -1,13 +1,10 @@
+-- `sort_pushdown::steps::new_count` meets its contract. Assumes nothing.
 use borrow.Author.Needs.{needs}
-use native.Mathlib.Omega.{arith}
 use native.Mathlib.Omega.{arith}
 use Rattle.key_lists.specs.Keys.{orderOf}
 use Rattle.sort_pushdown.specs.Deciding.{some-le, count-is}
 use Rattle.sort_pushdown.proofs.steps.new_count.Statement.{statement}
 use Rattle.sort_pushdown.proofs.steps.new_count.Tie as tie
-use Rattle.sort_pushdown.proofs.steps.new_count.Reads as reads
-use Rattle.sort_pushdown.proofs.steps.new_count.Lts as lts
-use Rattle.sort_pushdown.proofs.steps.one_of.Reads as one-of-reads
 
 one-of-requires : tie.Need-one-of-requires
 one-of-requires c κs = search needs

@@ -1,5 +1,5 @@
+-- `sort_pushdown::steps::nodes_after` meets its contract. Assumes nothing.
 use borrow.Author.Needs.{needs}
-use native.Mathlib.Omega.{arith}
 use native.Mathlib.Omega.{arith}
 use mathlib.Core.Path.{_≡_, sym, ap, ap₂}
 use mathlib.Core.Bool.{Bool}
@@ -7,9 +7,6 @@ use Prim.Native.Nat.{ℕ, _+_, _-_}
 use Rattle.walks.specs.Counted.{one}
 use Rattle.sort_pushdown.proofs.steps.nodes_after.Statement.{statement}
 use Rattle.sort_pushdown.proofs.steps.nodes_after.Tie as tie
-use Rattle.sort_pushdown.proofs.steps.nodes_after.Reads as reads
-use Rattle.sort_pushdown.proofs.steps.nodes_after.Lts as lts
-use Rattle.sort_pushdown.proofs.steps.new_count.Reads as new-count-reads
 
 new-count-requires : tie.Need-new-count-requires
 new-count-requires c κs = search needs

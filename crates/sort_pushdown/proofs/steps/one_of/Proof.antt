@@ -1,10 +1,8 @@
+-- `sort_pushdown::steps::one_of` meets its contract. Assumes nothing.
 use borrow.Author.Needs.{needs}
-use native.Mathlib.Omega.{arith}
 use Rattle.sort_pushdown.specs.Deciding.{one-some}
 use Rattle.sort_pushdown.proofs.steps.one_of.Statement.{statement}
 use Rattle.sort_pushdown.proofs.steps.one_of.Tie as tie
-use Rattle.sort_pushdown.proofs.steps.one_of.Reads as reads
-use Rattle.sort_pushdown.proofs.steps.one_of.Lts as lts
 
 enum-told : tie.Need-enum-told
 enum-told c = search needs

@@ -1,5 +1,5 @@
+-- `sort_pushdown::steps::step_at` meets its contract. Assumes nothing.
 use borrow.Author.Needs.{needs}
-use native.Mathlib.Omega.{arith}
 use mathlib.Core.Path.{sym, ap, ap₂, _∙_}
 use mathlib.Core.Bool.{not, _&&_}
 use Prim.Native.Nat.{ℕ, _+_}
@@ -13,11 +13,6 @@ use Rattle.sort_pushdown.specs.declared.Step.the-variants.{On}
 use Rattle.semantics.specs.Facts as sem
 use Rattle.sort_pushdown.proofs.steps.step_at.Statement.{statement}
 use Rattle.sort_pushdown.proofs.steps.step_at.Tie as tie
-use Rattle.sort_pushdown.proofs.steps.step_at.Reads as reads
-use Rattle.sort_pushdown.proofs.steps.step_at.Lts as lts
-use Rattle.sort_pushdown.proofs.steps.constant_sort.Reads as constant-sort-reads
-use Rattle.sort_pushdown.proofs.steps.nodes_after.Reads as nodes-after-reads
-use Rattle.sort_pushdown.proofs.steps.one_if.Reads as one-if-reads
 
 constant-sort-requires : tie.Need-constant-sort-requires
 constant-sort-requires c κs = search needs
