@@ -182,8 +182,8 @@ fn one(seed: u64, i: u64, f: &mut Figures, differed: &Mutex<BTreeSet<&'static st
     rules.into_iter().for_each(|rule| *f.outside.entry(rule).or_default() += 1);
 }
 
-/// Whether no difference was found.
-pub fn run(plans: u64, seed: u64, threads: u64) -> bool {
+/// Whether no difference was found in so many plans, or in those that so many seconds are enough for.
+pub fn run(plans: u64, seconds: u64, seed: u64, threads: u64) -> bool {
     const PART: u64 = 500;
     let start = Instant::now();
     let next = AtomicU64::new(0);
@@ -193,7 +193,7 @@ pub fn run(plans: u64, seed: u64, threads: u64) -> bool {
         let mut figures = Figures::default();
         loop {
             let from = next.fetch_add(PART, Relaxed);
-            if from >= plans {
+            if from >= plans || start.elapsed().as_secs() >= seconds {
                 break;
             }
             if from % (100 * PART) == 0 {

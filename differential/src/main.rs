@@ -1,7 +1,8 @@
 //! The Rust's own steps beside the proved library.
 //!
 //!     differential vectors FOLDER                                     requests with their answers, replayed
-//!     differential compare [--plans N] [--seed S] [--threads T]       random plans through both sides
+//!     differential compare [--plans N] [--seconds M] [--seed S] [--threads T]
+//!                                                                     random plans through both sides
 //!     differential show CALL TEXT                                     both sides' answers on the plan of a text (see loader)
 //!     differential damage [--files N] [--seed S] [--heap]             damaged files through every export
 //!     differential threads [--plans N] [--seed S] [--threads T]       the same requests from several threads at once
@@ -58,7 +59,10 @@ fn main() {
     let number = |name: &str, default: u64| option(&args, name, default);
     let agreed = match args.first().map(String::as_str) {
         Some("vectors") if args.len() == 2 => vectors::run(std::path::Path::new(&args[1])),
-        Some("compare") => compare::run(number("--plans", 100_000), number("--seed", 1), number("--threads", 1)),
+        Some("compare") => {
+            let (plans, seconds) = (number("--plans", 100_000), number("--seconds", u64::MAX));
+            compare::run(plans, seconds, number("--seed", 1), number("--threads", 1))
+        }
         Some("show") if args.len() > 2 => compare::show(&args[1..args.len() - 1], &args[args.len() - 1]),
         Some("damage") => damage::run(number("--files", 100_000), number("--seed", 1), args.iter().any(|a| a == "--heap")),
         Some("threads") => threads::run(number("--plans", 2_000), number("--seed", 1), number("--threads", 8)),
@@ -87,7 +91,7 @@ mod tests {
     #[test]
     fn both_sides_agree() {
         super::silence_the_rust();
-        assert!(super::compare::run(3_000, 11, 1));
+        assert!(super::compare::run(3_000, u64::MAX, 11, 1));
         assert!(super::damage::run(3_000, 12, true));
         assert!(super::threads::run(100, 13, 4));
     }

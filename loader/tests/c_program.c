@@ -14,13 +14,15 @@ static void one_source(uint8_t block[512]) {
 
 int main(void) {
     static uint8_t plan[512], out[SORT_PLACEMENT_MOST_BYTES];
+    (void)out;
     uint32_t passes = 7;
     one_source(plan);
     uint32_t number = check_order(plan, sizeof plan, &passes);
     printf("check %u %u\n", number, passes);
     printf("short %u\n", check_order(plan, 511, &passes));
-    number = copy_plan(plan, sizeof plan, out, sizeof out);
-    printf("copy %u %u\n", number, out[508]);
+#ifdef HAS_copy_plan
+    printf("copy %u\n", copy_plan(plan, sizeof plan, out, sizeof out));
+#endif
 #ifdef HAS_ensure_sorting
     printf("ensure %u\n", ensure_sorting(plan, sizeof plan, out, sizeof out));
 #endif
