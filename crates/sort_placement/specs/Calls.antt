@@ -12,7 +12,7 @@ use Rattle.plan.specs.declared.Refusal.the-variants.{TooManyNodes}
 use Rattle.plan_format.specs.Blocks.{blockCount}
 use Rattle.semantics.specs.Check.{check}
 use Rattle.walks.specs.Marks.{sizeT}
-use Rattle.walks.specs.Counted.{answerTo, countUp, pushed}
+use Rattle.walks.specs.Counted.{answerTo, countUp, partiallySorted, pushed}
 use Rattle.arena.specs.Arena.{slotSize}
 use Rattle.plan_arena.specs.Answers.{blockSlots}
 use Rattle.plan_context.specs.View.{treeOf, Arena}
@@ -24,7 +24,7 @@ use Rattle.transform_up.specs.declared.Stop.the-variants as stop
 use Rattle.transform_up.specs.Walking.{stepOf}
 use Rattle.transform_up.specs.Tidying.{fullSlots}
 use Rattle.sort_placement.specs.declared.calls.Call.{Call}
-use Rattle.sort_placement.specs.declared.calls.Call.the-variants.{CheckOrder, CopyPlan, PushDown, TransformUp}
+use Rattle.sort_placement.specs.declared.calls.Call.the-variants.{CheckOrder, CopyPlan, PartialSort, PushDown, TransformUp}
 use Rattle.sort_placement.specs.declared.calls.Called.{Called}
 use Rattle.sort_placement.specs.declared.calls.Called.the-variants.{Done, NoRoom}
 use Rattle.sort_placement.specs.declared.memory.Answer.{Answer}
@@ -36,6 +36,7 @@ resultOf CheckOrder f = checks (check f)
 resultOf CopyPlan f = gives f
 resultOf (TransformUp w) f = rewritten (answerTo f (countUp (stepOf w) (size f) f))
 resultOf PushDown f = rewritten (pushed f)
+resultOf (PartialSort n) f = rewritten (partiallySorted n f)
 
 -- What a call answers and leaves in the output: all that the result settles, or that the arena, of so many bytes, was too small
 abbrev pub CalledAs : Called → Result → List ℕ → List ℕ → ℕ → Type 0
@@ -51,7 +52,7 @@ abbrev pub stoppedAs : Stop → Called
 stoppedAs stop.TooManyNodes = Done (numberOf TooManyNodes) false
 stoppedAs stop.NoRoom = NoRoom
 
--- What push asks: the tree at h is a plan's; its slots are not yet settled
+-- What push and partial sorting ask: the tree at h is a plan's; its slots are not yet settled
 pub record Formed (m : List ℕ) (u h : ℕ) : Type 0 where
   pub loaded : Loaded m u
   pub here : h < 2 * u

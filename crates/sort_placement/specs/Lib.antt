@@ -4,5 +4,6 @@ pub mod PartialSorts
 pub mod Calls
 pub mod Calling
 pub mod Pushing
+pub mod PartialSorting
 pub mod Memory
 pub mod Checking

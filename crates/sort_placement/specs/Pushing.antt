@@ -85,7 +85,6 @@ module _ (m : List ℕ) (u h n : ℕ) (p : Pushable m u h n) where
         high = omega arith;
       }
 
-  -- a mark does not matter
   module _ (out : List ℕ) (v : Visit) (e : visitOf v ≡ atRoot) (b b' : List ℕ) where
     pub push-refused : (x : Refusal) → Ends (visitOf v) n (treeIn m (index h)) b 0 b' (pushed.Refused x) → (k : ℕ) → k ≡ numberOf x → (room : ℕ) → CalledAs (Done k false) (resultOf PushDown (planT (treeOf m h))) out out room
     push-refused x d k q room =
@@ -100,8 +99,8 @@ module _ (m : List ℕ) (u h n : ℕ) (p : Pushable m u h n) where
       pub push-small : sizeT (treeOf b' (x .root)) ≤ 126
       push-small = let y = few-nodes (planT (treeOf b' (x .root))) (pushed-well (planT (treeOf m h)) (planT (treeOf b' (x .root))) (p .plan) answers) in let z = plan-size (treeOf b' (x .root)) in omega arith
 
-      pub push-wrote : (r : Called) (out' : List ℕ) (k room : ℕ) → CalledAs r (gives (planT (treeOf b' (x .root)))) out out' k → CalledAs r (resultOf PushDown (planT (treeOf m h))) out out' k
-      push-wrote r out' k room y = subst (λ R. CalledAs r R out out' k) (sym (ap rewritten answers)) y
+      pub push-wrote : (r : Called) (out' : List ℕ) (k : ℕ) → CalledAs r (gives (planT (treeOf b' (x .root)))) out out' k → CalledAs r (resultOf PushDown (planT (treeOf m h))) out out' k
+      push-wrote r out' k y = subst (λ R. CalledAs r R out out' k) (sym (ap rewritten answers)) y
 
 -- ---- settled slots
 

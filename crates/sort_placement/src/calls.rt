@@ -1,4 +1,5 @@
 // One call on a plan file, in an arena of any size.
+use arena::SLOT;
 use arena::child;
 use arena::child_count;
 use arena::record_at;
@@ -7,6 +8,8 @@ use plan_context::kept;
 use plan_context::settling::settle_all;
 use pushdown_sorts::Pushed;
 use pushdown_sorts::walking::push_at;
+use replace_with_partial_sort::Sorted;
+use replace_with_partial_sort::by_number::partially_sorted;
 use sort_pushdown::Visit;
 use transform_up::Stop;
 use transform_up::Walk;
@@ -26,7 +29,7 @@ ghost use Rattle.sort_placement.specs.Answers.{afterReading, gives};
 ghost use Rattle.sort_placement.specs.PartialSorts.{partialT};
 ghost use Rattle.sort_placement.specs.Calls.{resultOf, stoppedAs, CalledAs, Formed, Pushable, Loads, Memory};
 ghost use Rattle.arena.specs.Arena.{slotSize};
-ghost use Rattle.sort_placement.specs.declared.calls.Call.the-variants.{CheckOrder, PushDown, TransformUp};
+ghost use Rattle.sort_placement.specs.declared.calls.Call.the-variants.{CheckOrder, PartialSort, PushDown, TransformUp};
 
 // What is asked of a plan.
 pub enum Call {
@@ -34,6 +37,7 @@ pub enum Call {
     CopyPlan,
     TransformUp(Walk),
     PushDown,
+    PartialSort(u32),
 }
 
 // What a call answers: the number of its refusal or 0, and whether the plan passes, where that was asked; or that the arena is too small.
@@ -65,7 +69,7 @@ fn has_partial_sort(m: &[u8], u: usize, i: usize) -> bool
 // The tree at h, written to the output.
 fn write_out(m: &[u8], u: usize, h: usize, out: &mut [u8]) -> Called
     requires { ⌜ Loaded (now m) u × (h < 2 * u) × (sizeT (treeOf (now m) h) ≤ 126) ⌝ }
-    ensures { λ r. ⌜ CalledAs r (gives (planT (treeOf (now (m .entry)) h))) (now (out .entry)) (now (out .exit)) (length (now (m .entry))) ⌝ }
+    ensures { λ r. ⌜ ((room : ℕ) → CalledAs r (gives (planT (treeOf (now (m .entry)) h))) (now (out .entry)) (now (out .exit)) room) ⌝ }
 {
     let x = plan_arena::write(m, u, h, out);
     Called::Done(plan::number(x), false)
@@ -139,6 +143,22 @@ fn push_in(m: &mut [u8], u: usize, h: usize, out: &mut [u8]) -> Called
     push_to(m, u, h, n, out, &mut b)
 }
 
+// Node number n of the tree at h partially sorted, and the answer to the output.
+fn sort_partially(m: &mut [u8], u: usize, h: usize, n: u32, out: &mut [u8]) -> Called
+    requires { ⌜ Formed (now m) u h × (u ≤ 126) ⌝ }
+    ensures { λ r. ⌜ CalledAs r (resultOf (PartialSort n) (planT (treeOf (now (m .entry)) h))) (now (out .entry)) (now (out .exit)) (length (now (m .entry))) ⌝ }
+{
+    settle_all(m, u);
+    if m.len() / SLOT < u + kept::nodes(m, h) {
+        return Called::NoRoom;
+    }
+    match partially_sorted(m, u, h, n as usize) {
+        Sorted::NoSuchNode => Called::Done(plan::number(Refusal::NoSuchNode), false),
+        Sorted::AllKeysMet => Called::Done(plan::number(Refusal::AllKeysMet), false),
+        Sorted::Becomes(a) => write_out(m, a.used, a.root, out),
+    }
+}
+
 // The call on the plan that was read, the tree at h.
 fn perform(k: Call, m: &mut [u8], u: usize, h: usize, out: &mut [u8], c: &mut [u8]) -> Called
     requires { ⌜ Loads (now m) u h (now c) ⌝ }
@@ -149,6 +169,7 @@ fn perform(k: Call, m: &mut [u8], u: usize, h: usize, out: &mut [u8], c: &mut [u
         Call::CopyPlan => write_out(m, u, h, out),
         Call::TransformUp(w) => walk_in(w, m, u, h, out, c),
         Call::PushDown => push_in(m, u, h, out),
+        Call::PartialSort(n) => sort_partially(m, u, h, n, out),
     }
 }
 

@@ -9,7 +9,7 @@ ghost use mathlib.Core.Path.{_≡_};
 ghost use Rattle.plan.specs.Numbers.{numberOf};
 ghost use Rattle.plan_format.specs.Reading.{refusalOf};
 ghost use Rattle.plan_codec.specs.Reading.{reading};
-ghost use Rattle.walks.specs.Counted.{answered, ensured, parallelized, preserved, pushed};
+ghost use Rattle.walks.specs.Counted.{answered, ensured, parallelized, partiallySorted, preserved, pushed};
 ghost use Rattle.sort_placement.specs.Answers.{checkAnswer, settingsIn, rewrites, refusalIn, outputIn};
 
 // In `passes` 1 where the plan passes the order check, 0 where it doesn't.
@@ -68,4 +68,12 @@ pub extern "C" fn pushdown_sorts(plan: &[u8], out: &mut [u8]) -> u32
     ensures { λ r. ⌜ (r ≡ numberOf (refusalIn (rewrites pushed (now (plan .entry))) (now (out .entry)))) × (now (out .exit) ≡ outputIn (rewrites pushed (now (plan .entry))) (now (out .entry))) ⌝ }
 {
     call(Call::PushDown, plan, out).number
+}
+
+// Partial sorting of the node with the number `node`: nothing else changes.
+#[no_mangle]
+pub extern "C" fn replace_with_partial_sort(plan: &[u8], node: u32, out: &mut [u8]) -> u32
+    ensures { λ r. ⌜ (r ≡ numberOf (refusalIn (rewrites (partiallySorted node) (now (plan .entry))) (now (out .entry)))) × (now (out .exit) ≡ outputIn (rewrites (partiallySorted node) (now (plan .entry))) (now (out .entry))) ⌝ }
+{
+    call(Call::PartialSort(node), plan, out).number
 }

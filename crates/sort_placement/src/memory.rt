@@ -25,6 +25,7 @@ fn first_slots(k: Call, blocks: usize) -> usize
         Call::CopyPlan => 7 * blocks,
         Call::TransformUp(_) => 28 * blocks,
         Call::PushDown => 7 * blocks,
+        Call::PartialSort(_) => 14 * blocks,
     }
 }
 
