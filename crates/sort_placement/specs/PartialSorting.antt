@@ -29,11 +29,11 @@ use Rattle.sort_placement.specs.Calling.{plan-size}
 set-size : (n : ℕ) (p : Op) (f : Plan) → size (setNode n p f) ≡ size f
 set-size n p none = refl
 set-size zero p (tree o c r) = refl
-set-size (suc n) p (tree o c r) = go (ltb n (size c))
+set-size (suc n) p (tree o c r) = go (ltb n (size c)) (set-size n p c) (set-size (n - size c) p r)
   where
-    go : (b : Bool) → size (cond b (tree o (setNode n p c) r) (tree o c (setNode (n - size c) p r))) ≡ size (tree o c r)
-    go true = let x = set-size n p c in omega arith
-    go false = let x = set-size (n - size c) p r in omega arith
+    go : (b : Bool) → size (setNode n p c) ≡ size c → size (setNode (n - size c) p r) ≡ size r → size (cond b (tree o (setNode n p c) r) (tree o c (setNode (n - size c) p r))) ≡ size (tree o c r)
+    go true x y = omega arith
+    go false x y = omega arith
 
 module _ (m : List ℕ) (u h : ℕ) (p : Formed m u h) (few : u ≤ 126) (m' : List ℕ) (l : length m' ≡ length m) (a : Arena m' u) (k : (v : ℕ) → held m' v ≡ held m v) (i : ℕ) (ei : i ≡ sizeT (treeOf m' h)) where
   same-tree : treeOf m' h ≡ treeOf m h

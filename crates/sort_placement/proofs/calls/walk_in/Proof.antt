@@ -1,6 +1,7 @@
 use borrow.Author.Needs.{needs}
 use native.Mathlib.Omega.{arith}
 use mathlib.Core.Path.{subst}
+use lib.ListN.{length}
 use Prim.Native.Nat.{_/_}
 use Rattle.plan_context.specs.Laws.{here}
 use Rattle.transform_up.specs.Frame.{Outcome}
@@ -61,7 +62,7 @@ same-length-4 : tie.Need-same-length-4
 same-length-4 c = search needs
 
 returns-2 : tie.Need-returns-2
-returns-2 c = let s = c .before .before .before .before .before .before .before .before .before .before .before .before .before .before .before .before .before .before .before .before .before .before .before .before .before .before .before in let p = s .pre in let m = s .args .m .now in let u = s .args .u in let h = s .args .h in let k = s .args .c .now in let w = s .args .w in let out = s .args .out .now in let t = c .before .before .before .before .before .before .before .before .before .before .before .before .before .before .before .before .before .before .before .before .before .before .settle-all in let m' = t .last .0 in let l = t .kept .0 in let a = t .ensures .0 in let f = t .ensures .1 in let eb = c .before .before .before .before .before .before .before .before .before .before .before .before .before .before .before .before .before .before .has-partial-sort .ensures in let z = c .before .before .before .before .before .before .before .before .before .before .before .before .before .before .before .before .before .if1 .left in let en = c .before .before .before .before .before .before .before .before .before .before .before .before .before .before .before .nodes .ensures in let y = c .before .before .before .before .before .before .before .before .before .before .before .before .transform-up in let m'' = y .last .1 .0 in let g = c .before .before .before .before .before .before .used .given in let d = subst (λ o. Outcome o w m' u (h / 2) (c .before .before .before .before .before .before .before .before .before .before .before .before .before .before .before .nodes .result) m'') (g .1) (y .ensures) in walk-wrote m u h k p m' l a f w out _ eb z _ en m'' (y .kept .1 .0) (g .0 .0) (g .0 .1 .0) (g .0 .1 .1 .0) d (c .before .before .write-out .result) (c .before .before .write-out .last .1 .1 .1 .0) (c .before .before .write-out .ensures)
+returns-2 c = let s = c .before .before .before .before .before .before .before .before .before .before .before .before .before .before .before .before .before .before .before .before .before .before .before .before .before .before .before in let p = s .pre in let m = s .args .m .now in let u = s .args .u in let h = s .args .h in let k = s .args .c .now in let w = s .args .w in let out = s .args .out .now in let t = c .before .before .before .before .before .before .before .before .before .before .before .before .before .before .before .before .before .before .before .before .before .before .settle-all in let m' = t .last .0 in let l = t .kept .0 in let a = t .ensures .0 in let f = t .ensures .1 in let eb = c .before .before .before .before .before .before .before .before .before .before .before .before .before .before .before .before .before .before .has-partial-sort .ensures in let z = c .before .before .before .before .before .before .before .before .before .before .before .before .before .before .before .before .before .if1 .left in let en = c .before .before .before .before .before .before .before .before .before .before .before .before .before .before .before .nodes .ensures in let y = c .before .before .before .before .before .before .before .before .before .before .before .before .transform-up in let m'' = y .last .1 .0 in let g = c .before .before .before .before .before .before .used .given in let d = subst (λ o. Outcome o w m' u (h / 2) (c .before .before .before .before .before .before .before .before .before .before .before .before .before .before .before .nodes .result) m'') (g .1) (y .ensures) in walk-wrote m u h k p m' l a f w out _ eb z _ en m'' (y .kept .1 .0) (g .0 .0) (g .0 .1 .0) (g .0 .1 .1 .0) d (c .before .before .write-out .result) (c .before .before .write-out .last .1 .1 .1 .0) (c .before .before .write-out .ensures (length m''))
 
 same-length-5 : tie.Need-same-length-5
 same-length-5 c = search needs
