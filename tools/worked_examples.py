@@ -9,7 +9,7 @@ import os
 
 CRATES = os.path.join(os.path.dirname(os.path.abspath(__file__)), "..", "crates")
 
-SOURCE, FILTER, MERGE, OUTPUT_REQUIREMENT = 1, 2, 8, 13
+SOURCE, FILTER, SORT, MERGE, OUTPUT_REQUIREMENT = 1, 2, 7, 8, 13
 NO_FETCH = 4294967295
 DESCENDING = 1
 

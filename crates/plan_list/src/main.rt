@@ -1,10 +1,15 @@
 // Ensures the plan on standard input, and lists the plan that comes of it (01, 'Worked on paper'). A refusal prints only its number.
 
 // The plan file at the start of the output: its first block says how many there are.
-fn show_written(out: &[u8; 9216]) {
-    let blocks = scan::get16(out, 2) as usize;
-    if blocks <= 18 {
-        let e = 512 * blocks;
+fn show_written(out: &[u8]) {
+    if out.len() < 4 {
+        return;
+    }
+    let e = 512 * scan::get16(out, 2) as usize;
+    if out.len() < e {
+        return;
+    }
+    if e <= plan_listing::MOST {
         plan_listing::show(&out[..e]);
     }
 }

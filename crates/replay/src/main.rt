@@ -106,31 +106,46 @@ fn is_written(out: &[u8], want: &[u8]) -> bool {
     all
 }
 
+// The wanted file comes next.
+fn rewrites_to(fd: i32, case: Case, plan: &[u8], want: &mut [u8], out: &mut [u8]) -> bool {
+    let got = io::read_full(fd, want);
+    let number = rewrite(case, plan, out);
+    (got == want.len()) & (number == case.number) & is_written(out, want)
+}
+
 fn rewrite_is_right(fd: i32, case: Case, plan: &[u8]) -> bool {
     let mut want = [0u8; 10240];
     let mut out = [165u8; 10240];
     let answer = case.answer;
-    let room = case.room;
-    if (MOST < answer) | (MOST < room) {
+    if MOST < answer {
         return false;
     }
-    let got = io::read_full(fd, &mut want[0..answer]);
-    let number = rewrite(case, plan, &mut out[0..room]);
-    (got == answer) & (number == case.number) & is_written(&out[0..room], &want[0..answer])
+    let room = case.room;
+    if MOST < room {
+        return false;
+    }
+    rewrites_to(fd, case, plan, &mut want[0..answer], &mut out[0..room])
 }
 
-// Whether the case, whose file comes next, is answered as it says.
+// The plan file comes next.
+fn case_is_right(fd: i32, case: Case, plan: &mut [u8]) -> bool {
+    let got = io::read_full(fd, plan);
+    if got < plan.len() {
+        return false;
+    }
+    if case.call <= PARTIAL {
+        return rewrite_is_right(fd, case, plan);
+    }
+    check_is_right(case, plan)
+}
+
 fn is_right(fd: i32, case: Case) -> bool {
     let mut file = [0u8; 10240];
     let length = case.length;
     if MOST < length {
         return false;
     }
-    let got = io::read_full(fd, &mut file[0..length]);
-    if case.call <= PARTIAL {
-        return (got == length) & rewrite_is_right(fd, case, &file[0..length]);
-    }
-    (got == length) & check_is_right(case, &file[0..length])
+    case_is_right(fd, case, &mut file[0..length])
 }
 
 fn more(n: u64) -> u64 {

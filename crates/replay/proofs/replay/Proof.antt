@@ -5,7 +5,8 @@ use Rattle.replay.proofs.replay.Tie as tie
 use Rattle.replay.proofs.replay.Reads as reads
 use Rattle.replay.proofs.replay.Lts as lts
 use Rattle.replay.proofs.header.Reads as header-reads
-use Rattle.replay.proofs.one.Reads as one-reads
+use Rattle.replay.proofs.is_right.Reads as is-right-reads
+use Rattle.replay.proofs.counted.Reads as counted-reads
 
 abbrev Inv-loop : tie.InvT-loop
 Inv-loop fd tally₀ turns₀ tally turns = Unit {0}
@@ -22,8 +23,11 @@ header-requires c κs = tt
 enum-known-next : tie.Need-enum-known-next Inv-loop μ-loop
 enum-known-next c = search needs
 
-one-requires : tie.Need-one-requires Inv-loop μ-loop
-one-requires c κs = tt
+is-right-requires : tie.Need-is-right-requires Inv-loop μ-loop
+is-right-requires c κs = tt
+
+counted-requires : tie.Need-counted-requires Inv-loop μ-loop
+counted-requires c κs = tt
 
 enum-told : tie.Need-enum-told Inv-loop μ-loop
 enum-told c = search needs
@@ -52,7 +56,8 @@ replay-spec =
     loop-holds
     header-requires
     enum-known-next
-    one-requires
+    is-right-requires
+    counted-requires
     enum-told
     returns
     sub-turns
