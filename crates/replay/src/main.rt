@@ -7,9 +7,13 @@ const MOST: usize = 10240;
 
 // The calls, by the number that a case has for them.
 const ENSURE: u32 = 0;
+
 const PARALLELIZE: u32 = 1;
+
 const PRESERVE: u32 = 2;
+
 const PUSH: u32 = 3;
+
 const PARTIAL: u32 = 4;
 
 // Where a refusal is to leave the lent number of the order check alone, it is this afterwards: it is this before each call.
@@ -86,7 +90,13 @@ fn rewrite(case: Case, plan: &[u8], out: &mut [u8]) -> u32 {
         return sort_placement::parallelize_sorts(plan, out);
     }
     if case.call == PRESERVE {
-        return sort_placement::replace_with_order_preserving_variants(plan, case.spr, case.spm, case.prefer, out);
+        return sort_placement::replace_with_order_preserving_variants(
+            plan,
+            case.spr,
+            case.spm,
+            case.prefer,
+            out,
+        );
     }
     if case.call == PUSH {
         return sort_placement::pushdown_sorts(plan, out);

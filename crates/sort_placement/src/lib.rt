@@ -1,6 +1,7 @@
 // The C exports, on numbers and byte slices. Each answers the number of its refusal, or 0; a refusal leaves what was lent alone, and bytes past the file that is written stay.
 pub mod calls;
 pub mod memory;
+
 use crate::calls::Call;
 use crate::memory::call;
 use replace_with_order_preserving_variants::Settings;
@@ -51,7 +52,13 @@ pub extern "C" fn parallelize_sorts(plan: &[u8], out: &mut [u8]) -> u32
 
 // The order-preserving walk: sorts replaced by nodes that keep their input's order. A setting is off where it is zero.
 #[no_mangle]
-pub extern "C" fn replace_with_order_preserving_variants(plan: &[u8], spr_better: u8, spm_better: u8, prefer_existing: u8, out: &mut [u8]) -> u32
+pub extern "C" fn replace_with_order_preserving_variants(
+    plan: &[u8],
+    spr_better: u8,
+    spm_better: u8,
+    prefer_existing: u8,
+    out: &mut [u8],
+) -> u32
     ensures { λ r. ⌜ (r ≡ numberOf (refusalIn (rewrites (preserved (settingsIn «spr_better» «spm_better» «prefer_existing»)) (now (plan .entry))) (now (out .entry)))) × (now (out .exit) ≡ outputIn (rewrites (preserved (settingsIn «spr_better» «spm_better» «prefer_existing»)) (now (plan .entry))) (now (out .entry))) ⌝ }
 {
     let s = Settings {
