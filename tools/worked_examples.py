@@ -9,7 +9,7 @@ import os
 
 CRATES = os.path.join(os.path.dirname(os.path.abspath(__file__)), "..", "crates")
 
-SOURCE, FILTER, SORT, MERGE, OUTPUT_REQUIREMENT = 1, 2, 7, 8, 13
+SOURCE, FILTER, COALESCE, SORT, MERGE, OUTPUT_REQUIREMENT = 1, 2, 6, 7, 8, 13
 NO_FETCH = 4294967295
 DESCENDING = 1
 
@@ -64,6 +64,11 @@ def main():
         "wants_2": plan_file(wants(2)),
         "wants_0": plan_file(wants(0)),
         "wants_2_descending": plan_file(wants((2, DESCENDING))),
+        "sorted_already": plan_file([record(SORT, 1, fetch=NO_FETCH, keys=[2]), source(1, [2, 0])]),
+        "sorted_already_fetch_5": plan_file([record(SORT, 1, fetch=5, keys=[2]), source(1, [2, 0])]),
+        "sort_over_coalesce": plan_file([
+            record(SORT, 1, fetch=5, keys=[2]), record(FILTER, 1), record(COALESCE, 1, fetch=NO_FETCH), source(2, [2])
+        ]),
     }
     for name, data in examples.items():
         write("worked_examples/data/" + name, data)

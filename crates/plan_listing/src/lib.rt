@@ -199,3 +199,17 @@ pub fn show(plan: &[u8])
     let mut m = [0u8; 25536];
     show_in(plan, &mut m);
 }
+
+// The plan file at the start of an output: its first block says how many there are.
+pub fn show_written(out: &[u8]) {
+    if out.len() < 4 {
+        return;
+    }
+    let e = 512 * scan::get16(out, 2) as usize;
+    if out.len() < e {
+        return;
+    }
+    if e <= MOST {
+        show(&out[..e]);
+    }
+}

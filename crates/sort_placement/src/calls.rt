@@ -31,6 +31,13 @@ ghost use Rattle.sort_placement.specs.Calls.{resultOf, stoppedAs, Called
 ghost use Rattle.arena.specs.Arena.{slotSize};
 ghost use Rattle.sort_placement.specs.declared.calls.Call.the-variants.{CheckOrder, PartialSort, PushDown, TransformUp};
 
+// The bytes of so many slots.
+const SLOTS_63: usize = 63 * SLOT;
+
+const SLOTS_126: usize = 126 * SLOT;
+
+const SLOTS_378: usize = 378 * SLOT;
+
 // What is asked of a plan.
 pub enum Call {
     CheckOrder,
@@ -132,14 +139,14 @@ fn push_in(m: &mut [u8], u: usize, h: usize, out: &mut [u8]) -> Called
     }
     let n = kept::nodes(m, h);
     if n <= 21 {
-        let mut b = [0u8; 12096];
+        let mut b = [0u8; SLOTS_63];
         return push_to(m, u, h, n, out, &mut b);
     }
     if n <= 42 {
-        let mut b = [0u8; 24192];
+        let mut b = [0u8; SLOTS_126];
         return push_to(m, u, h, n, out, &mut b);
     }
-    let mut b = [0u8; 72576];
+    let mut b = [0u8; SLOTS_378];
     push_to(m, u, h, n, out, &mut b)
 }
 

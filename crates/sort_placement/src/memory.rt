@@ -2,12 +2,28 @@
 use crate::calls::Call;
 use crate::calls::Called;
 use crate::calls::call_in;
+use arena::SLOT;
 ghost use mathlib.Core.Path.{_≡_};
 ghost use Prim.Native.Nat.{_*_, _≤_, _<_};
 ghost use Rattle.plan_codec.specs.Reading.{reading};
 ghost use Rattle.plan_format.specs.Blocks.{blockCount};
 ghost use Rattle.sort_placement.specs.Answers.{afterReading};
 ghost use Rattle.sort_placement.specs.Calls.{resultOf, CalledAs, Answered};
+
+// The bytes of so many slots.
+const SLOTS_7: usize = 7 * SLOT;
+
+const SLOTS_21: usize = 21 * SLOT;
+
+const SLOTS_63: usize = 63 * SLOT;
+
+const SLOTS_126: usize = 126 * SLOT;
+
+const SLOTS_240: usize = 240 * SLOT;
+
+const SLOTS_382: usize = 382 * SLOT;
+
+const SLOTS_772: usize = 772 * SLOT;
 
 // What a call answers in the end: the number of its refusal or 0, and whether the plan passes.
 pub struct Answer {
@@ -36,26 +52,26 @@ fn call_with(k: Call, plan: &[u8], out: &mut [u8], slots: usize) -> Called
 {
     let mut c = [0u8; 1];
     if slots <= 7 {
-        let mut m = [0u8; 1344];
+        let mut m = [0u8; SLOTS_7];
         return call_in(k, plan, out, &mut m, &mut c);
     }
     if slots <= 21 {
-        let mut m = [0u8; 4032];
+        let mut m = [0u8; SLOTS_21];
         return call_in(k, plan, out, &mut m, &mut c);
     }
     if slots <= 63 {
-        let mut m = [0u8; 12096];
+        let mut m = [0u8; SLOTS_63];
         return call_in(k, plan, out, &mut m, &mut c);
     }
     if slots <= 126 {
-        let mut m = [0u8; 24192];
+        let mut m = [0u8; SLOTS_126];
         return call_in(k, plan, out, &mut m, &mut c);
     }
     if slots <= 240 {
-        let mut m = [0u8; 46080];
+        let mut m = [0u8; SLOTS_240];
         return call_in(k, plan, out, &mut m, &mut c);
     }
-    let mut m = [0u8; 73344];
+    let mut m = [0u8; SLOTS_382];
     call_in(k, plan, out, &mut m, &mut c)
 }
 
@@ -64,8 +80,8 @@ fn call_in_largest(k: Call, plan: &[u8], out: &mut [u8]) -> Answer
     requires { ⌜ blockCount (now plan) ≤ 18 ⌝ }
     ensures { λ r. ⌜ Answered r (afterReading (resultOf k) (reading (now (plan .entry)))) (now (out .entry)) (now (out .exit)) ⌝ }
 {
-    let mut m = [0u8; 148224];
-    let mut c = [0u8; 24192];
+    let mut m = [0u8; SLOTS_772];
+    let mut c = [0u8; SLOTS_126];
     let r = call_in(k, plan, out, &mut m, &mut c);
     let Called::Done(number, passes) = r else {
         return Answer {

@@ -1,5 +1,5 @@
-// Runs worked examples of document 01 ('Worked on paper') on the plan files of data/, which tools/worked_examples.py makes,
-// and writes a line for each: a refusal's number or that the plan is accepted, and whether a wanted order is met.
+// Runs worked examples of document 01 ('Worked on paper') on the plan files of data/, which tools/worked_examples.py makes. Of a check it writes a line: a refusal's number
+// or that the plan is accepted, and whether a wanted order is met; of a rewrite the listing of the plan that comes of it.
 use libc::STDOUT_FILENO;
 
 // What the export answers, and what it leaves in the lent number.
@@ -61,6 +61,54 @@ fn example(text: &[u8], file: &[u8], order: bool) {
     put(b"\n");
 }
 
+// The listing of the plan that was written, or the number of the refusal.
+fn list_answer(number: u32, out: &[u8]) {
+    if number == 0 {
+        plan_listing::show_written(out);
+    } else {
+        plan_listing::put_refusal(number);
+    }
+}
+
+fn ensure_file(fd: i32) {
+    let mut file = [0u8; 10240];
+    let mut out = [0u8; 9216];
+    let n = io::read_full(fd, &mut file);
+    let number = sort_placement::ensure_sorting(&file[..n], &mut out);
+    list_answer(number, &out);
+}
+
+// With 'spm better' on.
+fn preserve_file(fd: i32) {
+    let mut file = [0u8; 10240];
+    let mut out = [0u8; 9216];
+    let n = io::read_full(fd, &mut file);
+    let number = sort_placement::replace_with_order_preserving_variants(
+        &file[..n],
+        0,
+        1,
+        0,
+        &mut out,
+    );
+    list_answer(number, &out);
+}
+
+// A rewrite of one plan: ensuring, or the order-preserving walk.
+fn rewrite(text: &[u8], file: &[u8], ensuring: bool) {
+    let fd = os::open_read(file);
+    if fd < 0 {
+        os::fail(file);
+        return;
+    }
+    put(text);
+    if ensuring {
+        ensure_file(fd);
+    } else {
+        preserve_file(fd);
+    }
+    libc::close(fd);
+}
+
 fn main() {
     example(b"0 bytes: ", b"bytes_0", false);
     example(b"511 bytes: ", b"bytes_511", false);
@@ -72,5 +120,16 @@ fn main() {
         b"known [2,0] ascending, wanted [2 descending]: ",
         b"wants_2_descending",
         true,
+    );
+    rewrite(
+        b"ensure, sort [2] over one stream known [2,0]:\n",
+        b"sorted_already",
+        true,
+    );
+    rewrite(b"the same with fetch 5:\n", b"sorted_already_fetch_5", true);
+    rewrite(
+        b"order-preserving, spm better, sort [2] fetch 5, filter, coalesce, two streams known [2]:\n",
+        b"sort_over_coalesce",
+        false,
     );
 }

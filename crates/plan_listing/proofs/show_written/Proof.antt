@@ -3,11 +3,11 @@ use native.Mathlib.Omega.{arith}
 use mathlib.Core.Path.{sym}
 use Prim.Native.Nat.{_*_}
 use lib.Seq.{length-take-le}
-use Rattle.plan_list.proofs.show_written.Statement.{statement}
-use Rattle.plan_list.proofs.show_written.Tie as tie
-use Rattle.plan_list.proofs.show_written.Reads as reads
-use Rattle.plan_list.proofs.show_written.Lts as lts
+use Rattle.plan_listing.proofs.show_written.Statement.{statement}
+use Rattle.plan_listing.proofs.show_written.Tie as tie
+use Rattle.plan_listing.proofs.show_written.Reads as reads
+use Rattle.plan_listing.proofs.show_written.Lts as lts
 use Rattle.plan_listing.proofs.show.Reads as show-reads
 use Rattle.scan.proofs.get16.Reads as get16-reads
 
 returns : tie.Need-returns
