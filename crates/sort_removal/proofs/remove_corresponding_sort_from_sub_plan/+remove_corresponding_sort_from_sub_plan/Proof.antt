@@ -61,6 +61,11 @@ remove-corresponding-sort-from-sub-plan-below t =
     t)
     remove-corresponding-sort-from-sub-plan.Pre
 
+-- what the calls ask and give
+abbrev calls : ℕ → remove-corresponding-sort-from-sub-plan-lts.Claims
+calls t =
+    (is-marked-reads.Asked, is-marked-reads.Learnt, record-at-reads.Asked, record-at-reads.Learnt, read64-reads.Asked, read64-reads.Learnt, is-sort-reads.Asked, is-sort-reads.Learnt, remove-sort-reads.Asked, remove-sort-reads.Learnt, child-count-reads.Asked, child-count-reads.Learnt, child-reads.Asked, child-reads.Learnt, wants-single-reads.Asked, wants-single-reads.Learnt, remove-corresponding-sort-from-sub-plan-below t, remove-corresponding-sort-from-sub-plan.Post, remove-by-reads.Asked, remove-by-reads.Learnt, gather-reads.Asked, gather-reads.Learnt)
+
 abbrev remove-corresponding-sort-from-sub-plan-Inv-loop :
     remove-corresponding-sort-from-sub-plan-lts.InvT-loop
 remove-corresponding-sort-from-sub-plan-Inv-loop m₀ u h single i r n kids₀ w₀ j₀ m kids w j = (n ≡ length (slot m₀ (index h) .kids)) × (j ≤ n) × Going m₀ u h j w kids m
@@ -70,30 +75,7 @@ abbrev remove-corresponding-sort-from-sub-plan-μ-loop :
 remove-corresponding-sort-from-sub-plan-μ-loop m₀ u h single i r n kids₀ w₀ j₀ m kids w j = n - j
 
 remove-corresponding-sort-from-sub-plan-is-marked-requires :
-    (t : ℕ) → remove-corresponding-sort-from-sub-plan-lts.Need-is-marked-requires (
-      is-marked-reads.Asked,
-      is-marked-reads.Learnt,
-      record-at-reads.Asked,
-      record-at-reads.Learnt,
-      read64-reads.Asked,
-      read64-reads.Learnt,
-      is-sort-reads.Asked,
-      is-sort-reads.Learnt,
-      remove-sort-reads.Asked,
-      remove-sort-reads.Learnt,
-      child-count-reads.Asked,
-      child-count-reads.Learnt,
-      child-reads.Asked,
-      child-reads.Learnt,
-      wants-single-reads.Asked,
-      wants-single-reads.Learnt,
-      remove-corresponding-sort-from-sub-plan-below t,
-      remove-corresponding-sort-from-sub-plan.Post,
-      remove-by-reads.Asked,
-      remove-by-reads.Learnt,
-      gather-reads.Asked,
-      gather-reads.Learnt,
-    )
+    (t : ℕ) → remove-corresponding-sort-from-sub-plan-lts.Need-is-marked-requires (calls t)
     (remove-corresponding-sort-from-sub-plan-at t)
     remove-corresponding-sort-from-sub-plan.Post
     remove-corresponding-sort-from-sub-plan-Inv-loop
@@ -101,30 +83,7 @@ remove-corresponding-sort-from-sub-plan-is-marked-requires :
 remove-corresponding-sort-from-sub-plan-is-marked-requires t c κs = tt
 
 remove-corresponding-sort-from-sub-plan-returns :
-    (t : ℕ) → remove-corresponding-sort-from-sub-plan-lts.Need-returns (
-      is-marked-reads.Asked,
-      is-marked-reads.Learnt,
-      record-at-reads.Asked,
-      record-at-reads.Learnt,
-      read64-reads.Asked,
-      read64-reads.Learnt,
-      is-sort-reads.Asked,
-      is-sort-reads.Learnt,
-      remove-sort-reads.Asked,
-      remove-sort-reads.Learnt,
-      child-count-reads.Asked,
-      child-count-reads.Learnt,
-      child-reads.Asked,
-      child-reads.Learnt,
-      wants-single-reads.Asked,
-      wants-single-reads.Learnt,
-      remove-corresponding-sort-from-sub-plan-below t,
-      remove-corresponding-sort-from-sub-plan.Post,
-      remove-by-reads.Asked,
-      remove-by-reads.Learnt,
-      gather-reads.Asked,
-      gather-reads.Learnt,
-    )
+    (t : ℕ) → remove-corresponding-sort-from-sub-plan-lts.Need-returns (calls t)
     (remove-corresponding-sort-from-sub-plan-at t)
     remove-corresponding-sort-from-sub-plan.Post
     remove-corresponding-sort-from-sub-plan-Inv-loop
@@ -132,30 +91,7 @@ remove-corresponding-sort-from-sub-plan-returns :
 remove-corresponding-sort-from-sub-plan-returns t c = let s = c .before .before .before in unmarked (s .args .m .now) (s .args .u) (s .args .h) (s .pre .1) (s .args .single) (sym (c .before .is-marked .ensures) ∙ not-true _ (c .if1 .taken))
 
 remove-corresponding-sort-from-sub-plan-record-at-requires :
-    (t : ℕ) → remove-corresponding-sort-from-sub-plan-lts.Need-record-at-requires (
-      is-marked-reads.Asked,
-      is-marked-reads.Learnt,
-      record-at-reads.Asked,
-      record-at-reads.Learnt,
-      read64-reads.Asked,
-      read64-reads.Learnt,
-      is-sort-reads.Asked,
-      is-sort-reads.Learnt,
-      remove-sort-reads.Asked,
-      remove-sort-reads.Learnt,
-      child-count-reads.Asked,
-      child-count-reads.Learnt,
-      child-reads.Asked,
-      child-reads.Learnt,
-      wants-single-reads.Asked,
-      wants-single-reads.Learnt,
-      remove-corresponding-sort-from-sub-plan-below t,
-      remove-corresponding-sort-from-sub-plan.Post,
-      remove-by-reads.Asked,
-      remove-by-reads.Learnt,
-      gather-reads.Asked,
-      gather-reads.Learnt,
-    )
+    (t : ℕ) → remove-corresponding-sort-from-sub-plan-lts.Need-record-at-requires (calls t)
     (remove-corresponding-sort-from-sub-plan-at t)
     remove-corresponding-sort-from-sub-plan.Post
     remove-corresponding-sort-from-sub-plan-Inv-loop
@@ -163,30 +99,7 @@ remove-corresponding-sort-from-sub-plan-record-at-requires :
 remove-corresponding-sort-from-sub-plan-record-at-requires t c κs = let s = c .before .before .before .before in slot-room (s .args .m .now) (s .args .u) (s .args .h) (standing (s .args .m .now) (s .args .u) (s .args .h) (s .pre .1))
 
 remove-corresponding-sort-from-sub-plan-read64-requires :
-    (t : ℕ) → remove-corresponding-sort-from-sub-plan-lts.Need-read64-requires (
-      is-marked-reads.Asked,
-      is-marked-reads.Learnt,
-      record-at-reads.Asked,
-      record-at-reads.Learnt,
-      read64-reads.Asked,
-      read64-reads.Learnt,
-      is-sort-reads.Asked,
-      is-sort-reads.Learnt,
-      remove-sort-reads.Asked,
-      remove-sort-reads.Learnt,
-      child-count-reads.Asked,
-      child-count-reads.Learnt,
-      child-reads.Asked,
-      child-reads.Learnt,
-      wants-single-reads.Asked,
-      wants-single-reads.Learnt,
-      remove-corresponding-sort-from-sub-plan-below t,
-      remove-corresponding-sort-from-sub-plan.Post,
-      remove-by-reads.Asked,
-      remove-by-reads.Learnt,
-      gather-reads.Asked,
-      gather-reads.Learnt,
-    )
+    (t : ℕ) → remove-corresponding-sort-from-sub-plan-lts.Need-read64-requires (calls t)
     (remove-corresponding-sort-from-sub-plan-at t)
     remove-corresponding-sort-from-sub-plan.Post
     remove-corresponding-sort-from-sub-plan-Inv-loop
@@ -194,30 +107,7 @@ remove-corresponding-sort-from-sub-plan-read64-requires :
 remove-corresponding-sort-from-sub-plan-read64-requires t c κs = let s = c .before .before .before .before .before in ap length (c .record-at .ensures) ∙ view (s .args .m .now) (s .args .u) (s .args .h) (standing (s .args .m .now) (s .args .u) (s .args .h) (s .pre .1)) .long
 
 remove-corresponding-sort-from-sub-plan-slice-aggregate-is-sort :
-    (t : ℕ) → remove-corresponding-sort-from-sub-plan-lts.Need-slice-aggregate-is-sort (
-      is-marked-reads.Asked,
-      is-marked-reads.Learnt,
-      record-at-reads.Asked,
-      record-at-reads.Learnt,
-      read64-reads.Asked,
-      read64-reads.Learnt,
-      is-sort-reads.Asked,
-      is-sort-reads.Learnt,
-      remove-sort-reads.Asked,
-      remove-sort-reads.Learnt,
-      child-count-reads.Asked,
-      child-count-reads.Learnt,
-      child-reads.Asked,
-      child-reads.Learnt,
-      wants-single-reads.Asked,
-      wants-single-reads.Learnt,
-      remove-corresponding-sort-from-sub-plan-below t,
-      remove-corresponding-sort-from-sub-plan.Post,
-      remove-by-reads.Asked,
-      remove-by-reads.Learnt,
-      gather-reads.Asked,
-      gather-reads.Learnt,
-    )
+    (t : ℕ) → remove-corresponding-sort-from-sub-plan-lts.Need-slice-aggregate-is-sort (calls t)
     (remove-corresponding-sort-from-sub-plan-at t)
     remove-corresponding-sort-from-sub-plan.Post
     remove-corresponding-sort-from-sub-plan-Inv-loop
@@ -225,30 +115,7 @@ remove-corresponding-sort-from-sub-plan-slice-aggregate-is-sort :
 remove-corresponding-sort-from-sub-plan-slice-aggregate-is-sort t c = search needs
 
 remove-corresponding-sort-from-sub-plan-is-sort-requires :
-    (t : ℕ) → remove-corresponding-sort-from-sub-plan-lts.Need-is-sort-requires (
-      is-marked-reads.Asked,
-      is-marked-reads.Learnt,
-      record-at-reads.Asked,
-      record-at-reads.Learnt,
-      read64-reads.Asked,
-      read64-reads.Learnt,
-      is-sort-reads.Asked,
-      is-sort-reads.Learnt,
-      remove-sort-reads.Asked,
-      remove-sort-reads.Learnt,
-      child-count-reads.Asked,
-      child-count-reads.Learnt,
-      child-reads.Asked,
-      child-reads.Learnt,
-      wants-single-reads.Asked,
-      wants-single-reads.Learnt,
-      remove-corresponding-sort-from-sub-plan-below t,
-      remove-corresponding-sort-from-sub-plan.Post,
-      remove-by-reads.Asked,
-      remove-by-reads.Learnt,
-      gather-reads.Asked,
-      gather-reads.Learnt,
-    )
+    (t : ℕ) → remove-corresponding-sort-from-sub-plan-lts.Need-is-sort-requires (calls t)
     (remove-corresponding-sort-from-sub-plan-at t)
     remove-corresponding-sort-from-sub-plan.Post
     remove-corresponding-sort-from-sub-plan-Inv-loop
@@ -256,30 +123,7 @@ remove-corresponding-sort-from-sub-plan-is-sort-requires :
 remove-corresponding-sort-from-sub-plan-is-sort-requires t c κs = let s = c .before .before .before .before .before .before .before in own-proper (s .args .m .now) (s .args .u) (s .args .h) (standing (s .args .m .now) (s .args .u) (s .args .h) (s .pre .1)) _ (c .before .read64 .ensures ∙ c .before .before .record-at .ensures)
 
 remove-corresponding-sort-from-sub-plan-slice-aggregate-remove-sort :
-    (t : ℕ) → remove-corresponding-sort-from-sub-plan-lts.Need-slice-aggregate-remove-sort (
-      is-marked-reads.Asked,
-      is-marked-reads.Learnt,
-      record-at-reads.Asked,
-      record-at-reads.Learnt,
-      read64-reads.Asked,
-      read64-reads.Learnt,
-      is-sort-reads.Asked,
-      is-sort-reads.Learnt,
-      remove-sort-reads.Asked,
-      remove-sort-reads.Learnt,
-      child-count-reads.Asked,
-      child-count-reads.Learnt,
-      child-reads.Asked,
-      child-reads.Learnt,
-      wants-single-reads.Asked,
-      wants-single-reads.Learnt,
-      remove-corresponding-sort-from-sub-plan-below t,
-      remove-corresponding-sort-from-sub-plan.Post,
-      remove-by-reads.Asked,
-      remove-by-reads.Learnt,
-      gather-reads.Asked,
-      gather-reads.Learnt,
-    )
+    (t : ℕ) → remove-corresponding-sort-from-sub-plan-lts.Need-slice-aggregate-remove-sort (calls t)
     (remove-corresponding-sort-from-sub-plan-at t)
     remove-corresponding-sort-from-sub-plan.Post
     remove-corresponding-sort-from-sub-plan-Inv-loop
@@ -287,30 +131,7 @@ remove-corresponding-sort-from-sub-plan-slice-aggregate-remove-sort :
 remove-corresponding-sort-from-sub-plan-slice-aggregate-remove-sort t c = search needs
 
 remove-corresponding-sort-from-sub-plan-remove-sort-requires :
-    (t : ℕ) → remove-corresponding-sort-from-sub-plan-lts.Need-remove-sort-requires (
-      is-marked-reads.Asked,
-      is-marked-reads.Learnt,
-      record-at-reads.Asked,
-      record-at-reads.Learnt,
-      read64-reads.Asked,
-      read64-reads.Learnt,
-      is-sort-reads.Asked,
-      is-sort-reads.Learnt,
-      remove-sort-reads.Asked,
-      remove-sort-reads.Learnt,
-      child-count-reads.Asked,
-      child-count-reads.Learnt,
-      child-reads.Asked,
-      child-reads.Learnt,
-      wants-single-reads.Asked,
-      wants-single-reads.Learnt,
-      remove-corresponding-sort-from-sub-plan-below t,
-      remove-corresponding-sort-from-sub-plan.Post,
-      remove-by-reads.Asked,
-      remove-by-reads.Learnt,
-      gather-reads.Asked,
-      gather-reads.Learnt,
-    )
+    (t : ℕ) → remove-corresponding-sort-from-sub-plan-lts.Need-remove-sort-requires (calls t)
     (remove-corresponding-sort-from-sub-plan-at t)
     remove-corresponding-sort-from-sub-plan.Post
     remove-corresponding-sort-from-sub-plan-Inv-loop
@@ -318,30 +139,7 @@ remove-corresponding-sort-from-sub-plan-remove-sort-requires :
 remove-corresponding-sort-from-sub-plan-remove-sort-requires t c κs = let s = c .before .before .before .before .before .before .before .before .before .before .before in (s .pre .1, sym (c .before .before .before .before .before .before .before .before .before .is-marked .ensures) ∙ not-false _ (c .before .before .before .before .before .before .before .before .if1 .left), (c .before .before .before .before .before .read64 .ensures ∙ c .before .before .before .before .before .before .record-at .ensures), is-code (decode (c .before .before .before .before .before .read64 .result)) 7 _ (c .before .before .before .is-sort .ensures) (c .before .before .if2 .taken))
 
 remove-corresponding-sort-from-sub-plan-same-length :
-    (t : ℕ) → remove-corresponding-sort-from-sub-plan-lts.Need-same-length (
-      is-marked-reads.Asked,
-      is-marked-reads.Learnt,
-      record-at-reads.Asked,
-      record-at-reads.Learnt,
-      read64-reads.Asked,
-      read64-reads.Learnt,
-      is-sort-reads.Asked,
-      is-sort-reads.Learnt,
-      remove-sort-reads.Asked,
-      remove-sort-reads.Learnt,
-      child-count-reads.Asked,
-      child-count-reads.Learnt,
-      child-reads.Asked,
-      child-reads.Learnt,
-      wants-single-reads.Asked,
-      wants-single-reads.Learnt,
-      remove-corresponding-sort-from-sub-plan-below t,
-      remove-corresponding-sort-from-sub-plan.Post,
-      remove-by-reads.Asked,
-      remove-by-reads.Learnt,
-      gather-reads.Asked,
-      gather-reads.Learnt,
-    )
+    (t : ℕ) → remove-corresponding-sort-from-sub-plan-lts.Need-same-length (calls t)
     (remove-corresponding-sort-from-sub-plan-at t)
     remove-corresponding-sort-from-sub-plan.Post
     remove-corresponding-sort-from-sub-plan-Inv-loop
@@ -349,30 +147,7 @@ remove-corresponding-sort-from-sub-plan-same-length :
 remove-corresponding-sort-from-sub-plan-same-length t c = c .before .before .remove-sort .kept .0
 
 remove-corresponding-sort-from-sub-plan-returns-2 :
-    (t : ℕ) → remove-corresponding-sort-from-sub-plan-lts.Need-returns-2 (
-      is-marked-reads.Asked,
-      is-marked-reads.Learnt,
-      record-at-reads.Asked,
-      record-at-reads.Learnt,
-      read64-reads.Asked,
-      read64-reads.Learnt,
-      is-sort-reads.Asked,
-      is-sort-reads.Learnt,
-      remove-sort-reads.Asked,
-      remove-sort-reads.Learnt,
-      child-count-reads.Asked,
-      child-count-reads.Learnt,
-      child-reads.Asked,
-      child-reads.Learnt,
-      wants-single-reads.Asked,
-      wants-single-reads.Learnt,
-      remove-corresponding-sort-from-sub-plan-below t,
-      remove-corresponding-sort-from-sub-plan.Post,
-      remove-by-reads.Asked,
-      remove-by-reads.Learnt,
-      gather-reads.Asked,
-      gather-reads.Learnt,
-    )
+    (t : ℕ) → remove-corresponding-sort-from-sub-plan-lts.Need-returns-2 (calls t)
     (remove-corresponding-sort-from-sub-plan-at t)
     remove-corresponding-sort-from-sub-plan.Post
     remove-corresponding-sort-from-sub-plan-Inv-loop
@@ -380,30 +155,7 @@ remove-corresponding-sort-from-sub-plan-returns-2 :
 remove-corresponding-sort-from-sub-plan-returns-2 t c = c .before .before .remove-sort .ensures
 
 remove-corresponding-sort-from-sub-plan-child-count-requires :
-    (t : ℕ) → remove-corresponding-sort-from-sub-plan-lts.Need-child-count-requires (
-      is-marked-reads.Asked,
-      is-marked-reads.Learnt,
-      record-at-reads.Asked,
-      record-at-reads.Learnt,
-      read64-reads.Asked,
-      read64-reads.Learnt,
-      is-sort-reads.Asked,
-      is-sort-reads.Learnt,
-      remove-sort-reads.Asked,
-      remove-sort-reads.Learnt,
-      child-count-reads.Asked,
-      child-count-reads.Learnt,
-      child-reads.Asked,
-      child-reads.Learnt,
-      wants-single-reads.Asked,
-      wants-single-reads.Learnt,
-      remove-corresponding-sort-from-sub-plan-below t,
-      remove-corresponding-sort-from-sub-plan.Post,
-      remove-by-reads.Asked,
-      remove-by-reads.Learnt,
-      gather-reads.Asked,
-      gather-reads.Learnt,
-    )
+    (t : ℕ) → remove-corresponding-sort-from-sub-plan-lts.Need-child-count-requires (calls t)
     (remove-corresponding-sort-from-sub-plan-at t)
     remove-corresponding-sort-from-sub-plan.Post
     remove-corresponding-sort-from-sub-plan-Inv-loop
@@ -411,30 +163,7 @@ remove-corresponding-sort-from-sub-plan-child-count-requires :
 remove-corresponding-sort-from-sub-plan-child-count-requires t c κs = let s = c .before .before .before .before .before .before .before .before .before .before in slot-room (s .args .m .now) (s .args .u) (s .args .h) (standing (s .args .m .now) (s .args .u) (s .args .h) (s .pre .1))
 
 remove-corresponding-sort-from-sub-plan-loop-holds :
-    (t : ℕ) → remove-corresponding-sort-from-sub-plan-lts.Need-loop-holds (
-      is-marked-reads.Asked,
-      is-marked-reads.Learnt,
-      record-at-reads.Asked,
-      record-at-reads.Learnt,
-      read64-reads.Asked,
-      read64-reads.Learnt,
-      is-sort-reads.Asked,
-      is-sort-reads.Learnt,
-      remove-sort-reads.Asked,
-      remove-sort-reads.Learnt,
-      child-count-reads.Asked,
-      child-count-reads.Learnt,
-      child-reads.Asked,
-      child-reads.Learnt,
-      wants-single-reads.Asked,
-      wants-single-reads.Learnt,
-      remove-corresponding-sort-from-sub-plan-below t,
-      remove-corresponding-sort-from-sub-plan.Post,
-      remove-by-reads.Asked,
-      remove-by-reads.Learnt,
-      gather-reads.Asked,
-      gather-reads.Learnt,
-    )
+    (t : ℕ) → remove-corresponding-sort-from-sub-plan-lts.Need-loop-holds (calls t)
     (remove-corresponding-sort-from-sub-plan-at t)
     remove-corresponding-sort-from-sub-plan.Post
     remove-corresponding-sort-from-sub-plan-Inv-loop
@@ -442,30 +171,7 @@ remove-corresponding-sort-from-sub-plan-loop-holds :
 remove-corresponding-sort-from-sub-plan-loop-holds t c = let s = c .before .before .before .before .before .before .before .before .before .before .before in let g = going-none (s .args .m .now) (s .args .u) (s .args .h) (s .pre .1) (replicate 8 0) refl in (c .child-count .ensures ∙ few-kids (s .args .m .now) (s .args .u) (s .args .h) (s .pre .1) 0 (s .args .u) (replicate 8 0) (s .args .m .now) g .1, omega arith, g)
 
 remove-corresponding-sort-from-sub-plan-child-requires :
-    (t : ℕ) → remove-corresponding-sort-from-sub-plan-lts.Need-child-requires (
-      is-marked-reads.Asked,
-      is-marked-reads.Learnt,
-      record-at-reads.Asked,
-      record-at-reads.Learnt,
-      read64-reads.Asked,
-      read64-reads.Learnt,
-      is-sort-reads.Asked,
-      is-sort-reads.Learnt,
-      remove-sort-reads.Asked,
-      remove-sort-reads.Learnt,
-      child-count-reads.Asked,
-      child-count-reads.Learnt,
-      child-reads.Asked,
-      child-reads.Learnt,
-      wants-single-reads.Asked,
-      wants-single-reads.Learnt,
-      remove-corresponding-sort-from-sub-plan-below t,
-      remove-corresponding-sort-from-sub-plan.Post,
-      remove-by-reads.Asked,
-      remove-by-reads.Learnt,
-      gather-reads.Asked,
-      gather-reads.Learnt,
-    )
+    (t : ℕ) → remove-corresponding-sort-from-sub-plan-lts.Need-child-requires (calls t)
     (remove-corresponding-sort-from-sub-plan-at t)
     remove-corresponding-sort-from-sub-plan.Post
     remove-corresponding-sort-from-sub-plan-Inv-loop
@@ -473,30 +179,7 @@ remove-corresponding-sort-from-sub-plan-child-requires :
 remove-corresponding-sort-from-sub-plan-child-requires t c κs = let s = c .before .before .before .before .before .before .before .before .before .before .before .before .before .before in let l = c .before .before .loop in let i₀ = l .inv .0 in let i₁ = l .inv .1 in let x = c .before .loop-test .taken in let f = few-kids (s .args .m .now) (s .args .u) (s .args .h) (s .pre .1) (l .j) (l .w) (l .kids) (l .m) (l .inv .2) in let f₀ = f .0 in let f₁ = f .1 in let wd = l .inv .2 .made .wide in (node-room (s .args .m .now) (s .args .u) (s .args .h) (s .pre .1) (l .j) (l .w) (l .kids) (l .m) (l .inv .2), omega arith, f .0)
 
 remove-corresponding-sort-from-sub-plan-slice-aggregate-wants-single :
-    (t : ℕ) → remove-corresponding-sort-from-sub-plan-lts.Need-slice-aggregate-wants-single (
-      is-marked-reads.Asked,
-      is-marked-reads.Learnt,
-      record-at-reads.Asked,
-      record-at-reads.Learnt,
-      read64-reads.Asked,
-      read64-reads.Learnt,
-      is-sort-reads.Asked,
-      is-sort-reads.Learnt,
-      remove-sort-reads.Asked,
-      remove-sort-reads.Learnt,
-      child-count-reads.Asked,
-      child-count-reads.Learnt,
-      child-reads.Asked,
-      child-reads.Learnt,
-      wants-single-reads.Asked,
-      wants-single-reads.Learnt,
-      remove-corresponding-sort-from-sub-plan-below t,
-      remove-corresponding-sort-from-sub-plan.Post,
-      remove-by-reads.Asked,
-      remove-by-reads.Learnt,
-      gather-reads.Asked,
-      gather-reads.Learnt,
-    )
+    (t : ℕ) → remove-corresponding-sort-from-sub-plan-lts.Need-slice-aggregate-wants-single (calls t)
     (remove-corresponding-sort-from-sub-plan-at t)
     remove-corresponding-sort-from-sub-plan.Post
     remove-corresponding-sort-from-sub-plan-Inv-loop
@@ -504,30 +187,7 @@ remove-corresponding-sort-from-sub-plan-slice-aggregate-wants-single :
 remove-corresponding-sort-from-sub-plan-slice-aggregate-wants-single t c = search needs
 
 remove-corresponding-sort-from-sub-plan-wants-single-requires :
-    (t : ℕ) → remove-corresponding-sort-from-sub-plan-lts.Need-wants-single-requires (
-      is-marked-reads.Asked,
-      is-marked-reads.Learnt,
-      record-at-reads.Asked,
-      record-at-reads.Learnt,
-      read64-reads.Asked,
-      read64-reads.Learnt,
-      is-sort-reads.Asked,
-      is-sort-reads.Learnt,
-      remove-sort-reads.Asked,
-      remove-sort-reads.Learnt,
-      child-count-reads.Asked,
-      child-count-reads.Learnt,
-      child-reads.Asked,
-      child-reads.Learnt,
-      wants-single-reads.Asked,
-      wants-single-reads.Learnt,
-      remove-corresponding-sort-from-sub-plan-below t,
-      remove-corresponding-sort-from-sub-plan.Post,
-      remove-by-reads.Asked,
-      remove-by-reads.Learnt,
-      gather-reads.Asked,
-      gather-reads.Learnt,
-    )
+    (t : ℕ) → remove-corresponding-sort-from-sub-plan-lts.Need-wants-single-requires (calls t)
     (remove-corresponding-sort-from-sub-plan-at t)
     remove-corresponding-sort-from-sub-plan.Post
     remove-corresponding-sort-from-sub-plan-Inv-loop
@@ -536,30 +196,7 @@ remove-corresponding-sort-from-sub-plan-wants-single-requires t c κs = let s = 
 
 remove-corresponding-sort-from-sub-plan-remove-corresponding-sort-from-sub-plan-requires :
     (t : ℕ) →
-    remove-corresponding-sort-from-sub-plan-lts.Need-remove-corresponding-sort-from-sub-plan-requires (
-      is-marked-reads.Asked,
-      is-marked-reads.Learnt,
-      record-at-reads.Asked,
-      record-at-reads.Learnt,
-      read64-reads.Asked,
-      read64-reads.Learnt,
-      is-sort-reads.Asked,
-      is-sort-reads.Learnt,
-      remove-sort-reads.Asked,
-      remove-sort-reads.Learnt,
-      child-count-reads.Asked,
-      child-count-reads.Learnt,
-      child-reads.Asked,
-      child-reads.Learnt,
-      wants-single-reads.Asked,
-      wants-single-reads.Learnt,
-      remove-corresponding-sort-from-sub-plan-below t,
-      remove-corresponding-sort-from-sub-plan.Post,
-      remove-by-reads.Asked,
-      remove-by-reads.Learnt,
-      gather-reads.Asked,
-      gather-reads.Learnt,
-    )
+    remove-corresponding-sort-from-sub-plan-lts.Need-remove-corresponding-sort-from-sub-plan-requires (calls t)
     (remove-corresponding-sort-from-sub-plan-at t)
     remove-corresponding-sort-from-sub-plan.Post
     remove-corresponding-sort-from-sub-plan-Inv-loop
@@ -567,30 +204,7 @@ remove-corresponding-sort-from-sub-plan-remove-corresponding-sort-from-sub-plan-
 remove-corresponding-sort-from-sub-plan-remove-corresponding-sort-from-sub-plan-requires t c κs = let s = c .before .before .before .before .before .before .before .before .before .before .before .before .before .before .before .before .before .before in let l = c .before .before .before .before .before .before .loop in let i₀ = l .inv .0 in let i₁ = l .inv .1 in let x = c .before .before .before .before .before .loop-test .taken in let q = going-next (s .args .m .now) (s .args .u) (s .args .h) (s .pre .1) (l .j) (l .w) (l .kids) (l .m) (l .inv .2) (omega arith) _ (c .before .before .before .child .ensures) in let q₀ = q .0 in let g = s .pre .0 in (omega arith, q .1)
 
 remove-corresponding-sort-from-sub-plan-mul-kids :
-    (t : ℕ) → remove-corresponding-sort-from-sub-plan-lts.Need-mul-kids (
-      is-marked-reads.Asked,
-      is-marked-reads.Learnt,
-      record-at-reads.Asked,
-      record-at-reads.Learnt,
-      read64-reads.Asked,
-      read64-reads.Learnt,
-      is-sort-reads.Asked,
-      is-sort-reads.Learnt,
-      remove-sort-reads.Asked,
-      remove-sort-reads.Learnt,
-      child-count-reads.Asked,
-      child-count-reads.Learnt,
-      child-reads.Asked,
-      child-reads.Learnt,
-      wants-single-reads.Asked,
-      wants-single-reads.Learnt,
-      remove-corresponding-sort-from-sub-plan-below t,
-      remove-corresponding-sort-from-sub-plan.Post,
-      remove-by-reads.Asked,
-      remove-by-reads.Learnt,
-      gather-reads.Asked,
-      gather-reads.Learnt,
-    )
+    (t : ℕ) → remove-corresponding-sort-from-sub-plan-lts.Need-mul-kids (calls t)
     (remove-corresponding-sort-from-sub-plan-at t)
     remove-corresponding-sort-from-sub-plan.Post
     remove-corresponding-sort-from-sub-plan-Inv-loop
@@ -598,30 +212,7 @@ remove-corresponding-sort-from-sub-plan-mul-kids :
 remove-corresponding-sort-from-sub-plan-mul-kids t c = let s = c .before .before .before .before .before .before .before .before .before .before .before .before .before .before .before .before .before .before .before .before .before in let l = c .before .before .before .before .before .before .before .before .before .loop in let i₀ = l .inv .0 in let i₁ = l .inv .1 in let x = c .before .before .before .before .before .before .before .before .loop-test .taken in let f = few-kids (s .args .m .now) (s .args .u) (s .args .h) (s .pre .1) (l .j) (l .w) (l .kids) (l .m) (l .inv .2) in let f₀ = f .0 in let f₁ = f .1 in let wd = l .inv .2 .made .wide in omega arith
 
 remove-corresponding-sort-from-sub-plan-array-write-kids :
-    (t : ℕ) → remove-corresponding-sort-from-sub-plan-lts.Need-array-write-kids (
-      is-marked-reads.Asked,
-      is-marked-reads.Learnt,
-      record-at-reads.Asked,
-      record-at-reads.Learnt,
-      read64-reads.Asked,
-      read64-reads.Learnt,
-      is-sort-reads.Asked,
-      is-sort-reads.Learnt,
-      remove-sort-reads.Asked,
-      remove-sort-reads.Learnt,
-      child-count-reads.Asked,
-      child-count-reads.Learnt,
-      child-reads.Asked,
-      child-reads.Learnt,
-      wants-single-reads.Asked,
-      wants-single-reads.Learnt,
-      remove-corresponding-sort-from-sub-plan-below t,
-      remove-corresponding-sort-from-sub-plan.Post,
-      remove-by-reads.Asked,
-      remove-by-reads.Learnt,
-      gather-reads.Asked,
-      gather-reads.Learnt,
-    )
+    (t : ℕ) → remove-corresponding-sort-from-sub-plan-lts.Need-array-write-kids (calls t)
     (remove-corresponding-sort-from-sub-plan-at t)
     remove-corresponding-sort-from-sub-plan.Post
     remove-corresponding-sort-from-sub-plan-Inv-loop
@@ -629,30 +220,7 @@ remove-corresponding-sort-from-sub-plan-array-write-kids :
 remove-corresponding-sort-from-sub-plan-array-write-kids t c = let s = c .before .before .before .before .before .before .before .before .before .before .before .before .before .before .before .before .before .before .before .before .before in let l = c .before .before .before .before .before .before .before .before .before .loop in let i₀ = l .inv .0 in let i₁ = l .inv .1 in let x = c .before .before .before .before .before .before .before .before .loop-test .taken in let f = few-kids (s .args .m .now) (s .args .u) (s .args .h) (s .pre .1) (l .j) (l .w) (l .kids) (l .m) (l .inv .2) in let f₀ = f .0 in let f₁ = f .1 in let wd = l .inv .2 .made .wide in omega arith
 
 remove-corresponding-sort-from-sub-plan-add-j :
-    (t : ℕ) → remove-corresponding-sort-from-sub-plan-lts.Need-add-j (
-      is-marked-reads.Asked,
-      is-marked-reads.Learnt,
-      record-at-reads.Asked,
-      record-at-reads.Learnt,
-      read64-reads.Asked,
-      read64-reads.Learnt,
-      is-sort-reads.Asked,
-      is-sort-reads.Learnt,
-      remove-sort-reads.Asked,
-      remove-sort-reads.Learnt,
-      child-count-reads.Asked,
-      child-count-reads.Learnt,
-      child-reads.Asked,
-      child-reads.Learnt,
-      wants-single-reads.Asked,
-      wants-single-reads.Learnt,
-      remove-corresponding-sort-from-sub-plan-below t,
-      remove-corresponding-sort-from-sub-plan.Post,
-      remove-by-reads.Asked,
-      remove-by-reads.Learnt,
-      gather-reads.Asked,
-      gather-reads.Learnt,
-    )
+    (t : ℕ) → remove-corresponding-sort-from-sub-plan-lts.Need-add-j (calls t)
     (remove-corresponding-sort-from-sub-plan-at t)
     remove-corresponding-sort-from-sub-plan.Post
     remove-corresponding-sort-from-sub-plan-Inv-loop
@@ -660,30 +228,7 @@ remove-corresponding-sort-from-sub-plan-add-j :
 remove-corresponding-sort-from-sub-plan-add-j t c = let s = c .before .before .before .before .before .before .before .before .before .before .before .before .before .before .before .before .before .before .before .before .before in let l = c .before .before .before .before .before .before .before .before .before .loop in let i₀ = l .inv .0 in let i₁ = l .inv .1 in let x = c .before .before .before .before .before .before .before .before .loop-test .taken in let f = few-kids (s .args .m .now) (s .args .u) (s .args .h) (s .pre .1) (l .j) (l .w) (l .kids) (l .m) (l .inv .2) in let f₀ = f .0 in let f₁ = f .1 in let wd = l .inv .2 .made .wide in omega arith
 
 remove-corresponding-sort-from-sub-plan-loop-less :
-    (t : ℕ) → remove-corresponding-sort-from-sub-plan-lts.Need-loop-less (
-      is-marked-reads.Asked,
-      is-marked-reads.Learnt,
-      record-at-reads.Asked,
-      record-at-reads.Learnt,
-      read64-reads.Asked,
-      read64-reads.Learnt,
-      is-sort-reads.Asked,
-      is-sort-reads.Learnt,
-      remove-sort-reads.Asked,
-      remove-sort-reads.Learnt,
-      child-count-reads.Asked,
-      child-count-reads.Learnt,
-      child-reads.Asked,
-      child-reads.Learnt,
-      wants-single-reads.Asked,
-      wants-single-reads.Learnt,
-      remove-corresponding-sort-from-sub-plan-below t,
-      remove-corresponding-sort-from-sub-plan.Post,
-      remove-by-reads.Asked,
-      remove-by-reads.Learnt,
-      gather-reads.Asked,
-      gather-reads.Learnt,
-    )
+    (t : ℕ) → remove-corresponding-sort-from-sub-plan-lts.Need-loop-less (calls t)
     (remove-corresponding-sort-from-sub-plan-at t)
     remove-corresponding-sort-from-sub-plan.Post
     remove-corresponding-sort-from-sub-plan-Inv-loop
@@ -691,30 +236,7 @@ remove-corresponding-sort-from-sub-plan-loop-less :
 remove-corresponding-sort-from-sub-plan-loop-less t c = let x = c .before .before .before .before .before .before .before .before .loop-test .taken in omega arith
 
 remove-corresponding-sort-from-sub-plan-loop-again :
-    (t : ℕ) → remove-corresponding-sort-from-sub-plan-lts.Need-loop-again (
-      is-marked-reads.Asked,
-      is-marked-reads.Learnt,
-      record-at-reads.Asked,
-      record-at-reads.Learnt,
-      read64-reads.Asked,
-      read64-reads.Learnt,
-      is-sort-reads.Asked,
-      is-sort-reads.Learnt,
-      remove-sort-reads.Asked,
-      remove-sort-reads.Learnt,
-      child-count-reads.Asked,
-      child-count-reads.Learnt,
-      child-reads.Asked,
-      child-reads.Learnt,
-      wants-single-reads.Asked,
-      wants-single-reads.Learnt,
-      remove-corresponding-sort-from-sub-plan-below t,
-      remove-corresponding-sort-from-sub-plan.Post,
-      remove-by-reads.Asked,
-      remove-by-reads.Learnt,
-      gather-reads.Asked,
-      gather-reads.Learnt,
-    )
+    (t : ℕ) → remove-corresponding-sort-from-sub-plan-lts.Need-loop-again (calls t)
     (remove-corresponding-sort-from-sub-plan-at t)
     remove-corresponding-sort-from-sub-plan.Post
     remove-corresponding-sort-from-sub-plan-Inv-loop
@@ -722,30 +244,7 @@ remove-corresponding-sort-from-sub-plan-loop-again :
 remove-corresponding-sort-from-sub-plan-loop-again t c = let s = c .before .before .before .before .before .before .before .before .before .before .before .before .before .before .before .before .before .before .before .before .before in let l = c .before .before .before .before .before .before .before .before .before .loop in let i₀ = l .inv .0 in let i₁ = l .inv .1 in let x = c .before .before .before .before .before .before .before .before .loop-test .taken in (i₀, omega arith, going-more (s .args .m .now) (s .args .u) (s .args .h) (s .pre .1) (l .j) (l .w) (l .kids) (l .m) (l .inv .2) (omega arith) _ (c .before .before .before .before .before .before .child .ensures) _ (c .before .before .before .before .wants-single .ensures ∙ ap (λ y. singles (decode y) (l .j)) (c .before .before .before .before .before .before .before .before .before .before .before .before .before .before .before .read64 .ensures ∙ c .before .before .before .before .before .before .before .before .before .before .before .before .before .before .before .before .record-at .ensures)) _ (c .before .before .remove-corresponding-sort-from-sub-plan .kept .0) (c .before .before .remove-corresponding-sort-from-sub-plan .result) (c .before .before .remove-corresponding-sort-from-sub-plan .ensures))
 
 remove-corresponding-sort-from-sub-plan-slice-aggregate-remove-by :
-    (t : ℕ) → remove-corresponding-sort-from-sub-plan-lts.Need-slice-aggregate-remove-by (
-      is-marked-reads.Asked,
-      is-marked-reads.Learnt,
-      record-at-reads.Asked,
-      record-at-reads.Learnt,
-      read64-reads.Asked,
-      read64-reads.Learnt,
-      is-sort-reads.Asked,
-      is-sort-reads.Learnt,
-      remove-sort-reads.Asked,
-      remove-sort-reads.Learnt,
-      child-count-reads.Asked,
-      child-count-reads.Learnt,
-      child-reads.Asked,
-      child-reads.Learnt,
-      wants-single-reads.Asked,
-      wants-single-reads.Learnt,
-      remove-corresponding-sort-from-sub-plan-below t,
-      remove-corresponding-sort-from-sub-plan.Post,
-      remove-by-reads.Asked,
-      remove-by-reads.Learnt,
-      gather-reads.Asked,
-      gather-reads.Learnt,
-    )
+    (t : ℕ) → remove-corresponding-sort-from-sub-plan-lts.Need-slice-aggregate-remove-by (calls t)
     (remove-corresponding-sort-from-sub-plan-at t)
     remove-corresponding-sort-from-sub-plan.Post
     remove-corresponding-sort-from-sub-plan-Inv-loop
@@ -753,30 +252,7 @@ remove-corresponding-sort-from-sub-plan-slice-aggregate-remove-by :
 remove-corresponding-sort-from-sub-plan-slice-aggregate-remove-by t c = search needs
 
 remove-corresponding-sort-from-sub-plan-array-borrow-prefix-kids :
-    (t : ℕ) → remove-corresponding-sort-from-sub-plan-lts.Need-array-borrow-prefix-kids (
-      is-marked-reads.Asked,
-      is-marked-reads.Learnt,
-      record-at-reads.Asked,
-      record-at-reads.Learnt,
-      read64-reads.Asked,
-      read64-reads.Learnt,
-      is-sort-reads.Asked,
-      is-sort-reads.Learnt,
-      remove-sort-reads.Asked,
-      remove-sort-reads.Learnt,
-      child-count-reads.Asked,
-      child-count-reads.Learnt,
-      child-reads.Asked,
-      child-reads.Learnt,
-      wants-single-reads.Asked,
-      wants-single-reads.Learnt,
-      remove-corresponding-sort-from-sub-plan-below t,
-      remove-corresponding-sort-from-sub-plan.Post,
-      remove-by-reads.Asked,
-      remove-by-reads.Learnt,
-      gather-reads.Asked,
-      gather-reads.Learnt,
-    )
+    (t : ℕ) → remove-corresponding-sort-from-sub-plan-lts.Need-array-borrow-prefix-kids (calls t)
     (remove-corresponding-sort-from-sub-plan-at t)
     remove-corresponding-sort-from-sub-plan.Post
     remove-corresponding-sort-from-sub-plan-Inv-loop
@@ -784,30 +260,7 @@ remove-corresponding-sort-from-sub-plan-array-borrow-prefix-kids :
 remove-corresponding-sort-from-sub-plan-array-borrow-prefix-kids t c = let s = c .before .before .before .before .before .before .before .before .before .before .before .before .before .before .before in let l = c .before .before .before .loop in let i₀ = l .inv .0 in let i₁ = l .inv .1 in let x = c .before .before .loop-test .left in let f = few-kids (s .args .m .now) (s .args .u) (s .args .h) (s .pre .1) (l .j) (l .w) (l .kids) (l .m) (l .inv .2) in let f₀ = f .0 in let f₁ = f .1 in let wd = l .inv .2 .made .wide in omega arith
 
 remove-corresponding-sort-from-sub-plan-slice-aggregate-remove-by-2 :
-    (t : ℕ) → remove-corresponding-sort-from-sub-plan-lts.Need-slice-aggregate-remove-by-2 (
-      is-marked-reads.Asked,
-      is-marked-reads.Learnt,
-      record-at-reads.Asked,
-      record-at-reads.Learnt,
-      read64-reads.Asked,
-      read64-reads.Learnt,
-      is-sort-reads.Asked,
-      is-sort-reads.Learnt,
-      remove-sort-reads.Asked,
-      remove-sort-reads.Learnt,
-      child-count-reads.Asked,
-      child-count-reads.Learnt,
-      child-reads.Asked,
-      child-reads.Learnt,
-      wants-single-reads.Asked,
-      wants-single-reads.Learnt,
-      remove-corresponding-sort-from-sub-plan-below t,
-      remove-corresponding-sort-from-sub-plan.Post,
-      remove-by-reads.Asked,
-      remove-by-reads.Learnt,
-      gather-reads.Asked,
-      gather-reads.Learnt,
-    )
+    (t : ℕ) → remove-corresponding-sort-from-sub-plan-lts.Need-slice-aggregate-remove-by-2 (calls t)
     (remove-corresponding-sort-from-sub-plan-at t)
     remove-corresponding-sort-from-sub-plan.Post
     remove-corresponding-sort-from-sub-plan-Inv-loop
@@ -815,30 +268,7 @@ remove-corresponding-sort-from-sub-plan-slice-aggregate-remove-by-2 :
 remove-corresponding-sort-from-sub-plan-slice-aggregate-remove-by-2 t c = let s = c .before .before .before .before .before .before .before .before .before .before .before .before .before .before .before .before in let l = c .before .before .before .before .loop in let i₀ = l .inv .0 in let i₁ = l .inv .1 in let x = c .before .before .before .loop-test .left in let f = few-kids (s .args .m .now) (s .args .u) (s .args .h) (s .pre .1) (l .j) (l .w) (l .kids) (l .m) (l .inv .2) in let f₀ = f .0 in let f₁ = f .1 in let wd = l .inv .2 .made .wide in sym (length-take-le _ (l .kids) (omega arith))
 
 remove-corresponding-sort-from-sub-plan-remove-by-requires :
-    (t : ℕ) → remove-corresponding-sort-from-sub-plan-lts.Need-remove-by-requires (
-      is-marked-reads.Asked,
-      is-marked-reads.Learnt,
-      record-at-reads.Asked,
-      record-at-reads.Learnt,
-      read64-reads.Asked,
-      read64-reads.Learnt,
-      is-sort-reads.Asked,
-      is-sort-reads.Learnt,
-      remove-sort-reads.Asked,
-      remove-sort-reads.Learnt,
-      child-count-reads.Asked,
-      child-count-reads.Learnt,
-      child-reads.Asked,
-      child-reads.Learnt,
-      wants-single-reads.Asked,
-      wants-single-reads.Learnt,
-      remove-corresponding-sort-from-sub-plan-below t,
-      remove-corresponding-sort-from-sub-plan.Post,
-      remove-by-reads.Asked,
-      remove-by-reads.Learnt,
-      gather-reads.Asked,
-      gather-reads.Learnt,
-    )
+    (t : ℕ) → remove-corresponding-sort-from-sub-plan-lts.Need-remove-by-requires (calls t)
     (remove-corresponding-sort-from-sub-plan-at t)
     remove-corresponding-sort-from-sub-plan.Post
     remove-corresponding-sort-from-sub-plan-Inv-loop
@@ -846,30 +276,7 @@ remove-corresponding-sort-from-sub-plan-remove-by-requires :
 remove-corresponding-sort-from-sub-plan-remove-by-requires t c κs = let s = c .before .before .before .before .before .before .before .before .before .before .before .before .before .before .before .before in let l = c .before .before .before .before .loop in let i₀ = l .inv .0 in let i₁ = l .inv .1 in let x = c .before .before .before .loop-test .left in (going-rems (s .args .m .now) (s .args .u) (s .args .h) (s .pre .1) (l .j) (l .w) (l .kids) (l .m) (l .inv .2) _ (omega arith) i₀, (c .before .before .before .before .before .before .before .before .before .before .read64 .ensures ∙ c .before .before .before .before .before .before .before .before .before .before .before .record-at .ensures) ∙ ap (λ k. k .rec) (sym (same-slot (s .args .m .now) (s .args .u) (s .args .h) (s .pre .1) (l .j) (l .w) (l .kids) (l .m) (l .inv .2))), not-code (decode (c .before .before .before .before .before .before .before .before .before .before .read64 .result)) 7 _ (c .before .before .before .before .before .before .before .before .is-sort .ensures) (c .before .before .before .before .before .before .before .if2 .left))
 
 remove-corresponding-sort-from-sub-plan-gather-requires :
-    (t : ℕ) → remove-corresponding-sort-from-sub-plan-lts.Need-gather-requires (
-      is-marked-reads.Asked,
-      is-marked-reads.Learnt,
-      record-at-reads.Asked,
-      record-at-reads.Learnt,
-      read64-reads.Asked,
-      read64-reads.Learnt,
-      is-sort-reads.Asked,
-      is-sort-reads.Learnt,
-      remove-sort-reads.Asked,
-      remove-sort-reads.Learnt,
-      child-count-reads.Asked,
-      child-count-reads.Learnt,
-      child-reads.Asked,
-      child-reads.Learnt,
-      wants-single-reads.Asked,
-      wants-single-reads.Learnt,
-      remove-corresponding-sort-from-sub-plan-below t,
-      remove-corresponding-sort-from-sub-plan.Post,
-      remove-by-reads.Asked,
-      remove-by-reads.Learnt,
-      gather-reads.Asked,
-      gather-reads.Learnt,
-    )
+    (t : ℕ) → remove-corresponding-sort-from-sub-plan-lts.Need-gather-requires (calls t)
     (remove-corresponding-sort-from-sub-plan-at t)
     remove-corresponding-sort-from-sub-plan.Post
     remove-corresponding-sort-from-sub-plan-Inv-loop
@@ -877,30 +284,7 @@ remove-corresponding-sort-from-sub-plan-gather-requires :
 remove-corresponding-sort-from-sub-plan-gather-requires t c κs = let s = c .before .before .before .before .before .before .before .before .before .before .before .before .before .before .before .before .before .before .before .before .before in let l = c .before .before .before .before .before .before .before .before .before .loop in let i₀ = l .inv .0 in let i₁ = l .inv .1 in let x = c .before .before .before .before .before .before .before .before .loop-test .left in end-asks (s .args .m .now) (s .args .u) (s .args .h) (s .pre .1) (l .j) (l .w) (l .kids) (l .m) (l .inv .2) _ (omega arith) i₀ (s .args .single) (sym (c .before .before .before .before .before .before .before .before .before .before .before .before .before .before .before .before .before .before .before .is-marked .ensures) ∙ not-false _ (c .before .before .before .before .before .before .before .before .before .before .before .before .before .before .before .before .before .before .if1 .left)) _ (c .before .before .before .before .remove-by .kept .0) (c .before .before .before .before .remove-by .result) (c .before .before .before .before .remove-by .ensures)
 
 remove-corresponding-sort-from-sub-plan-same-length-2 :
-    (t : ℕ) → remove-corresponding-sort-from-sub-plan-lts.Need-same-length-2 (
-      is-marked-reads.Asked,
-      is-marked-reads.Learnt,
-      record-at-reads.Asked,
-      record-at-reads.Learnt,
-      read64-reads.Asked,
-      read64-reads.Learnt,
-      is-sort-reads.Asked,
-      is-sort-reads.Learnt,
-      remove-sort-reads.Asked,
-      remove-sort-reads.Learnt,
-      child-count-reads.Asked,
-      child-count-reads.Learnt,
-      child-reads.Asked,
-      child-reads.Learnt,
-      wants-single-reads.Asked,
-      wants-single-reads.Learnt,
-      remove-corresponding-sort-from-sub-plan-below t,
-      remove-corresponding-sort-from-sub-plan.Post,
-      remove-by-reads.Asked,
-      remove-by-reads.Learnt,
-      gather-reads.Asked,
-      gather-reads.Learnt,
-    )
+    (t : ℕ) → remove-corresponding-sort-from-sub-plan-lts.Need-same-length-2 (calls t)
     (remove-corresponding-sort-from-sub-plan-at t)
     remove-corresponding-sort-from-sub-plan.Post
     remove-corresponding-sort-from-sub-plan-Inv-loop
@@ -908,30 +292,7 @@ remove-corresponding-sort-from-sub-plan-same-length-2 :
 remove-corresponding-sort-from-sub-plan-same-length-2 t c = c .before .before .gather .kept .0 ∙ c .before .before .before .before .before .before .before .remove-by .kept .0 ∙ c .before .before .before .before .before .before .before .before .before .before .before .before .loop .inv .2 .made .long
 
 remove-corresponding-sort-from-sub-plan-returns-3 :
-    (t : ℕ) → remove-corresponding-sort-from-sub-plan-lts.Need-returns-3 (
-      is-marked-reads.Asked,
-      is-marked-reads.Learnt,
-      record-at-reads.Asked,
-      record-at-reads.Learnt,
-      read64-reads.Asked,
-      read64-reads.Learnt,
-      is-sort-reads.Asked,
-      is-sort-reads.Learnt,
-      remove-sort-reads.Asked,
-      remove-sort-reads.Learnt,
-      child-count-reads.Asked,
-      child-count-reads.Learnt,
-      child-reads.Asked,
-      child-reads.Learnt,
-      wants-single-reads.Asked,
-      wants-single-reads.Learnt,
-      remove-corresponding-sort-from-sub-plan-below t,
-      remove-corresponding-sort-from-sub-plan.Post,
-      remove-by-reads.Asked,
-      remove-by-reads.Learnt,
-      gather-reads.Asked,
-      gather-reads.Learnt,
-    )
+    (t : ℕ) → remove-corresponding-sort-from-sub-plan-lts.Need-returns-3 (calls t)
     (remove-corresponding-sort-from-sub-plan-at t)
     remove-corresponding-sort-from-sub-plan.Post
     remove-corresponding-sort-from-sub-plan-Inv-loop
@@ -942,30 +303,7 @@ pub +remove-corresponding-sort-from-sub-plan-spec : {M : Type 1} → statement M
 +remove-corresponding-sort-from-sub-plan-spec =
     close
     μ-remove-corresponding-sort-from-sub-plan
-    λ t. remove-corresponding-sort-from-sub-plan-lts.spec (
-      is-marked-reads.Asked,
-      is-marked-reads.Learnt,
-      record-at-reads.Asked,
-      record-at-reads.Learnt,
-      read64-reads.Asked,
-      read64-reads.Learnt,
-      is-sort-reads.Asked,
-      is-sort-reads.Learnt,
-      remove-sort-reads.Asked,
-      remove-sort-reads.Learnt,
-      child-count-reads.Asked,
-      child-count-reads.Learnt,
-      child-reads.Asked,
-      child-reads.Learnt,
-      wants-single-reads.Asked,
-      wants-single-reads.Learnt,
-      remove-corresponding-sort-from-sub-plan-below t,
-      remove-corresponding-sort-from-sub-plan.Post,
-      remove-by-reads.Asked,
-      remove-by-reads.Learnt,
-      gather-reads.Asked,
-      gather-reads.Learnt,
-    )
+    λ t. remove-corresponding-sort-from-sub-plan-lts.spec (calls t)
     (remove-corresponding-sort-from-sub-plan-at t)
     remove-corresponding-sort-from-sub-plan.Post
     remove-corresponding-sort-from-sub-plan-Inv-loop
