@@ -53,7 +53,7 @@ unfolding forest
 first-none p m [] l = refl
 first-none p m (h ∷ hs) l = absurd (omega arith)
 
-pub first-kid : (m ks : List ℕ) (d : Tree) → 0 < length ks → treeOf m (getD ks 0 0) ≡ kid0 d (forest m ks)
+first-kid : (m ks : List ℕ) (d : Tree) → 0 < length ks → treeOf m (getD ks 0 0) ≡ kid0 d (forest m ks)
 unfolding forest
 first-kid m [] d l = absurd (omega arith)
 first-kid m (k ∷ ks) d l = refl
@@ -82,7 +82,7 @@ module _ (m : List ℕ) (i : ℕ) (a : Arena m (i + 1)) (o : Op) where
         pos zero e = absurd (e refl)
         pos (suc k) e = omega arith
 
-    pub first-op : (k : ℕ) → k ≡ getD (slot m i .kids) 0 0 → opT (treeOf m (getD (slot m i .kids) 0 0)) ≡ decode (slot m (index k) .rec)
+    first-op : (k : ℕ) → k ≡ getD (slot m i .kids) 0 0 → opT (treeOf m (getD (slot m i .kids) 0 0)) ≡ decode (slot m (index k) .rec)
     first-op k e =
         ap (λ h. opT (treeOf m h)) (sym e) ∙ ap opT (tree-of m k (kid-older m i a 0 some-kid k e))
 
