@@ -29,7 +29,7 @@ use Rattle.plan_context.specs.Laws.{slot-same, tree-same, same-trans}
 use Rattle.plan_context.specs.Nodes.{Seen}
 use Rattle.plan_context.specs.Opening.{grown-none, grown-more}
 use Rattle.parallelize_sorts.specs.From.{from, from-first, from-next}
-use Rattle.parallelize_sorts.specs.Shown.{Held, held-at, view, tree-of}
+use Rattle.parallelize_sorts.specs.Shown.{view, tree-of, up-to}
 use Rattle.parallelize_sorts.specs.Skipping.{Skips}
 use Rattle.parallelize_sorts.specs.Sizes.{skip-size, one-size, each-size}
 use Rattle.parallelize_sorts.specs.Settling.{Lifts}
@@ -70,11 +70,14 @@ module _ (b₀ : List ℕ) (u h : ℕ) (p : Opens b₀ u h) where
   abbrev free : ℕ → Bool
   free i = not (singles (decode (slot b₀ (index h) .rec)) i)
 
-  pub own : Held b₀ u (index h)
-  own = held-at b₀ u h (p .arena) (p .here)
+  pub own : Arena b₀ (index h + 1)
+  own = up-to b₀ u h (p .arena) (p .here)
+
+  half : index h < u
+  half = let l = p .here in omega arith
 
   pub shown : Seen b₀ (index h)
-  shown = view b₀ u (index h) own
+  shown = view b₀ (index h) own
 
   whole : sizeT (treeOf b₀ h) ≡ suc (size (forest b₀ (slot b₀ (index h) .kids)))
   whole = ap sizeT (shown .tree)
@@ -95,7 +98,7 @@ module _ (b₀ : List ℕ) (u h : ℕ) (p : Opens b₀ u h) where
     now : openOne q (treeOf b₀ h) ≡ settle (record { op = decode (slot b₀ (index h) .rec); mark = true }) (opened (not (singles (decode (slot b₀ (index h) .rec)) 0)) (decode (slot b₀ (index h) .rec)) (forest b₀ (slot b₀ (index h) .kids)) (openEach (λ i. not (singles (decode (slot b₀ (index h) .rec)) i)) (forest b₀ (slot b₀ (index h) .kids))))
     now =
         let d : Forest Marked = opened (free 0) o c₀ (openEach free c₀) in
-        ap (openOne q) (tree-of b₀ u h own)
+        ap (openOne q) (tree-of b₀ h own)
         ∙ ap₂ (λ x y. cond (x && y) (settle (record { op = o; mark = x }) d) (node o x c₀)) (and-left (marked h) q e) (and-right (marked h) q e)
 
     module _ (b : Bool) (f : b ≡ firstIs bottleneck (forest b₀ (slot b₀ (index h) .kids)) && not (singles (decode (slot b₀ (index h) .rec)) 0)) where
@@ -104,7 +107,7 @@ module _ (b₀ : List ℕ) (u h : ℕ) (p : Opens b₀ u h) where
         pub first-lifts : Lifts b₀ u (index h) r
         first-lifts =
             let x = p .room in let y = p .small in let z = whole in
-            record { held = own; rec = hr; room = omega arith; small = omega arith; first = and-left (firstIs bottleneck c₀) (free 0) (sym f ∙ t) }
+            record { arena = p .arena; low = half; rec = hr; room = omega arith; small = omega arith; first = and-left (firstIs bottleneck c₀) (free 0) (sym f ∙ t) }
 
         pub first-grown : (b' : List ℕ) (a : At) → Grown b₀ u b' a (settle (record { op = decode r; mark = true }) (liftFirst (decode r) (forest b₀ (slot b₀ (index h) .kids)))) (u + 1) → Grown b₀ u b' a (openOne q (treeOf b₀ h)) (u + sizeT (treeOf b₀ h))
         first-grown b' a g =
@@ -123,7 +126,7 @@ module _ (b₀ : List ℕ) (u h : ℕ) (p : Opens b₀ u h) where
   module _ (j w : ℕ) (kids b : List ℕ) (q : Going b₀ u h j w kids b) where
     -- the node is still there
     same-slot : slot b (index h) ≡ slot b₀ (index h)
-    same-slot = slot-same u b₀ b (q .made .old) (index h) (own .low)
+    same-slot = slot-same u b₀ b (q .made .old) (index h) half
 
     pub node-room : (index h + 1) * slotSize ≤ length b
     node-room = let l = q .made .long in let x = own-asks .0 in omega arith
@@ -189,7 +192,7 @@ module _ (b₀ : List ℕ) (u h : ℕ) (p : Opens b₀ u h) where
       module _ (r : List ℕ) (hr : r ≡ slot b₀ (index h) .rec) where
         pub end-puts : Puts b w r (take n kids) × (index h < w)
         end-puts =
-            let v = q .left in let t = whole in let l = q .made .long in let x = p .room in let y = p .small in let z = each-size free c₀ in let s = shown .small in let f = ap size news in let d = q .made .more in let i = own .low in (
+            let v = q .left in let t = whole in let l = q .made .long in let x = p .room in let y = p .small in let z = each-size free c₀ in let s = shown .small in let f = ap size news in let d = q .made .more in let i = half in (
               record {
                 arena = q .made .arena;
                 room = omega arith;
@@ -236,17 +239,17 @@ module _ (m : List ℕ) (u h : ℕ) (p : Opens m u h) (r : List ℕ) where
   t = treeOf m h
 
   op-is : decode (slot m (index h) .rec) ≡ opT (treeOf m h)
-  op-is = ap opT (sym (tree-of m u h (held-at m u h (p .arena) (p .here))))
+  op-is = ap opT (sym (tree-of m h (up-to m u h (p .arena) (p .here))))
 
   module _ (b : Bool) (e : b ≡ bottleneck (decode (slot m (index h) .rec))) where
     by-first : (x : Bool) → b ≡ x → cond x (skipSame (decode r) (treeOf m h) (treeOf m h .kids)) (openOne true (treeOf m h)) ≡ freed (over (decode r) false (treeOf m h))
     by-first x f = ap (λ y. cond y (skipSame (decode r) t (t .kids)) (openOne true t)) (sym f ∙ e ∙ ap bottleneck op-is) ∙ sym (freed-by (decode r) false t)
 
-    pub root-skips : b ≡ true → Skips m u h
-    root-skips x = record { arena = p .arena; here = p .here; coalesce = ap bottleneck (sym op-is) ∙ sym e ∙ x }
+    pub root-skips : b ≡ true → Skips m h
+    root-skips x = record { arena = up-to m u h (p .arena) (p .here); coalesce = ap bottleneck (sym op-is) ∙ sym e ∙ x }
 
-    pub root-lifted : b ≡ true → (k : ℕ) → (k < 2 * u) × (treeOf m k ≡ skipSame (decode r) (treeOf m h) (treeOf m h .kids)) → Grown m u m (record { used = u; root = k }) (freed (over (decode r) false (treeOf m h))) (u + sizeT (treeOf m h))
-    root-lifted x k q = subst (λ y. Grown m u m (record { used = u; root = k }) y (u + sizeT (treeOf m h))) (q .1 ∙ by-first true x) (grown-none m u k (u + sizeT (treeOf m h)) (p .arena) (q .0) (omega arith))
+    pub root-lifted : b ≡ true → (k : ℕ) → (k < h) × (treeOf m k ≡ skipSame (decode r) (treeOf m h) (treeOf m h .kids)) → Grown m u m (record { used = u; root = k }) (freed (over (decode r) false (treeOf m h))) (u + sizeT (treeOf m h))
+    root-lifted x k q = let l = q .0 in let y = p .here in subst (λ y. Grown m u m (record { used = u; root = k }) y (u + sizeT (treeOf m h))) (q .1 ∙ by-first true x) (grown-none m u k (u + sizeT (treeOf m h)) (p .arena) (omega arith) (omega arith))
 
     pub root-opened : b ≡ false → (m' : List ℕ) (a : At) → Grown m u m' a (openOne true (treeOf m h)) (u + sizeT (treeOf m h)) → Grown m u m' a (freed (over (decode r) false (treeOf m h))) (u + sizeT (treeOf m h))
     root-opened x m' a g = subst (λ y. Grown m u m' a y (u + sizeT (treeOf m h))) (by-first false x) g

@@ -30,14 +30,14 @@ use Rattle.walks.specs.Trees.{OkT, ok-fit, arity, children-fit, FitsA}
 use Rattle.walks.specs.Keeps.{kept-node, like-refl, KeepsAll, all-kept-refl, shape-ind}
 use Rattle.walks.specs.ParallelizeKept.{opened-kept}
 use Rattle.walks.specs.ParallelizeSorts.{bottleneck, firstIs, idle, liftFirst, opened, samePartitioning, settle, skipSame}
-use Rattle.plan_context.specs.View.{treeOf, forest, mostNodes, mostSlots, Grown, Here, Over, Puts}
+use Rattle.plan_context.specs.View.{treeOf, forest, mostNodes, mostSlots, Arena, Grown, Here, Over, Puts}
 use Rattle.plan_context.specs.Facts.{Tells}
 use Rattle.plan_context.specs.Handles.{Marks}
-use Rattle.plan_context.specs.Laws.{facts-at}
+use Rattle.plan_context.specs.Laws.{facts-at, fewer}
 use Rattle.plan_context.specs.Nodes.{seen, rule}
 use Rattle.plan_context.specs.Opening.{grown-none}
 use Rattle.plan_context.specs.Putting.{put-over}
-use Rattle.parallelize_sorts.specs.Shown.{Held, held-at, view, room, held-proper, record-proper, tree-of, kid-asks, kid-low}
+use Rattle.parallelize_sorts.specs.Shown.{view, node-proper, record-proper, tree-of, kid-asks, kid-low, kid-older}
 use Rattle.parallelize_sorts.specs.Skipping.{Skips}
 use Rattle.parallelize_sorts.specs.Sizes.{lift-size}
 
@@ -53,19 +53,19 @@ unfolding forest
 first-none p m [] l = refl
 first-none p m (h ∷ hs) l = absurd (omega arith)
 
-pub first-kid : (m ks : List ℕ) (d : Tree) → 0 < length ks → treeOf m (getD ks 0 0) ≡ kid0 d (forest m ks)
+first-kid : (m ks : List ℕ) (d : Tree) → 0 < length ks → treeOf m (getD ks 0 0) ≡ kid0 d (forest m ks)
 unfolding forest
 first-kid m [] d l = absurd (omega arith)
 first-kid m (k ∷ ks) d l = refl
 
 -- ---- a node whose first child can be taken out
 
-module _ (m : List ℕ) (u i : ℕ) (a : Held m u i) (o : Op) where
+module _ (m : List ℕ) (i : ℕ) (a : Arena m (i + 1)) (o : Op) where
   abbrev hs : List ℕ
   hs = slot m i .kids
 
   pub no-first : children (slot m i .rec) ≡ 0 → false ≡ firstIs bottleneck (forest m (slot m i .kids)) && not (singles o 0)
-  no-first e = let n = view m u i a .count in sym (ap (λ x. x && not (singles o 0)) (first-none bottleneck m hs (omega arith)))
+  no-first e = let n = view m i a .count in sym (ap (λ x. x && not (singles o 0)) (first-none bottleneck m hs (omega arith)))
 
   pub single-first : singles o 0 ≡ true → false ≡ firstIs bottleneck (forest m (slot m i .kids)) && not (singles o 0)
   single-first e = sym (ap (λ x. firstIs bottleneck (forest m hs) && not x) e ∙ and-no (firstIs bottleneck (forest m hs)))
@@ -76,16 +76,15 @@ module _ (m : List ℕ) (u i : ℕ) (a : Held m u i) (o : Op) where
 
   module _ (n : children (slot m i .rec) ≡ 0 → ⊥) where
     pub some-kid : 0 < length (slot m i .kids)
-    some-kid = let c = view m u i a .count in pos (length hs) (λ e. n (c ∙ e))
+    some-kid = let c = view m i a .count in pos (length hs) (λ e. n (c ∙ e))
       where
         pos : (k : ℕ) → (k ≡ 0 → ⊥) → 0 < k
         pos zero e = absurd (e refl)
         pos (suc k) e = omega arith
 
-    pub first-op : (k : ℕ) → k ≡ getD (slot m i .kids) 0 0 → opT (treeOf m (getD (slot m i .kids) 0 0)) ≡ decode (slot m (index k) .rec)
+    first-op : (k : ℕ) → k ≡ getD (slot m i .kids) 0 0 → opT (treeOf m (getD (slot m i .kids) 0 0)) ≡ decode (slot m (index k) .rec)
     first-op k e =
-        let x = kid-low m u i a 0 some-kid in let l = a .low in
-        ap (λ h. opT (treeOf m h)) (sym e) ∙ ap opT (tree-of m u k (held-at m u k (a .arena) (omega arith)))
+        ap (λ h. opT (treeOf m h)) (sym e) ∙ ap opT (tree-of m k (kid-older m i a 0 some-kid k e))
 
     pub looks-first : singles o 0 ≡ false → (k : ℕ) → k ≡ getD (slot m i .kids) 0 0 → (b : Bool) → b ≡ bottleneck (decode (slot m (index k) .rec)) → b ≡ firstIs bottleneck (forest m (slot m i .kids)) && not (singles o 0)
     looks-first s k e b q =
@@ -176,7 +175,8 @@ root-small m u m' a t top g = let h = g .here in let s = g .arena .small in omeg
 -- ---- the first child lifted
 
 pub record Lifts (m : List ℕ) (u i : ℕ) (r : List ℕ) : Type 0 where
-  pub held : Held m u i
+  pub arena : Arena m u
+  pub low : i < u
   pub rec : r ≡ slot m i .rec
   pub room : (u + 1) * slotSize ≤ length m
   pub small : u < mostSlots
@@ -201,6 +201,9 @@ module _ (m : List ℕ) (u i : ℕ) (r : List ℕ) (p : Lifts m u i r) where
   abbrev o : Op
   o = decode (slot m i .rec)
 
+  pub node-older : Arena m (i + 1)
+  node-older = let l = p .low in fewer m u (i + 1) (omega arith) (p .arena)
+
   lift-some : 0 < length (slot m i .kids)
   lift-some = go (length ls) refl
     where
@@ -209,21 +212,20 @@ module _ (m : List ℕ) (u i : ℕ) (r : List ℕ) (p : Lifts m u i r) where
       go (suc n) e = omega arith
 
   pub lift-asks : ((i + 1) * slotSize ≤ length m) × (0 < children (slot m i .rec)) × (children (slot m i .rec) ≤ 8)
-  lift-asks = kid-asks m u i (p .held) 0 lift-some
+  lift-asks = kid-asks m i node-older 0 lift-some
 
   pub lift-proper : Proper r
-  lift-proper = subst Proper (sym (p .rec)) (held-proper m u i (p .held))
+  lift-proper = subst Proper (sym (p .rec)) (node-proper m i node-older)
 
-  pub lift-skips : (k : ℕ) → k ≡ getD (slot m i .kids) 0 0 → Skips m u k
+  pub lift-skips : (k : ℕ) → k ≡ getD (slot m i .kids) 0 0 → Skips m k
   lift-skips k e =
-      let x = kid-low m u i (p .held) 0 lift-some in let l = p .held .low in
-      record { arena = p .held .arena; here = omega arith; coalesce = ap (λ h. bottleneck (opT (treeOf m h))) e ∙ sym (first-is bottleneck m ls lift-some) ∙ p .first }
+      record { arena = kid-older m i node-older 0 lift-some k e; coalesce = ap (λ h. bottleneck (opT (treeOf m h))) e ∙ sym (first-is bottleneck m ls lift-some) ∙ p .first }
 
   -- the new children
   module _ (kids : List ℕ) (w : length kids ≡ 8) (q : take (length (slot m i .kids)) kids ≡ slot m i .kids) (h : ℕ) (eh : h ≡ getD (slot m i .kids) 0 0) (k : ℕ)
-      (sk : (k < 2 * u) × (treeOf m k ≡ skipSame (decode r) (treeOf m h) (treeOf m h .kids))) (n : ℕ) (en : n ≡ children (slot m i .rec)) where
+      (sk : (k < h) × (treeOf m k ≡ skipSame (decode r) (treeOf m h) (treeOf m h .kids))) (n : ℕ) (en : n ≡ children (slot m i .rec)) where
     tally : n ≡ length (slot m i .kids)
-    tally = en ∙ view m u i (p .held) .count
+    tally = en ∙ view m i node-older .count
 
     handles : take n (set kids 0 k) ≡ set (slot m i .kids) 0 k
     handles = let z = lift-some in let y = tally in take-set-lt n kids 0 k (omega arith) ∙ ap (λ l. set l 0 k) (ap (λ j. take j kids) tally ∙ q)
@@ -232,25 +234,25 @@ module _ (m : List ℕ) (u i : ℕ) (r : List ℕ) (p : Lifts m u i r) where
     forest-is = ap (forest m) handles ∙ lifted (decode r) m ls k lift-some (sk .1 ∙ ap (λ x. skipSame (decode r) (treeOf m x) (treeOf m x .kids)) eh)
 
     pub few-wide : n ≤ length (set kids 0 k)
-    few-wide = let y = tally in let z = view m u i (p .held) .few in let x = length-set kids 0 k in omega arith
+    few-wide = let y = tally in let z = view m i node-older .few in let x = length-set kids 0 k in omega arith
 
     lift-ok : OkT (node (decode r) false (liftFirst (decode r) (forest m (slot m i .kids))))
     lift-ok =
         rw (p .rec)
-        (let v = view m u i (p .held) .ok in
+        (let v = view m i node-older .ok in
         let f = ok-fit (tree o (strip c) none) (v .0, v .1, tt) in
         let k₁ : KeepsAll false true true c (liftFirst o c) = subst (λ x. KeepsAll false true true c (cond (x && true) (liftFirst o c) c)) (p .first) (opened-kept true o c c (f .1) (all-kept-refl c (f .1))) in
         kept-node o o false false c (liftFirst o c) (like-refl o) (f .0) k₁ .ok refl v)
 
     pub lift-puts : Puts m u r (take n (set kids 0 k))
     lift-puts =
-        let v = view m u i (p .held) in let s = v .small in let z = lift-size (decode r) c in let l = p .held .low in
+        let v = view m i node-older in let s = v .small in let z = lift-size (decode r) c in let l = p .low in let f = sk .0 in let j = kid-low m i node-older 0 lift-some in
         let y : length (take n (set kids 0 k)) ≡ length (slot m i .kids) = ap length handles ∙ length-set ls 0 k in
         record {
-          arena = p .held .arena;
+          arena = p .arena;
           room = p .room;
           small = p .small;
-          below = subst (Below (2 * u)) (sym handles) (below-set (2 * u) ls k (below-more ls (omega arith) (v .below)) (sk .0));
+          below = subst (Below (2 * u)) (sym handles) (below-set (2 * u) ls k (below-more ls (omega arith) (v .below)) (omega arith));
           canon = p .rec ∙ v .canon ∙ ap₂ (λ x t. encode x (decode t)) (sym y) (sym (p .rec));
           ok = subst (λ f. OkT (node (decode r) false f)) (sym forest-is) lift-ok;
           few = subst (λ f. suc (size f) ≤ mostNodes) (sym forest-is) (omega arith);

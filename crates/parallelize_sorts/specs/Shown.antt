@@ -1,4 +1,4 @@
--- A node in a slot: its record is proper, and its children stand in older slots.
+-- A node in a slot: its record is proper, and its children stand in older slots. An arena of i + 1 slots ends with node i.
 use mathlib.Core.Path.{_≡_, sym, ap, _∙_}
 use mathlib.Core.Bool.{true, false, _&&_}
 use mathlib.Core.List.{List, map}
@@ -24,7 +24,7 @@ use Rattle.walks.specs.NewNodes.{narrow}
 use Rattle.walks.specs.Trees.{Ok, OkT}
 use Rattle.plan_context.specs.View.{treeOf, forest, Arena, Over}
 use Rattle.plan_context.specs.Nodes.{counts-of, Seen, seen}
-use Rattle.plan_context.specs.Laws.{length-facts}
+use Rattle.plan_context.specs.Laws.{length-facts, fewer}
 
 -- ---- records of plans' nodes
 
@@ -44,21 +44,17 @@ record-proper r n c e k =
 pub over-proper : (m r ks : List ℕ) → Over m r ks → Proper r
 over-proper m r ks o = record-proper r (length ks) (forest m ks) (o .canon) (o .ok)
 
--- ---- node i of an arena
+-- ---- node i, and those that are older
 
-pub record Held (m : List ℕ) (u i : ℕ) : Type 0 where
-  pub arena : Arena m u
-  pub low : i < u
-
-module _ (m : List ℕ) (u i : ℕ) (a : Held m u i) where
+module _ (m : List ℕ) (i : ℕ) (a : Arena m (i + 1)) where
   pub view : Seen m i
-  view = seen m i (a .arena .all i (a .low) .proper)
+  view = seen m i (a .all i (omega arith) .proper)
 
   pub room : (i + 1) * slotSize ≤ length m
-  room = let s = a .arena .slots in let l = a .low in omega arith
+  room = a .slots
 
-  pub held-proper : Proper (slot m i .rec)
-  held-proper = record-proper (slot m i .rec) (length (slot m i .kids)) (forest m (slot m i .kids)) (view .canon) (view .ok)
+  pub node-proper : Proper (slot m i .rec)
+  node-proper = record-proper (slot m i .rec) (length (slot m i .kids)) (forest m (slot m i .kids)) (view .canon) (view .ok)
 
   pub counted : childrenOk (decode (slot m i .rec)) (length (slot m i .kids)) ≡ true
   counted = ap (childrenOk (decode (slot m i .rec))) (sym (length-facts m (slot m i .kids))) ∙ counts-of (decode (slot m i .rec)) (known (forest m (slot m i .kids))) (view .ok .0) .count
@@ -71,12 +67,12 @@ module _ (m : List ℕ) (u i : ℕ) (a : Held m u i) where
     pub kid-low : getD (slot m i .kids) j 0 < 2 * i
     kid-low = below-at (2 * i) (slot m i .kids) j (view .below) l
 
-    pub kid-held : (k : ℕ) → k ≡ getD (slot m i .kids) j 0 → Held m u (index k)
-    kid-held k e = let x = kid-low in let y = a .low in record { arena = a .arena; low = omega arith }
+    pub kid-older : (k : ℕ) → k ≡ getD (slot m i .kids) j 0 → Arena m (index k + 1)
+    kid-older k e = let x = kid-low in fewer m (i + 1) (index k + 1) (omega arith) a
 
 -- the tree of a handle
-pub held-at : (m : List ℕ) (u h : ℕ) → Arena m u → h < 2 * u → Held m u (index h)
-held-at m u h a l = record { arena = a; low = omega arith }
+pub up-to : (m : List ℕ) (u h : ℕ) → Arena m u → h < 2 * u → Arena m (index h + 1)
+up-to m u h a l = fewer m u (index h + 1) (omega arith) a
 
-pub tree-of : (m : List ℕ) (u h : ℕ) → Held m u (index h) → treeOf m h ≡ node (decode (slot m (index h) .rec)) (marked h) (forest m (slot m (index h) .kids))
-tree-of m u h a = ap (setMark (marked h)) (view m u (index h) a .tree)
+pub tree-of : (m : List ℕ) (h : ℕ) → Arena m (index h + 1) → treeOf m h ≡ node (decode (slot m (index h) .rec)) (marked h) (forest m (slot m (index h) .kids))
+tree-of m h a = ap (setMark (marked h)) (view m (index h) a .tree)

@@ -17,73 +17,69 @@ use Rattle.walks.specs.Keeps.{pass-one}
 use Rattle.walks.specs.ParallelizeKept.{bottleneck-pass, part-pass}
 use Rattle.walks.specs.ParallelizeSorts.{bottleneck, samePartitioning, skipSame}
 use Rattle.plan_context.specs.View.{treeOf, forest, Arena}
-use Rattle.parallelize_sorts.specs.Shown.{Held, held-at, counted, kid-asks, kid-low, tree-of}
+use Rattle.parallelize_sorts.specs.Shown.{counted, kid-asks, kid-low, tree-of, up-to}
 
 -- The tree at h is a coalesce without a fetch
-pub record Skips (m : List ℕ) (u h : ℕ) : Type 0 where
-  pub arena : Arena m u
-  pub here : h < 2 * u
+pub record Skips (m : List ℕ) (h : ℕ) : Type 0 where
+  pub arena : Arena m (index h + 1)
   pub coalesce : bottleneck (opT (treeOf m h)) ≡ true
 
--- k stands where a look at repartitions is due
-pub record Skipping (m : List ℕ) (u : ℕ) (o : Op) (h k : ℕ) : Type 0 where
-  pub here : k < 2 * u
+-- k, below h, stands where a look at repartitions is due
+pub record Skipping (m : List ℕ) (o : Op) (h k : ℕ) : Type 0 where
+  pub low : k < h
   pub is : cond (samePartitioning o (opT (treeOf m k))) (skipSame o (treeOf m k) (treeOf m k .kids)) (treeOf m k) ≡ skipSame o (treeOf m h) (treeOf m h .kids)
 
 -- kinds 5 to 8 have one child
-pub passing-one : (m : List ℕ) (u i : ℕ) → Held m u i → passing (decode (slot m i .rec)) ≡ true → length (slot m i .kids) ≡ 1
-passing-one m u i a e = subst (λ z. FitsA z (length (slot m i .kids))) (pass-one (decode (slot m i .rec)) e) (children-fit (decode (slot m i .rec)) (length (slot m i .kids)) (counted m u i a))
+passing-one : (m : List ℕ) (i : ℕ) → Arena m (i + 1) → passing (decode (slot m i .rec)) ≡ true → length (slot m i .kids) ≡ 1
+passing-one m i a e = subst (λ z. FitsA z (length (slot m i .kids))) (pass-one (decode (slot m i .rec)) e) (children-fit (decode (slot m i .rec)) (length (slot m i .kids)) (counted m i a))
 
 first-skip : (o : Op) (d : Tree) (m : List ℕ) (hs : List ℕ) → 0 < length hs → skipSame o d (forest m hs) ≡ cond (samePartitioning o (opT (treeOf m (getD hs 0 0)))) (skipSame o (treeOf m (getD hs 0 0)) (treeOf m (getD hs 0 0) .kids)) (treeOf m (getD hs 0 0))
 unfolding forest
 first-skip o d m [] l = absurd (omega arith)
 first-skip o d m (h ∷ hs) l = refl
 
-module _ (m : List ℕ) (u : ℕ) (a : Arena m u) (o : Op) (h : ℕ) (l : h < 2 * u) where
-  -- the next handle, below a node of one child
-  module _ (p : passing (opT (treeOf m h)) ≡ true) where
-    one : length (slot m (index h) .kids) ≡ 1
-    one = passing-one m u (index h) (held-at m u h a l) (ap (λ t. passing (opT t)) (sym (tree-of m u h (held-at m u h a l))) ∙ p)
+-- the next handle, below a node of one child
+module _ (m : List ℕ) (o : Op) (h : ℕ) (a : Arena m (index h + 1)) (p : passing (opT (treeOf m h)) ≡ true) where
+  one : length (slot m (index h) .kids) ≡ 1
+  one = passing-one m (index h) a (ap (λ t. passing (opT t)) (sym (tree-of m h a)) ∙ p)
 
-    pub down-asks : ((index h + 1) * slotSize ≤ length m) × (0 < children (slot m (index h) .rec)) × (children (slot m (index h) .rec) ≤ 8)
-    down-asks = let x = one in kid-asks m u (index h) (held-at m u h a l) 0 (omega arith)
+  down-asks : ((index h + 1) * slotSize ≤ length m) × (0 < children (slot m (index h) .rec)) × (children (slot m (index h) .rec) ≤ 8)
+  down-asks = let x = one in kid-asks m (index h) a 0 (omega arith)
 
-    pub down : (k : ℕ) → k ≡ getD (slot m (index h) .kids) 0 0 → (k < h) × Skipping m u o h k
-    down k e =
-        let x = one in let y = kid-low m u (index h) (held-at m u h a l) 0 (omega arith) in
-        let z = first-skip o (treeOf m h) m (slot m (index h) .kids) (omega arith) in (
-          omega arith,
-          record {
-            here = omega arith;
-            is = ap (λ c. cond (samePartitioning o (opT (treeOf m c))) (skipSame o (treeOf m c) (treeOf m c .kids)) (treeOf m c)) e ∙ sym z ∙ ap (λ t. skipSame o (treeOf m h) (t .kids)) (sym (tree-of m u h (held-at m u h a l)));
-          },
-        )
+  down : (k : ℕ) → k ≡ getD (slot m (index h) .kids) 0 0 → Skipping m o h k
+  down k e =
+      let x = one in let y = kid-low m (index h) a 0 (omega arith) in
+      let z = first-skip o (treeOf m h) m (slot m (index h) .kids) (omega arith) in
+      record {
+        low = omega arith;
+        is = ap (λ c. cond (samePartitioning o (opT (treeOf m c))) (skipSame o (treeOf m c) (treeOf m c .kids)) (treeOf m c)) e ∙ sym z ∙ ap (λ t. skipSame o (treeOf m h) (t .kids)) (sym (tree-of m h a));
+      }
 
-module _ (m : List ℕ) (u h : ℕ) (p : Skips m u h) (o : Op) where
+module _ (m : List ℕ) (h : ℕ) (p : Skips m h) (o : Op) where
   pub skip-asks : ((index h + 1) * slotSize ≤ length m) × (0 < children (slot m (index h) .rec)) × (children (slot m (index h) .rec) ≤ 8)
-  skip-asks = down-asks m u (p .arena) o h (p .here) (bottleneck-pass (opT (treeOf m h)) (p .coalesce))
+  skip-asks = down-asks m o h (p .arena) (bottleneck-pass (opT (treeOf m h)) (p .coalesce))
 
-  pub skip-first : (k : ℕ) → k ≡ getD (slot m (index h) .kids) 0 0 → Skipping m u o h k
-  skip-first k e = down m u (p .arena) o h (p .here) (bottleneck-pass (opT (treeOf m h)) (p .coalesce)) k e .1
+  pub skip-first : (k : ℕ) → k ≡ getD (slot m (index h) .kids) 0 0 → Skipping m o h k
+  skip-first k e = down m o h (p .arena) (bottleneck-pass (opT (treeOf m h)) (p .coalesce)) k e
 
-  module _ (k : ℕ) (q : Skipping m u o h k) where
-    pub look-held : Held m u (index k)
-    look-held = held-at m u k (p .arena) (q .here)
+  module _ (k : ℕ) (q : Skipping m o h k) where
+    pub older : Arena m (index k + 1)
+    older = let l = q .low in up-to m (index h + 1) k (p .arena) (omega arith)
 
     op-is : opT (treeOf m k) ≡ decode (slot m (index k) .rec)
-    op-is = ap opT (tree-of m u k look-held)
+    op-is = ap opT (tree-of m k older)
 
     module _ (b : Bool) (e : b ≡ samePartitioning o (decode (slot m (index k) .rec))) where
       same-is : samePartitioning o (opT (treeOf m k)) ≡ b
       same-is = ap (samePartitioning o) op-is ∙ sym e
 
       pub skip-asks-more : b ≡ true → ((index k + 1) * slotSize ≤ length m) × (0 < children (slot m (index k) .rec)) × (children (slot m (index k) .rec) ≤ 8)
-      skip-asks-more t = down-asks m u (p .arena) o k (q .here) (part-pass o (opT (treeOf m k)) (same-is ∙ t))
+      skip-asks-more t = down-asks m o k older (part-pass o (opT (treeOf m k)) (same-is ∙ t))
 
-      pub skip-more : b ≡ true → (j : ℕ) → j ≡ getD (slot m (index k) .kids) 0 0 → (j < k) × Skipping m u o h j
+      pub skip-more : b ≡ true → (j : ℕ) → j ≡ getD (slot m (index k) .kids) 0 0 → (j < k) × Skipping m o h j
       skip-more t j f =
-          let d = down m u (p .arena) o k (q .here) (part-pass o (opT (treeOf m k)) (same-is ∙ t)) j f in
-          (d .0, record { here = d .1 .here; is = d .1 .is ∙ ap (λ x. cond x (skipSame o (treeOf m k) (treeOf m k .kids)) (treeOf m k)) (sym (same-is ∙ t)) ∙ q .is })
+          let d = down m o k older (part-pass o (opT (treeOf m k)) (same-is ∙ t)) j f in let x = d .low in let y = q .low in
+          (x, record { low = omega arith; is = d .is ∙ ap (λ x. cond x (skipSame o (treeOf m k) (treeOf m k .kids)) (treeOf m k)) (sym (same-is ∙ t)) ∙ q .is })
 
       pub skip-end : b ≡ false → treeOf m k ≡ skipSame o (treeOf m h) (treeOf m h .kids)
       skip-end t = ap (λ x. cond x (skipSame o (treeOf m k) (treeOf m k .kids)) (treeOf m k)) (sym (same-is ∙ t)) ∙ q .is

@@ -17,7 +17,7 @@ use plan_context::putting::update_plan_from_children;
 use row_facts::asked::streams;
 ghost use mathlib.Core.Path.{_≡_};
 ghost use mathlib.Core.Bool.{true, false, not, _&&_};
-ghost use Prim.Native.Nat.{_+_, _*_, _<_};
+ghost use Prim.Native.Nat.{_+_, _<_};
 ghost use lib.ListN.{length, take};
 ghost use Rattle.semantics.specs.Properties.{singles};
 ghost use Rattle.plan_codec.specs.Decode.{decode};
@@ -25,16 +25,15 @@ ghost use Rattle.record_fields.specs.Proper.{Proper};
 ghost use Rattle.walks.specs.Marks.{shape, over, sizeT};
 ghost use Rattle.walks.specs.ParallelizeSorts.{bottleneck, firstIs, freed, idle, liftFirst, settle as settled, skipSame};
 ghost use Rattle.arena.specs.Arena.{slot};
-ghost use Rattle.plan_context.specs.View.{treeOf, forest, Grown, Over, Puts};
-ghost use Rattle.parallelize_sorts.specs.Shown.{Held};
+ghost use Rattle.plan_context.specs.View.{treeOf, forest, Arena, Grown, Over, Puts};
 ghost use Rattle.parallelize_sorts.specs.Skipping.{Skips};
 ghost use Rattle.parallelize_sorts.specs.Settling.{Lifts};
 ghost use Rattle.parallelize_sorts.specs.Removing.{openOne, Opens};
 
 // The first tree below the coalesce at h, past repartitions that are equal to the node with the record r.
-fn skip_same(m: &[u8], u: usize, r: &[u8], h: usize) -> usize
-    requires { ⌜ Proper (now r) × Skips (now m) u h ⌝ }
-    ensures { λ k. ⌜ (k < 2 * u) × (treeOf (now (m .entry)) k ≡ skipSame (decode (now (r .entry))) (treeOf (now (m .entry)) h) (treeOf (now (m .entry)) h .kids)) ⌝ }
+fn skip_same(m: &[u8], r: &[u8], h: usize) -> usize
+    requires { ⌜ Proper (now r) × Skips (now m) h ⌝ }
+    ensures { λ k. ⌜ (k < h) × (treeOf (now (m .entry)) k ≡ skipSame (decode (now (r .entry))) (treeOf (now (m .entry)) h) (treeOf (now (m .entry)) h .kids)) ⌝ }
 {
     let mut k = child(m, h / 2, 0);
     while same_partitioning(r, record_at(m, k / 2)) {
@@ -44,8 +43,8 @@ fn skip_same(m: &[u8], u: usize, r: &[u8], h: usize) -> usize
 }
 
 // Whether the first child of node i, which has the record r, is a coalesce that can be taken out.
-fn removes_first(m: &[u8], u: usize, r: &[u8], i: usize) -> bool
-    requires { ⌜ Held (now m) u i × (now r ≡ slot (now m) i .rec) ⌝ }
+fn removes_first(m: &[u8], r: &[u8], i: usize) -> bool
+    requires { ⌜ Arena (now m) (i + 1) × (now r ≡ slot (now m) i .rec) ⌝ }
     ensures { λ b. ⌜ b ≡ firstIs bottleneck (forest (now (m .entry)) (slot (now (m .entry)) i .kids)) && not (singles (decode (slot (now (m .entry)) i .rec)) 0) ⌝ }
 {
     if child_count(m, i) == 0 {
@@ -59,8 +58,8 @@ fn removes_first(m: &[u8], u: usize, r: &[u8], i: usize) -> bool
 }
 
 // The handles of the children of node i.
-fn children_of(m: &[u8], u: usize, i: usize) -> [usize; 8]
-    requires { ⌜ Held (now m) u i ⌝ }
+fn children_of(m: &[u8], i: usize) -> [usize; 8]
+    requires { ⌜ Arena (now m) (i + 1) ⌝ }
     ensures { λ ks. ⌜ (length ks ≡ 8) × (take (length (slot (now (m .entry)) i .kids)) ks ≡ slot (now (m .entry)) i .kids) ⌝ }
 {
     let n = child_count(m, i);
@@ -111,8 +110,8 @@ fn lift_first(m: &mut [u8], u: usize, r: &[u8], i: usize) -> At
 {
     let n = child_count(m, i);
     let k = child(m, i, 0);
-    let mut kids = children_of(m, u, i);
-    kids[0] = skip_same(m, u, r, k);
+    let mut kids = children_of(m, i);
+    kids[0] = skip_same(m, r, k);
     settle(m, u, r, &kids[..n], i)
 }
 
@@ -127,7 +126,7 @@ fn remove_bottleneck_in_subplan_impl(m: &mut [u8], u: usize, h: usize, removable
     }
     let i = h / 2;
     let r = read64(record_at(m, i));
-    if removes_first(m, u, &r, i) {
+    if removes_first(m, &r, i) {
         return lift_first(m, u, &r, i);
     }
     let n = child_count(m, i);
@@ -151,7 +150,7 @@ pub fn remove_bottleneck_in_subplan(m: &mut [u8], u: usize, r: &[u8], h: usize) 
     ensures { λ a. ⌜ Grown (now (m .entry)) u (now (m .exit)) a (freed (over (decode (now (r .entry))) false (treeOf (now (m .entry)) h))) (u + sizeT (treeOf (now (m .entry)) h)) ⌝ }
 {
     if is_bottleneck(record_at(m, h / 2)) {
-        let k = skip_same(m, u, r, h);
+        let k = skip_same(m, r, h);
         return At { used: u, root: k };
     }
     remove_bottleneck_in_subplan_impl(m, u, h, true)

@@ -10,7 +10,7 @@ use Rattle.record_fields.specs.Proper.{Proper}
 use Rattle.arena.specs.Arena.{index, slot}
 use Rattle.walks.specs.Marks.{sizeT}
 use Rattle.plan_context.specs.View.{treeOf}
-use Rattle.parallelize_sorts.specs.Shown.{held-proper}
+use Rattle.parallelize_sorts.specs.Shown.{node-proper}
 use Rattle.parallelize_sorts.specs.Removing.{Going, own, shown, own-asks, stays, first-lifts, first-grown, others, going-none, node-room, few-kids, going-next, going-more, end-puts, end-grown}
 use borrow.Fn.Kinds.{In}
 use borrow.Fn.PlainCycle.{Measures, is, falls, and}
@@ -92,7 +92,7 @@ slice-aggregate-wants-single : (t : ℕ) → lts.Need-slice-aggregate-wants-sing
 slice-aggregate-wants-single t c = search needs
 
 wants-single-requires : (t : ℕ) → lts.Need-wants-single-requires (calls t) (given t) reads.Post Inv-loop μ-loop
-wants-single-requires t c κs = subst Proper (sym ((c .before .before .before .before .before .before .before .before .before .before .before .read64) .ensures ∙ (c .before .before .before .before .before .before .before .before .before .before .before .before .record-at) .ensures)) (held-proper _ _ _ (own ((c .before .before .before .before .before .before .before .before .before .before .before .before .before .before .before .before .before) .args .m .now) ((c .before .before .before .before .before .before .before .before .before .before .before .before .before .before .before .before .before) .args .u) ((c .before .before .before .before .before .before .before .before .before .before .before .before .before .before .before .before .before) .args .h) ((c .before .before .before .before .before .before .before .before .before .before .before .before .before .before .before .before .before) .pre .1)))
+wants-single-requires t c κs = subst Proper (sym ((c .before .before .before .before .before .before .before .before .before .before .before .read64) .ensures ∙ (c .before .before .before .before .before .before .before .before .before .before .before .before .record-at) .ensures)) (node-proper _ _ (own ((c .before .before .before .before .before .before .before .before .before .before .before .before .before .before .before .before .before) .args .m .now) ((c .before .before .before .before .before .before .before .before .before .before .before .before .before .before .before .before .before) .args .u) ((c .before .before .before .before .before .before .before .before .before .before .before .before .before .before .before .before .before) .args .h) ((c .before .before .before .before .before .before .before .before .before .before .before .before .before .before .before .before .before) .pre .1)))
 
 remove-bottleneck-in-subplan-impl-requires : (t : ℕ) → lts.Need-remove-bottleneck-in-subplan-impl-requires (calls t) (given t) reads.Post Inv-loop μ-loop
 remove-bottleneck-in-subplan-impl-requires t c κs = let i₀ = (c .before .before .before .before .before .before .loop) .inv .0 in let x = (c .before .before .before .before .before .loop-test) .taken in let q = going-next ((c .before .before .before .before .before .before .before .before .before .before .before .before .before .before .before .before .before .before .before) .args .m .now) ((c .before .before .before .before .before .before .before .before .before .before .before .before .before .before .before .before .before .before .before) .args .u) ((c .before .before .before .before .before .before .before .before .before .before .before .before .before .before .before .before .before .before .before) .args .h) ((c .before .before .before .before .before .before .before .before .before .before .before .before .before .before .before .before .before .before .before) .pre .1) ((c .before .before .before .before .before .before .loop) .j) ((c .before .before .before .before .before .before .loop) .w) ((c .before .before .before .before .before .before .loop) .kids) ((c .before .before .before .before .before .before .loop) .m) ((c .before .before .before .before .before .before .loop) .inv .2) (omega arith) ((c .before .before .before .child) .result) ((c .before .before .before .child) .ensures) in let q₀ = q .0 in let g = (c .before .before .before .before .before .before .before .before .before .before .before .before .before .before .before .before .before .before .before) .pre .0 in (omega arith, q .1)

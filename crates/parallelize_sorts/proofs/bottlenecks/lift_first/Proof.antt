@@ -1,18 +1,18 @@
 use borrow.Author.Needs.{needs}
 use mathlib.Core.Path.{sym}
 use lib.Seq.{length-take-le}
-use Rattle.parallelize_sorts.specs.Settling.{lift-asks, lift-proper, lift-skips, few-wide, lift-puts, lift-grown}
+use Rattle.parallelize_sorts.specs.Settling.{node-older, lift-asks, lift-proper, lift-skips, few-wide, lift-puts, lift-grown}
 use Rattle.parallelize_sorts.proofs.bottlenecks.lift_first.Statement.{statement}
 use Rattle.parallelize_sorts.proofs.bottlenecks.lift_first.Tie as tie
 
 child-count-requires : tie.Need-child-count-requires
-child-count-requires c κs = search needs
+child-count-requires c κs = lift-asks ((c .before .before .before) .args .m .now) ((c .before .before .before) .args .u) ((c .before .before .before) .args .i) ((c .before .before .before) .args .r .now) ((c .before .before .before) .pre) .0
 
 child-requires : tie.Need-child-requires
 child-requires c κs = lift-asks ((c .before .before .before .before .before) .args .m .now) ((c .before .before .before .before .before) .args .u) ((c .before .before .before .before .before) .args .i) ((c .before .before .before .before .before) .args .r .now) ((c .before .before .before .before .before) .pre)
 
 children-of-requires : tie.Need-children-of-requires
-children-of-requires c κs = search needs
+children-of-requires c κs = node-older ((c .before .before .before .before .before .before .before) .args .m .now) ((c .before .before .before .before .before .before .before) .args .u) ((c .before .before .before .before .before .before .before) .args .i) ((c .before .before .before .before .before .before .before) .args .r .now) ((c .before .before .before .before .before .before .before) .pre)
 
 skip-same-requires : tie.Need-skip-same-requires
 skip-same-requires c κs = (lift-proper ((c .before .before .before .before .before .before .before .before .before) .args .m .now) ((c .before .before .before .before .before .before .before .before .before) .args .u) ((c .before .before .before .before .before .before .before .before .before) .args .i) ((c .before .before .before .before .before .before .before .before .before) .args .r .now) ((c .before .before .before .before .before .before .before .before .before) .pre), lift-skips ((c .before .before .before .before .before .before .before .before .before) .args .m .now) ((c .before .before .before .before .before .before .before .before .before) .args .u) ((c .before .before .before .before .before .before .before .before .before) .args .i) ((c .before .before .before .before .before .before .before .before .before) .args .r .now) ((c .before .before .before .before .before .before .before .before .before) .pre) ((c .before .before .before .child) .result) ((c .before .before .before .child) .ensures))
@@ -27,7 +27,7 @@ slice-aggregate-settle : tie.Need-slice-aggregate-settle
 slice-aggregate-settle c = sym (length-take-le _ _ (few-wide ((c .before .before .before .before .before .before .before .before .before .before .before .before) .args .m .now) ((c .before .before .before .before .before .before .before .before .before .before .before .before) .args .u) ((c .before .before .before .before .before .before .before .before .before .before .before .before) .args .i) ((c .before .before .before .before .before .before .before .before .before .before .before .before) .args .r .now) ((c .before .before .before .before .before .before .before .before .before .before .before .before) .pre) ((c .before .before .before .before .children-of) .result) ((c .before .before .before .before .children-of) .ensures .0) ((c .before .before .before .before .children-of) .ensures .1) ((c .before .before .before .before .before .before .child) .result) ((c .before .before .before .before .before .before .child) .ensures) ((c .before .before .skip-same) .result) ((c .before .before .skip-same) .ensures) ((c .before .before .before .before .before .before .before .before .child-count) .result) ((c .before .before .before .before .before .before .before .before .child-count) .ensures)))
 
 settle-requires : tie.Need-settle-requires
-settle-requires c κs = (lift-puts ((c .before .before .before .before .before .before .before .before .before .before .before .before) .args .m .now) ((c .before .before .before .before .before .before .before .before .before .before .before .before) .args .u) ((c .before .before .before .before .before .before .before .before .before .before .before .before) .args .i) ((c .before .before .before .before .before .before .before .before .before .before .before .before) .args .r .now) ((c .before .before .before .before .before .before .before .before .before .before .before .before) .pre) ((c .before .before .before .before .children-of) .result) ((c .before .before .before .before .children-of) .ensures .0) ((c .before .before .before .before .children-of) .ensures .1) ((c .before .before .before .before .before .before .child) .result) ((c .before .before .before .before .before .before .child) .ensures) ((c .before .before .skip-same) .result) ((c .before .before .skip-same) .ensures) ((c .before .before .before .before .before .before .before .before .child-count) .result) ((c .before .before .before .before .before .before .before .before .child-count) .ensures), (c .before .before .before .before .before .before .before .before .before .before .before .before) .pre .held .low)
+settle-requires c κs = (lift-puts ((c .before .before .before .before .before .before .before .before .before .before .before .before) .args .m .now) ((c .before .before .before .before .before .before .before .before .before .before .before .before) .args .u) ((c .before .before .before .before .before .before .before .before .before .before .before .before) .args .i) ((c .before .before .before .before .before .before .before .before .before .before .before .before) .args .r .now) ((c .before .before .before .before .before .before .before .before .before .before .before .before) .pre) ((c .before .before .before .before .children-of) .result) ((c .before .before .before .before .children-of) .ensures .0) ((c .before .before .before .before .children-of) .ensures .1) ((c .before .before .before .before .before .before .child) .result) ((c .before .before .before .before .before .before .child) .ensures) ((c .before .before .skip-same) .result) ((c .before .before .skip-same) .ensures) ((c .before .before .before .before .before .before .before .before .child-count) .result) ((c .before .before .before .before .before .before .before .before .child-count) .ensures), (c .before .before .before .before .before .before .before .before .before .before .before .before) .pre .low)
 
 same-length : tie.Need-same-length
 same-length c = search needs

@@ -3,7 +3,7 @@ use mathlib.Core.Path.{sym, ap, _∙_, subst}
 use Rattle.plan_codec.specs.Decode.{decode}
 use Rattle.record_fields.specs.Proper.{Proper}
 use Rattle.walks.specs.ParallelizeSorts.{bottleneck}
-use Rattle.parallelize_sorts.specs.Shown.{held-proper}
+use Rattle.parallelize_sorts.specs.Shown.{node-proper}
 use Rattle.parallelize_sorts.specs.Removing.{own, root-skips, root-lifted, root-opened}
 use Rattle.parallelize_sorts.proofs.bottlenecks.remove_bottleneck_in_subplan.Statement.{
   statement,
@@ -14,7 +14,7 @@ record-at-requires : tie.Need-record-at-requires
 record-at-requires c κs = search needs
 
 is-bottleneck-requires : tie.Need-is-bottleneck-requires
-is-bottleneck-requires c κs = subst Proper (sym ((c .record-at) .ensures)) (held-proper _ _ _ (own ((c .before .before .before .before) .args .m .now) ((c .before .before .before .before) .args .u) ((c .before .before .before .before) .args .h) ((c .before .before .before .before) .pre .0)))
+is-bottleneck-requires c κs = subst Proper (sym ((c .record-at) .ensures)) (node-proper _ _ (own ((c .before .before .before .before) .args .m .now) ((c .before .before .before .before) .args .u) ((c .before .before .before .before) .args .h) ((c .before .before .before .before) .pre .0)))
 
 skip-same-requires : tie.Need-skip-same-requires
 skip-same-requires c κs = ((c .before .before .before .before .before .before .before) .pre .1, root-skips ((c .before .before .before .before .before .before .before) .args .m .now) ((c .before .before .before .before .before .before .before) .args .u) ((c .before .before .before .before .before .before .before) .args .h) ((c .before .before .before .before .before .before .before) .pre .0) ((c .before .before .before .before .before .before .before) .args .r .now) ((c .before .before .is-bottleneck) .result) ((c .before .before .is-bottleneck) .ensures ∙ ap (λ x. bottleneck (decode x)) ((c .before .before .before .record-at) .ensures)) ((c .before .if1) .taken))
