@@ -10,7 +10,7 @@ use Rattle.plan_roundtrip.specs.Back.{AllBytes}
 use Rattle.plan_codec.specs.Reading.{plan, reading}
 use Rattle.plan_codec.specs.RoundTrip.{read-well-formed}
 use Rattle.semantics.specs.Runs.{Streams, Env, Run}
-use Rattle.semantics.specs.Exists.{run-exists}
+use Rattle.semantics.specs.theorems.runs.Exists.{run-exists}
 
 pub accepted-runs : (s : List ℕ) (f : Plan) → AllBytes s → reading s ≡ plan f → (E : Env) → (out : Forest Streams) × Run E 0 0 f out
 accepted-runs s f b e E = run-exists E f (read-well-formed s f b e)

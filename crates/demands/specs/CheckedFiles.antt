@@ -19,7 +19,7 @@ use Rattle.plan_codec.specs.Encode.{num}
 use Rattle.plan_codec.specs.Reading.{plan, planOf, reading, refused}
 use Rattle.plan_codec.specs.RoundTrip.{read-well-formed}
 use Rattle.semantics.specs.Check.{check, Met}
-use Rattle.semantics.specs.Checks.{check-met, met-check}
+use Rattle.semantics.specs.theorems.check.CheckIsMet.{check-met, met-check}
 use Rattle.semantics.specs.Runs.{Env, Run, Sources, Streams}
 use Rattle.sort_placement.specs.Answers.{checkAnswer}
 use Rattle.demands.specs.OrderKept.{AllFed, order-kept}

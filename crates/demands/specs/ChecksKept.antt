@@ -9,9 +9,9 @@ use Rattle.semantics.specs.Check.{check}
 use Rattle.walks.specs.ParallelizeSorts.{parallelizeSorts}
 use Rattle.walks.specs.Counted.{answered, parallelized, partiallySorted}
 use Rattle.walks.specs.Terms.{answerUp}
-use Rattle.walks.specs.ParallelizeCheck.{parallelize-passes as parallelize-check}
-use Rattle.walks.specs.Answers.{parallelized-is, up-answers, up-whole, well-ok}
-use Rattle.walks.specs.PartialSortKept.{partial-passes}
+use Rattle.walks.specs.theorems.parallelize.Passes.{parallelize-passes as parallelize-check}
+use Rattle.walks.specs.theorems.calls.Answers.{parallelized-is, up-answers, up-whole, well-ok}
+use Rattle.walks.specs.theorems.partial_sort.Kept.{partial-passes}
 
 pub parallelize-passes : (f g : Plan) → wellFormed f ≡ true → check f ≡ true → parallelized f ≡ answered g → check g ≡ true
 parallelize-passes f g e c h =

@@ -10,9 +10,9 @@ use Rattle.semantics.specs.Check.{check}
 use Rattle.semantics.specs.Runs.{Env, Run, Sources, Streams}
 use Rattle.walks.specs.EnsureSorting.{ensureSorting}
 use Rattle.walks.specs.Counted.{answered, ensured}
-use Rattle.walks.specs.EnsureCheck.{ensure-passes as ensure-check}
-use Rattle.walks.specs.EnsureSound.{sources-kept}
-use Rattle.walks.specs.Answers.{ensured-is, up-answers, well-fit}
+use Rattle.walks.specs.theorems.ensure.Passes.{ensure-passes as ensure-check}
+use Rattle.walks.specs.theorems.ensure.Sound.{sources-kept}
+use Rattle.walks.specs.theorems.calls.Answers.{ensured-is, up-answers, well-fit}
 use Rattle.demands.specs.OrderKept.{AllFed, order-kept}
 use Rattle.demands.specs.Walks.{ensuring}
 use Rattle.demands.specs.PlanKept.{answer-plan}

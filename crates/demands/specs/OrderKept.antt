@@ -18,12 +18,12 @@ use Rattle.semantics.specs.Check.{check, Met}
 use Rattle.semantics.specs.Runs.{Streams, Env, Run, EachSource, Sources}
 use Rattle.semantics.specs.SourceRows.{rowsFor, Filled}
 use Rattle.semantics.specs.Holds.{Wanted, Everywhere}
-use Rattle.semantics.specs.Checks.{met-check}
-use Rattle.semantics.specs.Streams.{all-at}
-use Rattle.semantics.specs.RunStreams.{everywhere-map}
-use Rattle.semantics.specs.Sound.{sound}
-use Rattle.semantics.specs.Exists.{run-exists}
-use Rattle.semantics.specs.DeclaredKept.{declared-kept}
+use Rattle.semantics.specs.theorems.check.CheckIsMet.{met-check}
+use Rattle.semantics.specs.theorems.common.Streams.{all-at}
+use Rattle.semantics.specs.theorems.runs.RunStreams.{everywhere-map}
+use Rattle.semantics.specs.theorems.sound.Sound.{sound}
+use Rattle.semantics.specs.theorems.runs.Exists.{run-exists}
+use Rattle.semantics.specs.theorems.sound.DeclaredKept.{declared-kept}
 
 -- An operator and the streams of each of its children: no row stands on stream s of child i after a row that it sorts before, by the
 -- order that the operator wants of child i

@@ -12,13 +12,13 @@ use Rattle.walks.specs.ParallelizeSorts.{parallelizeSorts}
 use Rattle.walks.specs.OrderPreserving.{replaceWithOrderPreservingVariants}
 use Rattle.walks.specs.Counted.{answered, ensured, pushed, refused}
 use Rattle.walks.specs.Terms.{Added, blank, easing, Live, prune, skel}
-use Rattle.walks.specs.Skeleton.{added-none, eased}
-use Rattle.walks.specs.KeptRows.{ensure-plan, SamePlan}
-use Rattle.walks.specs.OrderPreservingKept.{preserve-plan}
-use Rattle.walks.specs.ParallelizeKept.{parallelize-plan}
-use Rattle.walks.specs.PushOk.{push-plan}
-use Rattle.walks.specs.EnsureLive.{ensure-live as ensured-live}
-use Rattle.walks.specs.Answers.{down-answers, ensured-is, ensured-well, live-pushed, parallelized-is, parallelized-well, preserved-is, preserved-well, pushed-is, pushed-well, up-answers, well-fit}
+use Rattle.walks.specs.theorems.common.Skeleton.{added-none, eased}
+use Rattle.walks.specs.theorems.common.Rows.{ensure-plan, SamePlan}
+use Rattle.walks.specs.theorems.preserve.Kept.{preserve-plan}
+use Rattle.walks.specs.theorems.parallelize.Kept.{parallelize-plan}
+use Rattle.walks.specs.theorems.push.WellFormed.{push-plan}
+use Rattle.walks.specs.theorems.ensure.Live.{ensure-live as ensured-live}
+use Rattle.walks.specs.theorems.calls.Answers.{down-answers, ensured-is, ensured-well, live-pushed, parallelized-is, parallelized-well, preserved-is, preserved-well, pushed-is, pushed-well, up-answers, well-fit}
 use Rattle.demands.specs.Walks.{answer, ensuring, parallelizing, preserving, pushing, Walk}
 
 -- Ensuring alone may add limits

@@ -14,11 +14,11 @@ use Rattle.plan.specs.Forest.{Forest, roots}
 use Rattle.plan.specs.Op.{Plan}
 use Rattle.plan.specs.WellFormed.{wellFormed}
 use Rattle.semantics.specs.Runs.{Env, Run, SameInputs, Streams}
-use Rattle.semantics.specs.Streams.{each-at}
+use Rattle.semantics.specs.theorems.common.Streams.{each-at}
 use Rattle.walks.specs.Counted.{answered}
 use Rattle.walks.specs.Terms.{clear}
-use Rattle.walks.specs.KeptRows.{same-plan-rows}
-use Rattle.walks.specs.Answers.{well-fit}
+use Rattle.walks.specs.theorems.common.Rows.{same-plan-rows}
+use Rattle.walks.specs.theorems.calls.Answers.{well-fit}
 use Rattle.demands.specs.Walks.{answer, Walk}
 use Rattle.demands.specs.PlanKept.{answer-plan}
 

@@ -24,11 +24,11 @@ use Rattle.arena.specs.declared.At.{At}
 use Rattle.walks.specs.Marks.{Tree, strip, plant, cover, opT, fact, sizeT, setMark}
 use Rattle.walks.specs.Terms.{blank}
 use Rattle.walks.specs.Utils.{newSort, addSortAbove}
-use Rattle.walks.specs.Trees.{OkT, ok-fit}
-use Rattle.walks.specs.Keeps.{KeepsAll}
-use Rattle.walks.specs.OrderMet.{fresh-nf}
-use Rattle.walks.specs.ConstantSorts.{fact-canon}
-use Rattle.walks.specs.EnsureKept.{removeKids-kept}
+use Rattle.walks.specs.theorems.common.Trees.{OkT, ok-fit}
+use Rattle.walks.specs.theorems.common.Keeps.{KeepsAll}
+use Rattle.walks.specs.theorems.common.OrderMet.{fresh-nf}
+use Rattle.walks.specs.theorems.common.ConstantSorts.{fact-canon}
+use Rattle.walks.specs.theorems.ensure.Kept.{removeKids-kept}
 use Rattle.walks.specs.EnsureSorting.{connected, updateSortCtxChildrenData, updateChildToRemoveUnnecessarySort, removeKids, ensureChild}
 use Rattle.plan_context.specs.View.{treeOf, mostNodes, mostSlots, Arena, Grown}
 use Rattle.plan_context.specs.Facts.{Tells}

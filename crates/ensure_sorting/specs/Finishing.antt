@@ -28,8 +28,8 @@ use Rattle.arena.specs.Arena.{slotSize, index, slot, Below}
 use Rattle.arena.specs.declared.At.{At}
 use Rattle.arena.specs.Laws.{below-at}
 use Rattle.walks.specs.Marks.{Tree, strip, known, node, kid0, shape, rebuild}
-use Rattle.walks.specs.Trees.{Ok, OkT}
-use Rattle.walks.specs.EnsureKept.{strip-connected}
+use Rattle.walks.specs.theorems.common.Trees.{Ok, OkT}
+use Rattle.walks.specs.theorems.ensure.Kept.{strip-connected}
 use Rattle.walks.specs.EnsureSorting.{updateSortCtxChildrenData, limitNote, unmerged, finish}
 use Rattle.plan_context.specs.View.{treeOf, forest, mostNodes, mostSlots, Arena, Grown, Here, Puts}
 use Rattle.plan_context.specs.Laws.{here, facts-at}

@@ -28,14 +28,14 @@ use Rattle.arena.specs.declared.At.{At}
 use Rattle.arena.specs.Laws.{below-at}
 use Rattle.walks.specs.Marks.{Marked, Tree, strip, known, at, node, plant, cover, opT, fact, sizeT, shape, rebuild}
 use Rattle.walks.specs.Terms.{_⊕_}
-use Rattle.walks.specs.Base.{blank-widths}
-use Rattle.walks.specs.Trees.{OkT, ok-fit}
+use Rattle.walks.specs.theorems.common.Base.{blank-widths}
+use Rattle.walks.specs.theorems.common.Trees.{OkT, ok-fit}
 use Rattle.walks.specs.Utils.{newSort, addSortAbove}
-use Rattle.walks.specs.Keys.{keysOk, keys-of}
-use Rattle.walks.specs.NewNodes.{wanted-fits, wantsFit, node-fetch}
+use Rattle.walks.specs.theorems.common.Keys.{keysOk, keys-of}
+use Rattle.walks.specs.theorems.common.NewNodes.{wanted-fits, wantsFit, node-fetch}
 use Rattle.walks.specs.OutputRequirements.{outputFetch}
 use Rattle.walks.specs.EnsureSorting.{updateSortCtxChildrenData, updateChildToRemoveUnnecessarySort, ensureChild, ensureEach, ensuredKids, afterLoop, finish}
-use Rattle.walks.specs.EnsureKept.{ensureEach-kept}
+use Rattle.walks.specs.theorems.ensure.Kept.{ensureEach-kept}
 use Rattle.plan_context.specs.View.{treeOf, forest, mostNodes, mostSlots, Arena, Grown}
 use Rattle.plan_context.specs.Laws.{slot-same, tree-same, facts-at, length-facts, same-trans}
 use Rattle.plan_context.specs.Nodes.{Seen}

@@ -24,8 +24,8 @@ use Rattle.row_facts.specs.Asked.{told}
 use Rattle.arena.specs.Arena.{slotSize, index, slot}
 use Rattle.arena.specs.declared.At.{At}
 use Rattle.walks.specs.Marks.{Tree, strip, known, node, opT, fact, shape}
-use Rattle.walks.specs.Trees.{Ok, OkT, ok-fit}
-use Rattle.walks.specs.EnsureKept.{strip-connected, ensureSorting-kept}
+use Rattle.walks.specs.theorems.common.Trees.{Ok, OkT, ok-fit}
+use Rattle.walks.specs.theorems.ensure.Kept.{strip-connected, ensureSorting-kept}
 use Rattle.walks.specs.EnsureSorting.{afterLoop, finish, ensureBy, ensureMarked, ensureSorting}
 use Rattle.plan_context.specs.View.{treeOf, forest, mostNodes, mostSlots, Arena, Grown, Puts}
 use Rattle.plan_context.specs.Laws.{facts-at}

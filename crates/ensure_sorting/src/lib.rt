@@ -44,7 +44,7 @@ ghost use Rattle.plan.specs.declared.Fetch.the-variants.{Unlimited};
 ghost use Rattle.plan_codec.specs.Decode.{fromBytes, decode};
 ghost use Rattle.key_lists.specs.Keys.{keysOf, orderOf, Real};
 ghost use Rattle.walks.specs.Marks.{node, opT, sizeT, shape, rebuild};
-ghost use Rattle.walks.specs.Trees.{OkT};
+ghost use Rattle.walks.specs.theorems.common.Trees.{OkT};
 ghost use Rattle.walks.specs.Utils.{addSortAbove};
 ghost use Rattle.walks.specs.EnsureSorting.{updateSortCtxChildrenData, ensureChild, afterLoop, unmerged, finish as finished, ensureMarked, ensureSorting};
 ghost use Rattle.plan_context.specs.View.{treeOf, forest, Grown};

@@ -10,9 +10,9 @@ use borrow.Author.Tests.{lt-ltb, le-ltb, ltb-true}
 use Rattle.row_order.specs.Iso.{Key}
 use Rattle.row_order.specs.Packed.{bit, keyOf}
 use Rattle.plan.specs.WellFormed.{below as within}
-use Rattle.semantics.specs.Bools.{and-left, and-right}
+use Rattle.semantics.specs.theorems.common.Bools.{and-left, and-right}
 use Rattle.semantics.specs.Facts.{Facts, cl, withColumn, lowest, carried, projOrder, projFacts}
-use Rattle.semantics.specs.Lowest.{lowest-le}
+use Rattle.semantics.specs.theorems.common.Lowest.{lowest-le}
 use Rattle.column_sets.specs.Sets.{Holding, below}
 use Rattle.class_tables.specs.Tables.{at, Filled, Columns, carries, projectionLow}
 use Rattle.key_lists.specs.declared.Keys.{Keys}

@@ -14,7 +14,7 @@ use Rattle.row_order.specs.Packed.{bit, keyOf}
 use Rattle.row_order.specs.Lists.{tab}
 use Rattle.plan.specs.WellFormed.{setFits}
 use Rattle.semantics.specs.Facts.{cl, ordered, unknown, sourceFacts, lowest, both, common}
-use Rattle.semantics.specs.Lowest.{lowest-le}
+use Rattle.semantics.specs.theorems.common.Lowest.{lowest-le}
 use Rattle.column_sets.specs.Sets.{Holding, below}
 use Rattle.column_sets.specs.Bits.{bit-none}
 use Rattle.class_tables.specs.Tables.{Filled, unionLow}

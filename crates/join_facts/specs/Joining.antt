@@ -10,7 +10,7 @@ use Rattle.plan.specs.Op.{On}
 use Rattle.plan.specs.WellFormed.{joinWidth, onFit}
 use Rattle.plan.specs.declared.JoinType.{JoinType}
 use Rattle.semantics.specs.Facts.{Kept, kLeft, kRight, kNone}
-use Rattle.semantics.specs.Fits.{Fits}
+use Rattle.semantics.specs.theorems.facts.Fits.{Fits}
 use Rattle.key_lists.specs.declared.Keys.{Keys}
 use Rattle.key_lists.specs.Keys.{keysOf}
 use Rattle.facts.specs.declared.Facts.{Facts as Coded}

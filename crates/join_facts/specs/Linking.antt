@@ -13,8 +13,8 @@ use Rattle.row_order.specs.Lists.{All, all-nil, all-cons, all-head, all-tail}
 use Rattle.plan.specs.Op.{On}
 use Rattle.plan.specs.WellFormed.{onFit, below as columnsBelow, distinct}
 use Rattle.semantics.specs.Facts.{cl, isC, inClass, linked, linkAll}
-use Rattle.semantics.specs.Fits.{linkAll-fits}
-use Rattle.semantics.specs.Bools.{and-left, and-right}
+use Rattle.semantics.specs.theorems.facts.Fits.{linkAll-fits}
+use Rattle.semantics.specs.theorems.common.Bools.{and-left, and-right}
 use Rattle.column_sets.specs.Sets.{Holding, below}
 use Rattle.class_tables.specs.Tables.{at, Filled, inClasses, linkedLow}
 use Rattle.facts.specs.declared.Facts.{Facts as Coded}

@@ -11,7 +11,7 @@ use Rattle.plan.specs.WellFormed.{joinWidth}
 use Rattle.plan.specs.declared.JoinType.{JoinType}
 use Rattle.plan.specs.declared.JoinType.the-variants.{Inner, Left, Right, Full, LeftSemi, LeftAnti, RightSemi, RightAnti}
 use Rattle.semantics.specs.Facts.{withColumn, moved, within}
-use Rattle.semantics.specs.Fits.{within-fits}
+use Rattle.semantics.specs.theorems.facts.Fits.{within-fits}
 use Rattle.key_lists.specs.declared.Keys.{Keys}
 use Rattle.key_lists.specs.Keys.{keysOf, Keyed, Movable, movedBy}
 use Rattle.facts.specs.declared.Facts.{Facts as Coded}

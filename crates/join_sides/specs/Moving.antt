@@ -15,7 +15,7 @@ use Rattle.row_order.specs.Iso.{Key}
 use Rattle.row_order.specs.Packed.{keyOf}
 use Rattle.row_order.specs.Lists.{All, all-nil, all-cons}
 use Rattle.plan.specs.WellFormed.{every}
-use Rattle.semantics.specs.Bools.{and-left, and-right}
+use Rattle.semantics.specs.theorems.common.Bools.{and-left, and-right}
 use Rattle.semantics.specs.Facts.{withColumn, eqKey}
 use Rattle.key_lists.specs.declared.Keys.{Keys}
 use Rattle.key_lists.specs.Keys.{keysIn, keysOf, InRange, Movable, movedBy, Longer}

@@ -11,7 +11,7 @@ use Rattle.row_order.specs.Lists.{All, all-nil, all-cons, all-map}
 use Rattle.plan.specs.WellFormed.{joinWidth}
 use Rattle.plan.specs.declared.JoinType.{JoinType}
 use Rattle.plan.specs.declared.JoinType.the-variants.{Inner, Left, Right, Full, LeftSemi, LeftAnti, RightSemi, RightAnti}
-use Rattle.semantics.specs.Bools.{and-left, and-right}
+use Rattle.semantics.specs.theorems.common.Bools.{and-left, and-right}
 use Rattle.semantics.specs.Facts.{Facts, cl, withColumn, lowest}
 use Rattle.walks.specs.SortPushdown.{JoinSide, noSide, leftSide, rightSide, leftFirst, eitherSide, exprSourceSide, Valid, invalid, valid, andKey, onSide}
 use Rattle.join_sides.specs.Sides.{Roomy}

@@ -8,9 +8,9 @@ use lib.Dec.{eqb, ltb, leb}
 use borrow.Author.Tests.{lt-ltb, le-ltb, lt-leb, le-leb, ltb-true}
 use Rattle.row_order.specs.Iso.{Key}
 use Rattle.row_order.specs.Packed.{keyOf}
-use Rattle.semantics.specs.Bools.{and-right}
+use Rattle.semantics.specs.theorems.common.Bools.{and-right}
 use Rattle.semantics.specs.Facts.{Facts, cl, withColumn, lowest}
-use Rattle.semantics.specs.Lowest.{lowest-none}
+use Rattle.semantics.specs.theorems.common.Lowest.{lowest-none}
 use Rattle.class_tables.specs.Lowest.{Nowhere as None, lowest-at}
 use Rattle.key_lists.specs.declared.Keys.{Keys}
 use Rattle.key_lists.specs.Keys.{keysIn, keysOf, Keyed, Tight, Longer}

@@ -24,12 +24,12 @@ use Rattle.arena.specs.declared.At.{At}
 use Rattle.walks.specs.Marks.{Marked, Tree, strip, node, plant, over, cover, fact, sizeT, headMark, shape}
 use Rattle.walks.specs.Utils.{isCoalescePartitions, newSort, addSortAboveWithCheck}
 use Rattle.walks.specs.Terms.{passing}
-use Rattle.walks.specs.Trees.{OkT, FitT, ok-fit, children-fit, FitsA}
-use Rattle.walks.specs.NewNodes.{coalesce-ok, narrowT, node-fetch}
-use Rattle.walks.specs.Keeps.{Keeps, pass-one}
-use Rattle.walks.specs.Base.{ease-blank}
-use Rattle.walks.specs.Skeleton.{pass-ease}
-use Rattle.walks.specs.ParallelizeKept.{freed-kept}
+use Rattle.walks.specs.theorems.common.Trees.{OkT, FitT, ok-fit, children-fit, FitsA}
+use Rattle.walks.specs.theorems.common.NewNodes.{coalesce-ok, narrowT, node-fetch}
+use Rattle.walks.specs.theorems.common.Keeps.{Keeps, pass-one}
+use Rattle.walks.specs.theorems.common.Base.{ease-blank}
+use Rattle.walks.specs.theorems.common.Skeleton.{pass-ease}
+use Rattle.walks.specs.theorems.parallelize.Kept.{freed-kept}
 use Rattle.walks.specs.ParallelizeSorts.{freed, parallelBy, parallelizeSorts, updateCoalesceCtxChildren}
 use Rattle.plan_context.specs.View.{treeOf, forest, mostSlots, Arena, Grown, Here, Puts}
 use Rattle.plan_context.specs.Covering.{Under, cover-puts, cover-grown, ok-of}

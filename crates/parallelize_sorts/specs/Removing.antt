@@ -19,9 +19,9 @@ use Rattle.arena.specs.Laws.{below-at}
 use Rattle.arena.specs.declared.At.{At}
 use Rattle.walks.specs.Marks.{Marked, Tree, strip, node, plant, over, opT, sizeT, kid0}
 use Rattle.walks.specs.Terms.{_⊕_}
-use Rattle.walks.specs.Trees.{OkT, ok-fit}
-use Rattle.walks.specs.Keeps.{kept-node, like-refl, KeepsAll}
-use Rattle.walks.specs.ParallelizeKept.{openEach-kept}
+use Rattle.walks.specs.theorems.common.Trees.{OkT, ok-fit}
+use Rattle.walks.specs.theorems.common.Keeps.{kept-node, like-refl, KeepsAll}
+use Rattle.walks.specs.theorems.parallelize.Kept.{openEach-kept}
 use Rattle.walks.specs.ParallelizeSorts.{bottleneck, firstIs, freed, liftFirst, openEach, opened, removeBottleneckInSubplan, settle, skipSame}
 use Rattle.plan_context.specs.View.{treeOf, forest, mostSlots, Arena, Grown, Puts}
 use Rattle.plan_context.specs.Kids.{Kids, kids-none, kids-more, kids-forest, plus-none}

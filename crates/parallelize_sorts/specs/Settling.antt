@@ -26,9 +26,9 @@ use Rattle.arena.specs.Arena.{slotSize, index, slot, Below}
 use Rattle.arena.specs.Laws.{below-at, below-more}
 use Rattle.arena.specs.declared.At.{At}
 use Rattle.walks.specs.Marks.{Marked, Tree, strip, known, node, opT, fact, setMark, kid0, rebuild, shape}
-use Rattle.walks.specs.Trees.{OkT, ok-fit, arity, children-fit, FitsA}
-use Rattle.walks.specs.Keeps.{kept-node, like-refl, KeepsAll, all-kept-refl, shape-ind}
-use Rattle.walks.specs.ParallelizeKept.{opened-kept}
+use Rattle.walks.specs.theorems.common.Trees.{OkT, ok-fit, arity, children-fit, FitsA}
+use Rattle.walks.specs.theorems.common.Keeps.{kept-node, like-refl, KeepsAll, all-kept-refl, shape-ind}
+use Rattle.walks.specs.theorems.parallelize.Kept.{opened-kept}
 use Rattle.walks.specs.ParallelizeSorts.{bottleneck, firstIs, idle, liftFirst, opened, samePartitioning, settle, skipSame}
 use Rattle.plan_context.specs.View.{treeOf, forest, mostNodes, mostSlots, Arena, Grown, Here, Over, Puts}
 use Rattle.plan_context.specs.Facts.{Tells}

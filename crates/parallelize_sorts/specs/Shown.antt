@@ -20,8 +20,8 @@ use Rattle.record_fields.specs.Encoded.{proper}
 use Rattle.arena.specs.Arena.{slotSize, index, marked, slot}
 use Rattle.arena.specs.Laws.{below-at}
 use Rattle.walks.specs.Marks.{Marked, strip, known, node, setMark}
-use Rattle.walks.specs.NewNodes.{narrow}
-use Rattle.walks.specs.Trees.{Ok, OkT}
+use Rattle.walks.specs.theorems.common.NewNodes.{narrow}
+use Rattle.walks.specs.theorems.common.Trees.{Ok, OkT}
 use Rattle.plan_context.specs.View.{treeOf, forest, Arena, Over}
 use Rattle.plan_context.specs.Nodes.{counts-of, Seen, seen}
 use Rattle.plan_context.specs.Laws.{length-facts, fewer}

@@ -12,9 +12,9 @@ use Rattle.plan_codec.specs.Decode.{decode}
 use Rattle.arena.specs.Arena.{slotSize, index, slot}
 use Rattle.walks.specs.Marks.{Tree, node, opT}
 use Rattle.walks.specs.Terms.{passing}
-use Rattle.walks.specs.Trees.{children-fit, FitsA}
-use Rattle.walks.specs.Keeps.{pass-one}
-use Rattle.walks.specs.ParallelizeKept.{bottleneck-pass, part-pass}
+use Rattle.walks.specs.theorems.common.Trees.{children-fit, FitsA}
+use Rattle.walks.specs.theorems.common.Keeps.{pass-one}
+use Rattle.walks.specs.theorems.parallelize.Kept.{bottleneck-pass, part-pass}
 use Rattle.walks.specs.ParallelizeSorts.{bottleneck, samePartitioning, skipSame}
 use Rattle.plan_context.specs.View.{treeOf, forest, Arena}
 use Rattle.parallelize_sorts.specs.Shown.{counted, kid-asks, kid-low, tree-of, up-to}

@@ -16,7 +16,7 @@ use Rattle.semantics.specs.Facts.{factsOp}
 use Rattle.facts.specs.Known.{Says}
 use Rattle.fact_slots.specs.Slots.{loaded}
 use Rattle.walks.specs.Marks.{Tree, node, known, fact, sizeT, setMark, plant}
-use Rattle.walks.specs.Trees.{OkT}
+use Rattle.walks.specs.theorems.common.Trees.{OkT}
 use Rattle.walks.specs.Terms.{_⊕_}
 use Rattle.arena.specs.Arena.{slotSize, index, marked, slot, keptPart, Below}
 use Rattle.arena.specs.declared.At.{At}

@@ -12,7 +12,7 @@ use Rattle.plan_codec.specs.Decode.{decode}
 use Rattle.plan_codec.specs.Encode.{encode}
 use Rattle.plan_codec.specs.OneRecord.{decode-encode}
 use Rattle.walks.specs.Marks.{node, plant, over, known, fact, sizeT}
-use Rattle.walks.specs.Trees.{OkT}
+use Rattle.walks.specs.theorems.common.Trees.{OkT}
 use Rattle.arena.specs.Arena.{slotSize, index}
 use Rattle.arena.specs.declared.At.{At}
 use Rattle.plan_context.specs.View.{treeOf, forest, mostNodes, mostSlots, Arena, Grown, Puts}

@@ -11,10 +11,10 @@ use Rattle.plan.specs.Forest.{Forest, none, tree, size}
 use Rattle.plan.specs.Op.{Plan}
 use Rattle.plan.specs.WellFormed.{nodesOk}
 use Rattle.semantics.specs.Facts.{Facts, nothing, both, unionFacts}
-use Rattle.semantics.specs.Fits.{Fits, fits}
-use Rattle.semantics.specs.StreamCounts.{streams-few}
+use Rattle.semantics.specs.theorems.facts.Fits.{Fits, fits}
+use Rattle.semantics.specs.theorems.facts.StreamCounts.{streams-few}
 use Rattle.walks.specs.Marks.{Marked, Tree, strip, known, opT, fact, sizeT}
-use Rattle.walks.specs.Trees.{OkT, ok-to}
+use Rattle.walks.specs.theorems.common.Trees.{OkT, ok-to}
 use Rattle.class_tables.specs.Filling.{alone-filled}
 use Rattle.facts.specs.Saying.{says-unknown}
 use Rattle.facts.specs.declared.Facts.{Facts as Coded}

@@ -10,7 +10,7 @@ use Rattle.scan.specs.Bytes.{length-part}
 use Rattle.scan.specs.Parts.{part-same}
 use Rattle.plan_codec.specs.Decode.{decode}
 use Rattle.plan_codec.specs.Encode.{encode}
-use Rattle.walks.specs.Trees.{OkT}
+use Rattle.walks.specs.theorems.common.Trees.{OkT}
 use Rattle.facts.specs.Known.{Says}
 use Rattle.fact_slots.specs.Slots.{loaded}
 use Rattle.walks.specs.Marks.{node, plant, setMark, known, fact, sizeT}

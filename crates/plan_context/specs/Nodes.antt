@@ -22,7 +22,7 @@ use Rattle.facts.specs.declared.Facts.{Facts as Coded}
 use Rattle.facts.specs.Known.{known as told, Says}
 use Rattle.node_facts.specs.Ready.{kidsOf, Ready}
 use Rattle.walks.specs.Marks.{known, node, sizeT}
-use Rattle.walks.specs.Trees.{OkT}
+use Rattle.walks.specs.theorems.common.Trees.{OkT}
 use Rattle.plan.specs.Forest.{size}
 use Rattle.arena.specs.Arena.{slot, Below}
 use Rattle.plan_context.specs.View.{treeIn, forest, mostNodes, Proper, Over}

@@ -8,7 +8,7 @@ use Rattle.plan.specs.Forest.{size}
 use Rattle.plan_codec.specs.Decode.{decode}
 use Rattle.plan_codec.specs.Encode.{encode}
 use Rattle.walks.specs.Marks.{node}
-use Rattle.walks.specs.Trees.{OkT}
+use Rattle.walks.specs.theorems.common.Trees.{OkT}
 use Rattle.arena.specs.Arena.{slotSize, Below}
 use Rattle.plan_context.specs.View.{forest, mostSlots, Arena}
 

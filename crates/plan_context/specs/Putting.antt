@@ -13,7 +13,7 @@ use Rattle.semantics.specs.Facts.{factsOp}
 use Rattle.facts.specs.Known.{Says}
 use Rattle.fact_slots.specs.Slots.{loaded}
 use Rattle.walks.specs.Marks.{node, known, fact, sizeT, setMark}
-use Rattle.walks.specs.Trees.{OkT}
+use Rattle.walks.specs.theorems.common.Trees.{OkT}
 use Rattle.arena.specs.Arena.{slotSize, keptFrom, keptSize, slot, Below}
 use Rattle.arena.specs.Laws.{index-even, below-more}
 use Rattle.arena.specs.Held.{Appends, Appended}

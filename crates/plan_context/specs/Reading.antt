@@ -32,7 +32,7 @@ use Rattle.arena.specs.Arena as records
 use Rattle.arena.specs.Arena.{slotSize, slot, held}
 use Rattle.arena.specs.Held.{view}
 use Rattle.arena.specs.Laws.{index-even}
-use Rattle.walks.specs.Trees.{ok-of}
+use Rattle.walks.specs.theorems.common.Trees.{ok-of}
 use Rattle.plan_context.specs.View.{treeIn, treeOf, mostSlots, Proper, Arena, Settles, Settled}
 use Rattle.plan_context.specs.Laws.{fewer, slot-held, moved-proper}
 use Rattle.plan_context.specs.Settling.{in-held, settled-arena, settled-nodes}

@@ -11,8 +11,8 @@ use Rattle.plan_codec.specs.OneRecord.{decode-encode}
 use Rattle.semantics.specs.Facts.{counts, at0}
 use Rattle.semantics.specs.Properties.{rebuilt}
 use Rattle.walks.specs.Marks.{node, known, rebuild}
-use Rattle.walks.specs.Trees.{OkT}
-use Rattle.walks.specs.Keeps.{remark-like}
+use Rattle.walks.specs.theorems.common.Trees.{OkT}
+use Rattle.walks.specs.theorems.common.Keeps.{remark-like}
 use Rattle.arena.specs.declared.At.{At}
 use Rattle.plan_context.specs.View.{forest, Over, Puts, Grown}
 use Rattle.plan_context.specs.Nodes.{counts-of}

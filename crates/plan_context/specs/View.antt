@@ -14,7 +14,7 @@ use Rattle.plan_codec.specs.Encode.{encode}
 use Rattle.semantics.specs.Properties.{endless as endlessEach, endlessOp}
 use Rattle.semantics.specs.Check.{check, wants}
 use Rattle.walks.specs.Marks.{Marked, Tree, strip, known, node, plant, opT, fact, fetchT, sizeT, setMark}
-use Rattle.walks.specs.Trees.{OkT}
+use Rattle.walks.specs.theorems.common.Trees.{OkT}
 use Rattle.facts.specs.Known.{Says}
 use Rattle.fact_slots.specs.Slots.{loaded}
 use Rattle.arena.specs.Arena.{slotSize, Node, slot, held, at as numbered, index, marked, keptPart, Below}

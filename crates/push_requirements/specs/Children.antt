@@ -27,7 +27,7 @@ use Rattle.key_lists.specs.Keys.{keysOf, Ordered}
 use Rattle.node_properties.specs.Kinds.{op-of}
 use Rattle.node_properties.specs.Nodes.{Among}
 use Rattle.walks.specs.SortPushdown as walk
-use Rattle.walks.specs.Keeps.{remark-same}
+use Rattle.walks.specs.theorems.common.Keeps.{remark-same}
 use Rattle.push_requirements.specs.declared.Pushed.{Pushed}
 use Rattle.push_requirements.specs.Pushing.{Pushes, Seen}
 use Rattle.push_requirements.specs.Answers.{none-in, by-is, by-some}

@@ -15,8 +15,8 @@ use Rattle.fact_slots.specs.Slots.{loaded}
 use Rattle.row_facts.specs.Asked.{told, FactRow}
 use Rattle.arena.specs.Arena.{slotSize, index, slot, Below}
 use Rattle.walks.specs.Marks.{Marked, Tree, strip, known, fact, node, kid0, rebuild, cover}
-use Rattle.walks.specs.Trees.{OkT}
-use Rattle.walks.specs.PushOk.{VisitFits}
+use Rattle.walks.specs.theorems.common.Trees.{OkT}
+use Rattle.walks.specs.theorems.push.WellFormed.{VisitFits}
 use Rattle.plan_context.specs.View.{treeOf, forest, mostSlots, Arena}
 use Rattle.plan_context.specs.Facts.{Usable}
 use Rattle.plan_context.specs.Covering.{Under}

@@ -30,8 +30,8 @@ use Rattle.arena.specs.Laws.{below-at}
 use Rattle.arena.specs.declared.At.{At}
 use Rattle.walks.specs.Marks.{Marked, Tree, strip, known, fact, sizeT, node, plant, over, kid0, rebuild, cover}
 use Rattle.walks.specs.Utils.{newSort, newMerge}
-use Rattle.walks.specs.Keeps.{remark-same}
-use Rattle.walks.specs.Trees.{Ok, OkT}
+use Rattle.walks.specs.theorems.common.Keeps.{remark-same}
+use Rattle.walks.specs.theorems.common.Trees.{Ok, OkT}
 use Rattle.plan_context.specs.View.{treeOf, forest, Arena, Grown, Over, Puts}
 use Rattle.plan_context.specs.Laws.{length-facts}
 use Rattle.plan_context.specs.Nodes.{counts-of}

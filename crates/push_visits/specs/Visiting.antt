@@ -16,17 +16,17 @@ use Rattle.plan.specs.declared.Fetch.{Fetch}
 use Rattle.plan_codec.specs.Decode.{decode}
 use Rattle.record_fields.specs.Proper.{Proper, pairsOf}
 use Rattle.record_fields.specs.Encoded.{proper}
-use Rattle.semantics.specs.Bools.{and-left, and-right}
+use Rattle.semantics.specs.theorems.common.Bools.{and-left, and-right}
 use Rattle.semantics.specs.Facts.{Facts, at0, at1, facts, factsOp, nothing}
-use Rattle.semantics.specs.Fits.{join-width}
+use Rattle.semantics.specs.theorems.facts.Fits.{join-width}
 use Rattle.semantics.specs.Properties.{remark, fetches, fetchOp}
 use Rattle.key_lists.specs.Keys.{orderOf}
 use Rattle.row_facts.specs.Asked.{told, FactRow}
 use Rattle.arena.specs.Arena.{index, slot, keptPart}
 use Rattle.arena.specs.Laws.{index-even, below-at}
 use Rattle.walks.specs.Marks.{strip, known, fact, fetchT}
-use Rattle.walks.specs.Trees.{Ok}
-use Rattle.walks.specs.NewNodes.{narrow}
+use Rattle.walks.specs.theorems.common.Trees.{Ok}
+use Rattle.walks.specs.theorems.common.NewNodes.{narrow}
 use Rattle.walks.specs.PushdownSorts as walk
 use Rattle.plan_context.specs.View.{treeIn, treeOf, forest, Arena}
 use Rattle.plan_context.specs.Laws.{here, facts-at, length-facts}

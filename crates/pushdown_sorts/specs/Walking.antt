@@ -26,12 +26,12 @@ use Rattle.arena.specs.declared.At.{At}
 use Rattle.walks.specs.Marks.{Marked, Tree, strip, known, opT, fact, fetchT, sizeT, node, plant, kid0, rebuild, cover}
 use Rattle.walks.specs.Utils.{isSort, newMerge, newSort}
 use Rattle.walks.specs.Terms.{_⊕_}
-use Rattle.walks.specs.Trees.{OkT, ok-fit}
+use Rattle.walks.specs.theorems.common.Trees.{OkT, ok-fit}
 use Rattle.walks.specs.PushdownSorts as walk
-use Rattle.walks.specs.PushOk.{VisitFits, EachFits, helper-fitted, push-ok}
-use Rattle.walks.specs.Keys.{no-keys}
+use Rattle.walks.specs.theorems.push.WellFormed.{VisitFits, EachFits, helper-fitted, push-ok}
+use Rattle.walks.specs.theorems.common.Keys.{no-keys}
 use Rattle.walks.specs.Counted.{answered, answerOf, Counted, stopped, counted, bind, constantSort, overflows, afterwards, countDown}
-use Rattle.walks.specs.CountedWalks.{one-le, one-visited}
+use Rattle.walks.specs.theorems.calls.Counts.{one-le, one-visited}
 use Rattle.plan_context.specs.View.{treeIn, treeOf, forest, Arena, Grown}
 use Rattle.plan_context.specs.Laws.{facts-at, length-facts, same-trans}
 use Rattle.plan_context.specs.Facts.{size-strip}

@@ -22,12 +22,12 @@ use Rattle.key_lists.specs.declared.Order.the-variants.{Unordered, By}
 use Rattle.arena.specs.Arena.{index, marked, slot}
 use Rattle.arena.specs.declared.At.{At}
 use Rattle.walks.specs.Marks.{Marked, Tree, strip, known, at, node, plant, sizeT, setMark, Shape, aSort, aMerge, aRepartition, aCoalesce, another, shape, rebuild}
-use Rattle.walks.specs.Trees.{OkT, ok-fit}
-use Rattle.walks.specs.NewNodes.{coalesce-ok, node-fetch, over-of}
-use Rattle.walks.specs.Keeps.{kept-node, like-refl}
+use Rattle.walks.specs.theorems.common.Trees.{OkT, ok-fit}
+use Rattle.walks.specs.theorems.common.NewNodes.{coalesce-ok, node-fetch, over-of}
+use Rattle.walks.specs.theorems.common.Keeps.{kept-node, like-refl}
 use Rattle.walks.specs.Utils.{isSortPreservingMerge}
 use Rattle.walks.specs.OrderPreserving.{markFirst, enters, breakBy, breakEach, planWithOrderBreakingVariants}
-use Rattle.walks.specs.OrderPreservingKept.{strip-first, breakEach-kept}
+use Rattle.walks.specs.theorems.preserve.Kept.{strip-first, breakEach-kept}
 use Rattle.plan_context.specs.View.{treeOf, forest, Grown, Puts}
 use Rattle.plan_context.specs.Handles.{Marks}
 use Rattle.replace_with_order_preserving_variants.specs.Kinds.{op-ind, treated-5, treated-8}

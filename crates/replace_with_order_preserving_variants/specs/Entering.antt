@@ -17,7 +17,7 @@ use Rattle.arena.specs.declared.At.{At}
 use Rattle.arena.specs.Laws.{below-at, below-more}
 use Rattle.walks.specs.Marks.{Marked, Tree, node, plant, sizeT}
 use Rattle.walks.specs.Terms.{_⊕_}
-use Rattle.walks.specs.Trees.{OkT}
+use Rattle.walks.specs.theorems.common.Trees.{OkT}
 use Rattle.plan_context.specs.View.{treeOf, forest, mostSlots, Arena, Grown, Puts}
 use Rattle.plan_context.specs.Laws.{slot-same, forest-same, tree-same, fewer}
 use Rattle.plan_context.specs.Nodes.{Seen, seen}

@@ -19,10 +19,10 @@ use Rattle.arena.specs.declared.At.{At}
 use Rattle.arena.specs.Laws.{below-at, below-more}
 use Rattle.walks.specs.Marks.{Marked, Tree, strip, known, node, plant, opT, setMark, unmark, anyMark, headMark}
 use Rattle.walks.specs.Terms.{_⊕_}
-use Rattle.walks.specs.Trees.{Ok, OkT}
+use Rattle.walks.specs.theorems.common.Trees.{Ok, OkT}
 use Rattle.walks.specs.Utils.{isCoalescePartitions}
 use Rattle.walks.specs.OrderPreserving.{inspectChild, masked, inspected, initiates, carries, carryEach}
-use Rattle.walks.specs.OrderPreservingKept.{strip-masked}
+use Rattle.walks.specs.theorems.preserve.Kept.{strip-masked}
 use Rattle.plan_context.specs.View.{treeOf, forest, mostSlots, Arena, Grown, Puts}
 use Rattle.plan_context.specs.Laws.{fewer, tree-same}
 use Rattle.plan_context.specs.Handles.{Marks}

@@ -20,8 +20,8 @@ use Rattle.record_fields.specs.Encoded.{proper}
 use Rattle.row_facts.specs.Asked.{told}
 use Rattle.node_properties.specs.Nodes.{Among}
 use Rattle.walks.specs.Marks.{Marked, known, strip, node, fact}
-use Rattle.walks.specs.Trees.{Ok, OkT}
-use Rattle.walks.specs.NewNodes.{narrow}
+use Rattle.walks.specs.theorems.common.Trees.{Ok, OkT}
+use Rattle.walks.specs.theorems.common.NewNodes.{narrow}
 use Rattle.arena.specs.Arena.{slotSize, slot}
 use Rattle.arena.specs.Laws.{below-at, index-even}
 use Rattle.plan_context.specs.View.{treeIn, treeOf, forest, Arena, Here}

@@ -27,10 +27,10 @@ use Rattle.row_facts.specs.Asked.{told}
 use Rattle.arena.specs.Arena.{index, marked, slot}
 use Rattle.arena.specs.declared.At.{At}
 use Rattle.walks.specs.Marks.{Marked, Tree, strip, known, at, node, opT, fact, sizeT, setMark, Shape, aSort, aMerge, aRepartition, aCoalesce, another, shape, rebuild}
-use Rattle.walks.specs.Trees.{OkT, Fit, FitsA, arity, count, ok-fit}
-use Rattle.walks.specs.Keeps.{KeepsAll, kept-node, like-refl}
+use Rattle.walks.specs.theorems.common.Trees.{OkT, Fit, FitsA, arity, count, ok-fit}
+use Rattle.walks.specs.theorems.common.Keeps.{KeepsAll, kept-node, like-refl}
 use Rattle.walks.specs.OrderPreserving.{markFirst, mergeOver, preserveBy, preserveEach, planWithOrderPreservingVariants}
-use Rattle.walks.specs.OrderPreservingKept.{preserveBy-kept, preserveEach-kept}
+use Rattle.walks.specs.theorems.preserve.Kept.{preserveBy-kept, preserveEach-kept}
 use Rattle.plan_context.specs.View.{treeOf, forest, Arena, Grown, Puts}
 use Rattle.plan_context.specs.Laws.{fewer, facts-at, length-facts}
 use Rattle.plan_context.specs.Nodes.{seen, counts-of}

@@ -14,10 +14,10 @@ use Rattle.semantics.specs.Properties.{remark}
 use Rattle.arena.specs.declared.At.{At}
 use Rattle.arena.specs.Laws.{below-at}
 use Rattle.walks.specs.Marks.{Marked, Tree, known, node, plant, sizeT, setMark, rebuild}
-use Rattle.walks.specs.Trees.{OkT}
-use Rattle.walks.specs.Keeps.{remark-like}
+use Rattle.walks.specs.theorems.common.Trees.{OkT}
+use Rattle.walks.specs.theorems.common.Keeps.{remark-like}
 use Rattle.walks.specs.OrderPreserving.{markFirst}
-use Rattle.walks.specs.OrderPreservingKept.{strip-first}
+use Rattle.walks.specs.theorems.preserve.Kept.{strip-first}
 use Rattle.plan_context.specs.View.{treeOf, forest, Grown, Puts}
 use Rattle.plan_context.specs.Laws.{same-trans}
 use Rattle.plan_context.specs.Kids.{Kids}

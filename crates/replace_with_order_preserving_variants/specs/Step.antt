@@ -24,11 +24,11 @@ use Rattle.row_facts.specs.Asked.{told}
 use Rattle.arena.specs.Arena.{slotSize, marked}
 use Rattle.arena.specs.declared.At.{At}
 use Rattle.walks.specs.Marks.{Marked, Tree, strip, known, node, opT, fact, sizeT, unmark, kid0, headMark, shape}
-use Rattle.walks.specs.Trees.{OkT}
-use Rattle.walks.specs.NewNodes.{node-fetch}
+use Rattle.walks.specs.theorems.common.Trees.{OkT}
+use Rattle.walks.specs.theorems.common.NewNodes.{node-fetch}
 use Rattle.walks.specs.OrderPreserving as walk
 use Rattle.walks.specs.OrderPreserving.{alternatePlan, accepted, replaceBy, useOrderPreservingVariant, planWithOrderPreservingVariants, replaceWithOrderPreservingVariants}
-use Rattle.walks.specs.OrderPreservingKept.{strip-carry}
+use Rattle.walks.specs.theorems.preserve.Kept.{strip-carry}
 use Rattle.plan_context.specs.declared.Summary.{Summary}
 use Rattle.plan_context.specs.View.{treeOf, forest, mostSlots, Sums, Grown, Here, Puts}
 use Rattle.plan_context.specs.Laws.{here, fewer, same-trans, forest-same, length-facts}

@@ -26,7 +26,7 @@ ghost use lib.Dec.{eqb};
 ghost use Rattle.plan.specs.Numbers.{code};
 ghost use Rattle.plan_codec.specs.Decode.{decode};
 ghost use Rattle.walks.specs.Marks.{sizeT};
-ghost use Rattle.walks.specs.Trees.{OkT};
+ghost use Rattle.walks.specs.theorems.common.Trees.{OkT};
 ghost use Rattle.walks.specs.OrderPreserving.{mergeOver, planWithOrderPreservingVariants};
 ghost use Rattle.arena.specs.Arena.{slot};
 ghost use Rattle.plan_context.specs.View.{treeOf, forest, Grown, Puts};

@@ -25,10 +25,10 @@ use Rattle.arena.specs.Arena.{slotSize, index, slot, Below}
 use Rattle.arena.specs.declared.At.{At}
 use Rattle.arena.specs.Laws.{below-at, below-more}
 use Rattle.walks.specs.Marks.{Tree, strip, node, opT, sizeT}
-use Rattle.walks.specs.Trees.{Ok, OkT}
+use Rattle.walks.specs.theorems.common.Trees.{Ok, OkT}
 use Rattle.walks.specs.PartialSort.{Replaced, pastTheEnd, becomes, replaceWithPartialSort, fromNode, setNode}
 use Rattle.walks.specs.Counted.{Answer, answered, refused, partialAnswer, partialAt, partiallySorted}
-use Rattle.walks.specs.PartialSortKept.{SetKept, partial-kept}
+use Rattle.walks.specs.theorems.partial_sort.Kept.{SetKept, partial-kept}
 use Rattle.plan_context.specs.View.{treeOf, forest, mostSlots, Arena, Same, Grown, Puts}
 use Rattle.plan_context.specs.Laws.{slot-same, tree-same, forest-same, same-trans}
 use Rattle.plan_context.specs.Facts.{size-strip}

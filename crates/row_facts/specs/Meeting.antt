@@ -13,7 +13,7 @@ use Rattle.row_order.specs.Iso.{Key}
 use Rattle.row_order.specs.Order.{no-bool}
 use Rattle.row_order.specs.Packed.{bit, keyOf}
 use Rattle.plan.specs.WellFormed.{member}
-use Rattle.semantics.specs.Bools.{and-left, and-right}
+use Rattle.semantics.specs.theorems.common.Bools.{and-left, and-right}
 use Rattle.semantics.specs.Facts.{Facts, isC, cl, nfBy, nf, withColumn, eqKey, prefixb, met, knownOrder}
 use Rattle.column_sets.specs.Sets.{Holding}
 use Rattle.key_lists.specs.declared.Keys.{Keys}

@@ -20,7 +20,7 @@ use Rattle.plan_codec.specs.Trees.{recorded, nodes-recorded}
 use Rattle.plan_codec.specs.Writing.{written, recordsOf}
 use Rattle.semantics.specs.Facts.{facts}
 use Rattle.walks.specs.Marks.{Tree, strip, opT, sizeT}
-use Rattle.walks.specs.Trees.{Ok}
+use Rattle.walks.specs.theorems.common.Trees.{Ok}
 use Rattle.arena.specs.Arena as records
 use Rattle.arena.specs.Arena.{index, slot, held, at, treeAt, Below, Good}
 use Rattle.arena.specs.Laws.{at-new, at-old, length-trees}

@@ -17,8 +17,8 @@ use Rattle.plan.specs.declared.Refusal.the-variants.{ConstantSort, HasPartialSo
 use Rattle.key_lists.specs.Keys.{Real}
 use Rattle.walks.specs.Marks.{Marked, Tree, fact, opT, plant, sizeT, strip}
 use Rattle.walks.specs.PushdownSorts.{atRoot, carryOut, Decision}
-use Rattle.walks.specs.PushOk.{root-fits, VisitFits}
-use Rattle.walks.specs.Answers.{pushed-well}
+use Rattle.walks.specs.theorems.push.WellFormed.{root-fits, VisitFits}
+use Rattle.walks.specs.theorems.calls.Answers.{pushed-well}
 use Rattle.walks.specs.Counted.{afterwards, answered, answerOf, bind, constantSort, countDown, Counted, counted, overflows, pushed, refused, stopped}
 use Rattle.arena.specs.Arena.{slotSize, index, held}
 use Rattle.plan_context.specs.View.{treeIn, treeOf, Arena}

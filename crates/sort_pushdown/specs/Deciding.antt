@@ -27,7 +27,7 @@ use Rattle.push_requirements.specs.declared.ParentRequirements.{ParentRequireme
 use Rattle.push_requirements.specs.Answers.{some-keys}
 use Rattle.push_requirements.specs.Pushing.{required, orderBy, Going, Seen}
 use Rattle.walks.specs.Utils.{needsMerge, newMerge, newSort, sortAboveWithDistribution, isSort}
-use Rattle.walks.specs.Keeps.{remark-same}
+use Rattle.walks.specs.theorems.common.Keeps.{remark-same}
 use Rattle.walks.specs.SortPushdown.{ParentRequirements, strongerDistribution}
 use Rattle.walks.specs.PushdownSorts as walk
 use Rattle.walks.specs.Counted.{one, tooMany}

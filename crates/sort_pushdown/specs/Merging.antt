@@ -15,7 +15,7 @@ use borrow.Author.Tests.{eqb-true}
 use Rattle.plan.specs.declared.Distribution.the-variants.{Unspecified}
 use Rattle.plan.specs.declared.Fetch.{Fetch}
 use Rattle.semantics.specs.Facts.{Facts, at0, facts, factsOp, isNil, met, nf, isC, cl, counts, knownOrder}
-use Rattle.semantics.specs.NormalForm.{nf-all}
+use Rattle.semantics.specs.theorems.orders.NormalForms.{nf-all}
 use Rattle.semantics.specs.Properties.{freshKeys, fetches, fetchOp, rebuilt, remark}
 use Rattle.key_lists.specs.declared.Keys.{Keys}
 use Rattle.key_lists.specs.declared.Order.{Order}
@@ -29,8 +29,8 @@ use Rattle.push_requirements.specs.declared.Pushed.{Pushed as Answered}
 use Rattle.push_requirements.specs.Pushing.{Pushes, Going, Asked, Seen}
 use Rattle.walks.specs.Utils.{needsMerge, newMerge, sortAboveWithDistribution}
 use Rattle.walks.specs.Marks.{shape}
-use Rattle.walks.specs.Keeps.{remark-same}
-use Rattle.walks.specs.Opening.{rebuilt-facts}
+use Rattle.walks.specs.theorems.common.Keeps.{remark-same}
+use Rattle.walks.specs.theorems.parallelize.Bottlenecks.{rebuilt-facts}
 use Rattle.walks.specs.SortPushdown.{minFetch, Pushed, goes, stop, pushdownRequirementToChildren}
 use Rattle.walks.specs.PushdownSorts as walk
 use Rattle.sort_pushdown.specs.declared.NewNodes.{NewNodes}

@@ -23,7 +23,7 @@ use Rattle.row_facts.specs.Asked.{told}
 use Rattle.arena.specs.Arena.{slotSize}
 use Rattle.arena.specs.declared.At.{At}
 use Rattle.walks.specs.Marks.{Tree, known, node, plant, over, opT, fact, fetchT, sizeT, setMark}
-use Rattle.walks.specs.Trees.{OkT}
+use Rattle.walks.specs.theorems.common.Trees.{OkT}
 use Rattle.walks.specs.EnsureSorting.{connected, gatherOp, gather}
 use Rattle.plan_context.specs.View.{treeOf, forest, mostNodes, mostSlots, Arena, Grown, Puts}
 use Rattle.plan_context.specs.Nodes.{counts-of}

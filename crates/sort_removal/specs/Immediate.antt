@@ -26,8 +26,8 @@ use Rattle.row_facts.specs.Asked.{told}
 use Rattle.arena.specs.Arena.{slotSize, index, slot, Below}
 use Rattle.arena.specs.declared.At.{At}
 use Rattle.walks.specs.Marks.{Marked, Tree, strip, known, node, plant, over, opT, fact, sizeT, setMark, kid0, unmark}
-use Rattle.walks.specs.Trees.{Ok, OkT}
-use Rattle.walks.specs.EnsureKept.{strip-unmark}
+use Rattle.walks.specs.theorems.common.Trees.{Ok, OkT}
+use Rattle.walks.specs.theorems.ensure.Kept.{strip-unmark}
 use Rattle.walks.specs.EnsureSorting.{limitNote, limited, immediate}
 use Rattle.plan_context.specs.View.{treeOf, forest, mostSlots, Arena, Grown, Puts}
 use Rattle.plan_context.specs.Laws.{facts-at}

@@ -23,7 +23,7 @@ use Rattle.arena.specs.declared.At.{At}
 use Rattle.arena.specs.Laws.{below-at, below-more}
 use Rattle.walks.specs.Marks.{Marked, Tree, node, plant, opT, sizeT, setMark, kid0, shape}
 use Rattle.walks.specs.Terms.{_⊕_}
-use Rattle.walks.specs.Trees.{OkT}
+use Rattle.walks.specs.theorems.common.Trees.{OkT}
 use Rattle.walks.specs.EnsureSorting.{gather, dropSort, removeBy, removeTop, removeKids}
 use Rattle.plan_context.specs.View.{treeOf, forest, mostNodes, mostSlots, Arena, Same, Grown}
 use Rattle.plan_context.specs.Laws.{slot-same, forest-same, tree-same, same-trans}

@@ -23,10 +23,10 @@ use Rattle.arena.specs.Arena.{slotSize, index, slot, Below}
 use Rattle.arena.specs.declared.At.{At}
 use Rattle.arena.specs.Laws.{below-at}
 use Rattle.walks.specs.Marks.{Marked, Tree, strip, known, node, plant, opT, setMark, kid0, anyMark, aMerge, aRepartition, shape, rebuild}
-use Rattle.walks.specs.Trees.{Ok, OkT, Fit, FitsA, arity, count, ok-fit}
-use Rattle.walks.specs.Keeps.{KeepsAll, kept-node, like-refl, remark-like}
+use Rattle.walks.specs.theorems.common.Trees.{Ok, OkT, Fit, FitsA, arity, count, ok-fit}
+use Rattle.walks.specs.theorems.common.Keeps.{KeepsAll, kept-node, like-refl, remark-like}
 use Rattle.walks.specs.EnsureSorting.{connectedEach, updateSortCtxChildrenData, loosen, resettle, removeBy, removeTop, removeKids}
-use Rattle.walks.specs.EnsureKept.{removeKids-kept, strip-connected}
+use Rattle.walks.specs.theorems.ensure.Kept.{removeKids-kept, strip-connected}
 use Rattle.plan_context.specs.View.{treeOf, forest, mostNodes, mostSlots, Arena, Grown, Puts}
 use Rattle.plan_context.specs.Nodes.{Seen, counts-of}
 use Rattle.plan_context.specs.Handles.{Marks}

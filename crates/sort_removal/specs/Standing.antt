@@ -17,7 +17,7 @@ use Rattle.plan.specs.declared.Kind.{Kind}
 use Rattle.plan.specs.declared.Kind.the-variants.{Repartition, Sort, Merge}
 use Rattle.plan_format.specs.Record.{children}
 use Rattle.plan_codec.specs.Decode.{fromBytes, operatorOf, decode}
-use Rattle.semantics.specs.Bools.{and-left, and-right}
+use Rattle.semantics.specs.theorems.common.Bools.{and-left, and-right}
 use Rattle.semantics.specs.Facts.{Facts, facts, nothing}
 use Rattle.semantics.specs.Properties.{maintains}
 use Rattle.record_fields.specs.Proper.{Proper}
@@ -25,9 +25,9 @@ use Rattle.record_fields.specs.Encoded as encoded
 use Rattle.row_facts.specs.Asked.{told}
 use Rattle.node_properties.specs.Nodes.{Among}
 use Rattle.walks.specs.Marks.{fact, known, node, opT, setMark, strip}
-use Rattle.walks.specs.Trees.{Ok}
-use Rattle.walks.specs.ListFacts.{all-nth}
-use Rattle.walks.specs.NewNodes.{narrow, nth-width}
+use Rattle.walks.specs.theorems.common.Trees.{Ok}
+use Rattle.walks.specs.theorems.common.Lists.{all-nth}
+use Rattle.walks.specs.theorems.common.NewNodes.{narrow, nth-width}
 use Rattle.arena.specs.Arena.{slotSize, index, marked, slot}
 use Rattle.arena.specs.Laws.{below-at, below-more}
 use Rattle.plan_context.specs.View.{treeOf, forest, Arena, Here, Over}

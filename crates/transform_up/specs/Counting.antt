@@ -12,7 +12,7 @@ use Rattle.plan.specs.declared.Refusal.the-variants.{TooManyNodes}
 use Rattle.walks.specs.Marks.{Marked, Tree, plant, sizeT, rebuild, transformUp}
 use Rattle.walks.specs.Terms.{_⊕_, sizesUp, small}
 use Rattle.walks.specs.Counted.{Counted, stopped, counted, bind, tooMany, stepped, countUp}
-use Rattle.walks.specs.CountedWalks.{count-up}
+use Rattle.walks.specs.theorems.calls.Counts.{count-up}
 
 -- The walk of one tree
 abbrev pub countTree : (Tree → Tree) → ℕ → Op → Plan → Counted Tree

@@ -13,7 +13,7 @@ use Rattle.plan_codec.specs.Decode.{decode}
 use Rattle.plan_codec.specs.Encode.{encode}
 use Rattle.semantics.specs.Properties.{rebuilt}
 use Rattle.walks.specs.Marks.{Tree, node, known, sizeT, rebuild}
-use Rattle.walks.specs.Trees.{OkT}
+use Rattle.walks.specs.theorems.common.Trees.{OkT}
 use Rattle.walks.specs.Counted.{tooMany}
 use Rattle.arena.specs.Arena.{slotSize, slot, Below}
 use Rattle.arena.specs.declared.At.{At}

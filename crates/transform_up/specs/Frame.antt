@@ -19,9 +19,9 @@ use Rattle.arena.specs.declared.At.{At}
 use Rattle.arena.specs.Laws.{below-at}
 use Rattle.walks.specs.Marks.{Marked, Tree, node, plant, opT, sizeT, rebuild, strip, bare, transformUp}
 use Rattle.walks.specs.Terms.{_⊕_}
-use Rattle.walks.specs.Trees.{Ok, OkT, Fit, FitsA, arity, ok-fit}
-use Rattle.walks.specs.Trees as walks
-use Rattle.walks.specs.Keeps.{kept-node, like-refl, walk-kept, strip-bare}
+use Rattle.walks.specs.theorems.common.Trees.{Ok, OkT, Fit, FitsA, arity, ok-fit}
+use Rattle.walks.specs.theorems.common.Trees as walks
+use Rattle.walks.specs.theorems.common.Keeps.{kept-node, like-refl, walk-kept, strip-bare}
 use Rattle.walks.specs.Counted.{Counted, stopped, counted, bind, tooMany, stepped, countUp}
 use Rattle.plan_context.specs.View.{treeIn, treeOf, forest, Arena, Same, Grown}
 use Rattle.plan_context.specs.Laws.{same-trans, slot-same, in-same}

@@ -1,14 +1,14 @@
 -- The walks that go children before parents: the step of each, as the walks' definitions have it. These are definitions, but for step-keeps.
 use mathlib.Core.Bool.{Bool, true, false}
 use Rattle.walks.specs.Marks.{Tree}
-use Rattle.walks.specs.Trees.{FitT}
-use Rattle.walks.specs.Keeps.{Keeps}
+use Rattle.walks.specs.theorems.common.Trees.{FitT}
+use Rattle.walks.specs.theorems.common.Keeps.{Keeps}
 use Rattle.walks.specs.EnsureSorting.{ensureSorting}
-use Rattle.walks.specs.EnsureKept.{ensureSorting-kept}
+use Rattle.walks.specs.theorems.ensure.Kept.{ensureSorting-kept}
 use Rattle.walks.specs.ParallelizeSorts.{parallelizeSorts}
-use Rattle.walks.specs.ParallelizeKept.{parallelizeSorts-kept}
+use Rattle.walks.specs.theorems.parallelize.Kept.{parallelizeSorts-kept}
 use Rattle.walks.specs.OrderPreserving.{replaceWithOrderPreservingVariants}
-use Rattle.walks.specs.OrderPreservingKept as preserving
+use Rattle.walks.specs.theorems.preserve.Kept as preserving
 use Rattle.replace_with_order_preserving_variants.specs.Step.{settingsOf}
 use Rattle.transform_up.specs.declared.Walk.{Walk}
 use Rattle.transform_up.specs.declared.Walk.the-variants.{Ensure, Parallelize, Preserve}

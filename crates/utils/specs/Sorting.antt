@@ -19,8 +19,8 @@ use Rattle.semantics.specs.Facts.{Facts, met}
 use Rattle.semantics.specs.Properties.{isSingle, freshKeys}
 use Rattle.walks.specs.Marks.{Tree, fact, over, cover, coverWith, node, sizeT}
 use Rattle.walks.specs.Utils.{newSort, newMerge, needsMerge, addSortAbove, addSortAboveWithDistribution, addSortAboveWithCheck}
-use Rattle.walks.specs.Keys.{KeysFit, fresh-fits}
-use Rattle.walks.specs.NewNodes.{sort-ok, merge-ok, narrowT}
+use Rattle.walks.specs.theorems.common.Keys.{KeysFit, fresh-fits}
+use Rattle.walks.specs.theorems.common.NewNodes.{sort-ok, merge-ok, narrowT}
 use Rattle.key_lists.specs.Keys.{keysOf, Keyed}
 use Rattle.key_lists.specs.Lists.{length-keys}
 use Rattle.facts.specs.Known.{known as told}

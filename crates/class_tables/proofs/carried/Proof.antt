@@ -7,7 +7,7 @@ use Rattle.class_tables.specs.Tables.{at, carries}
 use lib.Dec.{eqb}
 use borrow.Author.Count.{below-none, below-more}
 use borrow.Author.Tests.{eq-eqb, ne-eqb}
-use Rattle.semantics.specs.Lowest.{lowest-none}
+use Rattle.semantics.specs.theorems.common.Lowest.{lowest-none}
 use Rattle.class_tables.specs.Lowest.{Nowhere, lowest-at}
 use Rattle.class_tables.proofs.carried.Statement.{statement}
 use Rattle.class_tables.proofs.carried.Tie as tie

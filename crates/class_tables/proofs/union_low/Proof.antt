@@ -5,7 +5,7 @@ use mathlib.Core.Path.{_≡_, sym, _∙_}
 use Prim.Native.Nat.{_-_, _≤_}
 use Rattle.class_tables.specs.Tables.{at, alikeAt}
 use borrow.Author.Count.{below-none, below-more}
-use Rattle.semantics.specs.Lowest.{lowest-none}
+use Rattle.semantics.specs.theorems.common.Lowest.{lowest-none}
 use Rattle.class_tables.specs.Lowest.{Nowhere, lowest-at}
 use Rattle.class_tables.proofs.union_low.Statement.{statement}
 use Rattle.class_tables.proofs.union_low.Tie as tie

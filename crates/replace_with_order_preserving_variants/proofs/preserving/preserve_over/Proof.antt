@@ -7,7 +7,7 @@ use Rattle.record_fields.specs.Proper.{Proper}
 use mathlib.Core.Bool.{true}
 use lib.ListN.{length}
 use Rattle.arena.specs.Arena.{slot}
-use Rattle.walks.specs.Trees.{OkT}
+use Rattle.walks.specs.theorems.common.Trees.{OkT}
 use Rattle.plan_context.specs.View.{forest}
 use Rattle.replace_with_order_preserving_variants.specs.Nodes.{shown, record-proper}
 use Rattle.replace_with_order_preserving_variants.specs.Replacing.{grown-as}

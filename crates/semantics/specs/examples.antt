@@ -1,0 +1,2 @@
+pub mod SampleRows
+pub mod Examples

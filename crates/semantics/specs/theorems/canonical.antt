@@ -1,0 +1,2 @@
+pub mod UnionsProjections
+pub mod EveryNode

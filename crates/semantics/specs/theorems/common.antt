@@ -1,0 +1,4 @@
+pub mod Bools
+pub mod Lowest
+pub mod Streams
+pub mod Sums

@@ -1,0 +1,5 @@
+pub mod JoinsHold
+pub mod KindsHold
+pub mod Sound
+pub mod PassingPlan
+pub mod DeclaredKept

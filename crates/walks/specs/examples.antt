@@ -1,0 +1,4 @@
+pub mod Samples
+pub mod Worked
+pub mod Pinned
+pub mod PinnedPush

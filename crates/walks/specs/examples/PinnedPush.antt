@@ -1,0 +1,223 @@
+-- Small plans, by computation: pushing. 'not:' names the wrong definition that a plan tells from the right one. Pinned says what such plans are for.
+use mathlib.Core.Path.{_≡_, refl}
+use mathlib.Core.Bool.{true, false}
+use mathlib.Core.List.{[], _∷_}
+use Prim.Native.Nat.{ℕ}
+use Rattle.row_order.specs.Iso.{Key}
+use Rattle.row_order.specs.Lists.{tab}
+use Rattle.plan.specs.Forest.{none, size, tree}
+use Rattle.plan.specs.Op.{filter, hashJoin, localLimit, mergeOp, outputRequirement, Plan, projection, repartition, sortMergeJoin, sortOp}
+use Rattle.plan.specs.Samples.{by, sourceOf, up}
+use Rattle.plan.specs.declared.Distribution.the-variants.{Keyed, Single, Unspecified}
+use Rattle.plan.specs.declared.Fetch.the-variants.{AtMost, Unlimited}
+use Rattle.plan.specs.declared.JoinType.{JoinType}
+use Rattle.plan.specs.declared.JoinType.the-variants.{Inner, Right}
+use Rattle.plan.specs.declared.Refusal.the-variants.{ConstantSort, TooManyNodes}
+use Rattle.semantics.specs.Facts.{Facts}
+use Rattle.walks.specs.SortPushdown.{exprSourceSide, leftSide}
+use Rattle.walks.specs.PushdownSorts.{push}
+use Rattle.walks.specs.Counted.{answered, pushed, refused}
+use Rattle.walks.specs.PushdownSortsLiteral.{Given, gives, literalPushed}
+use Rattle.walks.specs.Terms.{_⊕_}
+use Rattle.walks.specs.examples.Samples.{besides, byTwo, filtered, on, output, pair, single, sort, sortEach, src, stack}
+
+-- ---- 23
+-- 23 in pushing: a merge and a sort come in one step, though the sort goes again in the next
+abbrev peaked : ℕ → Plan
+peaked n =
+    stack (single (byTwo 3 1) ∷ hashJoin Inner (record { key = up 0; other = 0 } ∷ []) ∷ [])
+    (filtered n (pair 1 [] 2) ⊕ sortEach 0 (src 2 (by 0)))
+
+pub push-peak :
+    (size (peaked 120) ≡ 125)
+    × (size (push (peaked 120)) ≡ 126)
+    × (pushed (peaked 120) ≡ refused TooManyNodes)
+    × (pushed (peaked 119) ≡ answered (push (peaked 119)))
+push-peak = (refl, refl, refl, refl)
+
+-- 23 and 25 as reached: the sort of all-constant keys stands to the right of the step that leaves 127 nodes, or to its left
+abbrev constantSorted : Plan
+constantSorted = sort 0 (tree (sourceOf 3 1 1 [] false) none none)
+
+pub push-as-reached :
+    (size (output (by 0) (besides (filtered 121 (src 1 [])) constantSorted)) ≡ 126)
+    × (pushed (output (by 0) (besides (filtered 121 (src 1 [])) constantSorted)) ≡ refused TooManyNodes)
+    × (pushed (output (by 0) (besides constantSorted (filtered 121 (src 1 [])))) ≡ refused ConstantSort)
+push-as-reached = (refl, refl, refl)
+
+-- At one node 25 comes first: nodes are counted after a step, and here none ends
+pub push-25-first : (size (sort 0 (filtered 126 constantSorted)) ≡ 129) × (pushed (sort 0 (filtered 126 constantSorted)) ≡ refused ConstantSort)
+push-25-first = (refl, refl)
+
+-- not: a sort that goes ends a step. No file holds so many nodes, but the definition is of any plan
+pub push-goes-uncounted :
+    (size (sort 0 (sort 0 (filtered 125 (src 1 (by 0))))) ≡ 128)
+    × (pushed (sort 0 (sort 0 (filtered 125 (src 1 (by 0))))) ≡ answered (filtered 125 (src 1 (by 0))))
+push-goes-uncounted = (refl, refl)
+
+-- ---- past which nodes an order goes
+pub push-union : pushed (output (by 0) (besides (src 1 []) (src 1 []))) ≡ answered (output (by 0) (besides (sort 0 (src 1 [])) (sort 0 (src 1 []))))
+push-union = refl
+
+pub push-remapped :
+    pushed (output (by 0) (on (projection (1 ∷ 0 ∷ [])) (src 1 [])))
+    ≡ answered (output (by 0) (on (projection (1 ∷ 0 ∷ [])) (sort 1 (src 1 []))))
+push-remapped = refl
+
+-- no sort goes past a filter; of two fetches the least stays; a fetch does not go past a union
+pub push-blocked : pushed (on (sortOp false (by 0) (AtMost 3)) (on filter (src 1 []))) ≡ answered (on (sortOp false (by 0) (AtMost 3)) (on filter (src 1 [])))
+push-blocked = refl
+
+pub push-least-fetch :
+    pushed (on (sortOp false (by 0) (AtMost 3)) (on (sortOp false (by 0) (AtMost 5)) (src 1 [])))
+    ≡ answered (on (sortOp false (by 0) (AtMost 3)) (src 1 []))
+push-least-fetch = refl
+
+pub push-union-fetch :
+    pushed (on (sortOp false (by 0) (AtMost 3)) (besides (src 1 []) (src 1 [])))
+    ≡ answered (on (mergeOp (by 0) (AtMost 3)) (on (sortOp true (by 0) (AtMost 3)) (besides (src 1 []) (src 1 []))))
+push-union-fetch = refl
+
+-- a node of one stream hands down no distribution: no second merge below this one
+pub push-one-stream :
+    pushed (on (single (byTwo 0 1)) (on (mergeOp (by 0) Unlimited) (src 2 (by 0))))
+    ≡ answered (on (single (byTwo 0 1)) (on (mergeOp (by 0) Unlimited) (on (sortOp true (byTwo 0 1) Unlimited) (src 2 (by 0)))))
+push-one-stream = refl
+
+-- past a sort-merge join to the side whose order it keeps, in that side's columns; the other side keeps the join's own requirement
+abbrev joined : JoinType → Plan → Plan → Plan
+joined t f g = on (sortMergeJoin t (record { key = up 0; other = 0 } ∷ [])) (f ⊕ g)
+
+abbrev sortTwo : Plan → Plan
+sortTwo f = on (sortOp false (byTwo 0 1) Unlimited) f
+
+pub push-merge-join :
+    (pushed (output (byTwo 0 1) (joined Inner (src 1 []) (src 1 []))) ≡ answered (output (byTwo 0 1) (joined Inner (sortTwo (src 1 [])) (sort 0 (src 1 [])))))
+    × (pushed (output (byTwo 3 4) (joined Right (src 1 []) (src 1 []))) ≡ answered (output (byTwo 3 4) (joined Right (sort 0 (src 1 [])) (sortTwo (src 1 [])))))
+    × (pushed (output (by 1) (joined Inner (src 1 []) (src 1 []))) ≡ answered (output (by 1) (sort 1 (joined Inner (src 1 []) (src 1 [])))))
+push-merge-join = (refl, refl, refl)
+
+-- expr_source_side: of the side's columns that equal the key the lowest; Inner, 3 left columns, class {0,1,4}
+abbrev equalColumns : Facts
+equalColumns = record { width = 6; streams = 1; consts = tab 6 (λ c. false); cls = 0 ∷ 0 ∷ 2 ∷ 3 ∷ 0 ∷ 5 ∷ []; order = [] }
+
+pub side-lowest : exprSourceSide equalColumns (byTwo 4 2) Inner 3 ≡ leftSide (byTwo 0 2)
+side-lowest = refl
+
+-- ---- what goes down with an order
+-- not: the parent's distribution is lost on the way
+pub push-distribution-kept :
+    pushed (stack (sortOp false (by 1) Unlimited ∷ outputRequirement [] Unspecified Unlimited ∷ []) (pair 2 (by 0) 0))
+    ≡ answered (stack (outputRequirement [] Unspecified Unlimited ∷ mergeOp (by 1) Unlimited ∷ sortOp true (by 1) Unlimited ∷ []) (pair 2 (by 0) 0))
+push-distribution-kept = refl
+
+-- not: the root's children are not asked for their fetch at first
+pub push-initial-fetch :
+    pushed (output (byTwo 0 1) (on (mergeOp (by 0) (AtMost 2)) (pair 1 (byTwo 1 0) 0)))
+    ≡ answered (output (byTwo 0 1) (stack (sortOp false (byTwo 0 1) (AtMost 2) ∷ mergeOp (by 0) (AtMost 2) ∷ []) (pair 1 (byTwo 1 0) 0)))
+push-initial-fetch = refl
+
+-- not: a node that meets its order hands no fetch down
+pub push-satisfied-fetch :
+    pushed (stack (sortOp true (by 1) (AtMost 2) ∷ mergeOp (by 1) (AtMost 2) ∷ []) (pair 1 [] 0))
+    ≡ answered (stack (mergeOp (by 1) (AtMost 2) ∷ sortOp false (by 1) (AtMost 2) ∷ []) (pair 1 [] 0))
+push-satisfied-fetch = refl
+
+-- not: a node that an order goes past does not hand down its own fetch
+pub push-own-fetch :
+    pushed (stack (sortOp false (byTwo 1 0) Unlimited ∷ localLimit (AtMost 1) [] ∷ []) (pair 1 [] 1))
+    ≡ answered (stack (localLimit (AtMost 1) [] ∷ sortOp false (by 1) (AtMost 1) ∷ []) (pair 1 [] 1))
+push-own-fetch = refl
+
+-- not: a node with a fetch that knows no order lets none past
+pub push-unordered-open :
+    pushed (stack (sortOp true (byTwo 1 0) Unlimited ∷ mergeOp (by 0) (AtMost 2) ∷ []) (pair 1 (byTwo 1 0) 1))
+    ≡ answered (on (mergeOp (by 0) (AtMost 2)) (pair 1 (byTwo 1 0) 1))
+push-unordered-open = refl
+
+-- not: single keys are compared by their columns alone (reading 6); nulls first where the other has nulls last
+abbrev opened : ℕ → Key
+opened c = record { col = c; desc = false; first = true }
+
+abbrev asking : Plan → Plan
+asking f = on (outputRequirement (opened 0 ∷ opened 1 ∷ opened 2 ∷ []) Single (AtMost 3)) f
+
+abbrev keyed : Plan
+keyed = on (outputRequirement (up 0 ∷ opened 2 ∷ []) (Keyed 1) Unlimited) (tree (sourceOf 3 2 5 [] false) none none)
+
+pub push-options-compared :
+    pushed (asking keyed)
+    ≡ answered (asking (stack (mergeOp (opened 1 ∷ []) Unlimited ∷ sortOp true (opened 1 ∷ []) Unlimited ∷ []) keyed))
+push-options-compared = refl
+
+-- ---- sorts that go
+-- not: the child of a sort that goes is not rebuilt, so that its idle mark comes alive
+pub push-rebuilt :
+    pushed (stack (sortOp false (by 1) Unlimited ∷ repartition true 2 false [] ∷ sortOp false (byTwo 1 0) (AtMost 2) ∷ []) (pair 2 (by 0) 0))
+    ≡ answered (stack (repartition false 2 false [] ∷ sortOp true (byTwo 1 0) (AtMost 2) ∷ []) (pair 2 (by 0) 0))
+push-rebuilt = refl
+
+-- not: nor is the node rebuilt before the second try
+pub push-rebuilt-again :
+    pushed (stack (single (byTwo 0 1) ∷ repartition true 2 false [] ∷ sortOp false (by 1) (AtMost 2) ∷ []) (pair 2 (byTwo 1 0) 0))
+    ≡ answered (stack (single (byTwo 0 1) ∷ mergeOp (byTwo 0 1) Unlimited ∷ [])
+    (stack (sortOp true (byTwo 0 1) Unlimited ∷ repartition false 2 false [] ∷ []) (pair 2 (byTwo 1 0) 0)))
+push-rebuilt-again = refl
+
+-- not: a sort of which no order is required loses its parent's fetch
+pub push-parent-fetch :
+    pushed (stack (mergeOp (by 0) (AtMost 2) ∷ localLimit (AtMost 1) [] ∷ sortOp false (by 0) (AtMost 2) ∷ []) (pair 1 [] 0))
+    ≡ answered (stack (mergeOp (by 0) (AtMost 2) ∷ localLimit (AtMost 1) [] ∷ sortOp false (by 0) (AtMost 1) ∷ []) (pair 1 [] 0))
+push-parent-fetch = refl
+
+-- not: of two orders the parent's goes on where the sort's is stricter
+abbrev stricter : Plan
+stricter = stack (mergeOp (by 0) Unlimited ∷ sortOp true (by 1) (AtMost 2) ∷ []) (pair 2 [] 1)
+
+pub push-stricter-sort : pushed stricter ≡ answered stricter
+push-stricter-sort = refl
+
+-- not: below the sort that takes another's place goes the parent's fetch
+abbrev turned : Key
+turned = record { col = 1; desc = true; first = true }
+
+abbrev falling : Plan
+falling = pair 1 (record { col = 1; desc = true; first = false } ∷ []) 1
+
+pub push-replaced-fetch :
+    pushed (stack (sortOp true (up 0 ∷ turned ∷ []) Unlimited ∷ sortOp true (by 1) (AtMost 4) ∷ []) falling)
+    ≡ answered (stack (sortOp false (turned ∷ []) Unlimited ∷ sortOp false (by 1) (AtMost 4) ∷ []) falling)
+push-replaced-fetch = refl
+
+-- ---- the Rust's own form (PushdownSortsLiteral), computed: each plan tells it from a form that errs in one line
+abbrev literal : Plan → Given
+literal f = literalPushed 504 f
+
+-- not: a sort whose order another differs from hands its child the parent's fetch
+pub literal-own-fetch :
+    literal (stack (sortOp true (up 0 ∷ turned ∷ []) Unlimited ∷ sortOp true (by 1) (AtMost 4) ∷ []) falling)
+    ≡ gives (answered (stack (sortOp false (turned ∷ []) Unlimited ∷ sortOp false (by 1) (AtMost 4) ∷ []) falling))
+literal-own-fetch = refl
+
+-- not: the child of an unnecessary sort is not rebuilt
+pub literal-rebuilt :
+    literal (stack (single (by 1) ∷ sortOp false (by 1) Unlimited ∷ repartition true 2 false [] ∷ sortOp false (byTwo 1 0) (AtMost 2) ∷ []) (pair 2 (by 0) 0))
+    ≡ gives (answered (stack (single (by 1) ∷ repartition false 2 false [] ∷ sortOp true (byTwo 1 0) (AtMost 2) ∷ []) (pair 2 (by 0) 0)))
+literal-rebuilt = refl
+
+-- not: it keeps the parent's distribution
+abbrev reset : Plan
+reset = stack (single (by 1) ∷ sortOp true (by 1) Unlimited ∷ []) (pair 2 [] 0)
+
+pub literal-reset : literal reset ≡ gives (answered reset)
+literal-reset = refl
+
+-- not: the root's child loses what assign_initial_requirements gave it
+pub literal-root-child : literal (sort 1 (pair 2 [] 0)) ≡ gives (answered (stack (mergeOp (by 1) Unlimited ∷ sortOp true (by 1) Unlimited ∷ []) (pair 2 [] 0)))
+literal-root-child = refl
+
+-- not: the node itself, or those to its right, are not counted
+pub literal-counted :
+    (literal (output (by 0) (filtered 124 (src 1 []))) ≡ gives (refused TooManyNodes))
+    × (literal (besides (filtered 80 (src 1 [])) (src 1 [])) ≡ gives (answered (besides (filtered 80 (src 1 [])) (src 1 []))))
+literal-counted = (refl, refl)

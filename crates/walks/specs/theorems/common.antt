@@ -1,0 +1,11 @@
+pub mod Lists
+pub mod Skeleton
+pub mod Base
+pub mod ConstantSorts
+pub mod Trees
+pub mod Keys
+pub mod NewNodes
+pub mod Keeps
+pub mod Rows
+pub mod OrderMet
+pub mod Wider

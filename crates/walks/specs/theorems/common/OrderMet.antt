@@ -1,0 +1,161 @@
+-- When an order is met: a known order meets itself, a list is met where its normal form is, and constants and later repeats don't count.
+use mathlib.Core.Path.{_≡_, refl, sym, ap, ap₂, _∙_}
+use mathlib.Core.Bool.{Bool, true, false, cond, _&&_, _||_, Bool·beq}
+use mathlib.Core.Logic.{_⊎_, inl, inr}
+use mathlib.Core.List.{List, [], _∷_, map}
+use Prim.Native.Nat.{ℕ, zero, suc, _<_}
+use native.Mathlib.Omega.{arith}
+use borrow.Author.Tests.{eqb-true, eq-eqb}
+use lib.Dec.{eqb}
+use lib.ListN.{length, getD}
+use Rattle.row_order.specs.Iso.{Key}
+use Rattle.row_order.specs.Order.{no-bool}
+use Rattle.plan.specs.Op.{coalesce, filter, globalLimit, hashJoin, localLimit, mergeOp, On, Op, outputRequirement, partialSort, projection, repartition, sortMergeJoin, sortOp, source, union}
+use Rattle.plan.specs.WellFormed.{every, member}
+use Rattle.semantics.specs.Facts.{cl, Facts, isC, isNil, met, nf, nothing, prefixb, withColumn}
+use Rattle.semantics.specs.Properties.{freshKeys, noWish, pairs, remark, rightKey, same, wanted, wantedOf, Wish, wish}
+use Rattle.semantics.specs.Check.{asksOf, wants}
+use Rattle.semantics.specs.Canonical.{Canon}
+use Rattle.semantics.specs.theorems.common.Bools.{or-cases, or-false, or-right}
+use Rattle.semantics.specs.theorems.orders.NormalForms.{nf-idem, normal-nf}
+use Rattle.walks.specs.theorems.common.Trees.{arity, FitsA}
+use Rattle.walks.specs.theorems.common.Keeps.{remark-same}
+
+-- ---- lists of keys
+pub prefix-refl : (p : List Key) → prefixb p p ≡ true
+prefix-refl [] = refl
+prefix-refl (k ∷ p) = ap₂ _&&_ (ap₂ _&&_ (eq-eqb (k .col) (k .col) refl) (ap₂ _&&_ (self (k .desc)) (self (k .first)))) (prefix-refl p)
+  where
+    self : (b : Bool) → Bool·beq b b ≡ true
+    self true = refl
+    self false = refl
+
+-- a node meets its own known order
+pub met-own : (F : Facts) → Canon F → met F (F .order) ≡ true
+met-own F h = ap (λ (l : List Key). prefixb l (F .order)) (normal-nf (isC F) (cl F) (h .normal)) ∙ prefix-refl (F .order)
+
+-- to meet a list is to meet its normal form
+pub nf-twice : (F : Facts) → Canon F → (ks : List Key) → nf F [] (nf F [] ks) ≡ nf F [] ks
+nf-twice F h ks = nf-idem (isC F) (cl F) (h .classes .idem) [] ks
+
+pub met-nf : (F : Facts) (ks : List Key) → Canon F → met F (nf F [] ks) ≡ met F ks
+met-nf F ks h = ap (λ (l : List Key). prefixb l (F .order)) (nf-twice F h ks)
+
+-- what is no prefix is not empty
+pub prefix-some : (l q : List Key) → prefixb l q ≡ false → isNil l ≡ false
+prefix-some [] q e = e
+prefix-some (k ∷ l) q e = refl
+
+-- constants and later repeats drop out of a normal form
+module _ (F : Facts) (hF : Canon F) where
+  abbrev Seen : List ℕ → List ℕ → Type 0
+  Seen raw low = (c : ℕ) → member c raw ≡ true → member (cl F c) low ≡ true
+
+  seen-more : (d : ℕ) (raw low : List ℕ) → Seen raw low → member (cl F d) low ≡ true → Seen (d ∷ raw) low
+  seen-more d raw low h e c m = go (or-cases (eqb c d) (member c raw) m)
+    where
+      go : (eqb c d ≡ true) ⊎ (member c raw ≡ true) → member (cl F c) low ≡ true
+      go (inl q) = ap (λ (x : ℕ). member (cl F x) low) (eqb-true c d q) ∙ e
+      go (inr q) = h c q
+
+  pub fresh-nf : (raw low : List ℕ) (ks : List Key) → Seen raw low → nf F low (freshKeys F raw ks) ≡ nf F low ks
+  fresh-nf raw low [] h = refl
+  fresh-nf raw low (k ∷ ks) h =
+      go (isC F (k .col) || member (k .col) raw) refl (isC F c || member c low) refl (fresh-nf raw low ks h) (λ g. fresh-nf (k .col ∷ raw) low ks g) (λ g. fresh-nf (k .col ∷ raw) (c ∷ low) ks g)
+    where
+      c : ℕ
+      c = cl F (k .col)
+
+      k′ : Key
+      k′ = withColumn c k
+
+      drops : (isC F (k .col) || member (k .col) raw) ≡ true → (isC F c || member c low) ≡ true
+      drops e = cases (or-cases (isC F (k .col)) (member (k .col) raw) e)
+        where
+          cases : (isC F (k .col) ≡ true) ⊎ (member (k .col) raw ≡ true) → (isC F c || member c low) ≡ true
+          cases (inl q) = ap (λ (x : Bool). x || member c low) (hF .classes .const (k .col) ∙ q)
+          cases (inr q) = or-right (isC F c) (member c low) (h (k .col) q)
+
+      go : (a : Bool) → (isC F (k .col) || member (k .col) raw) ≡ a → (b : Bool) → (isC F c || member c low) ≡ b →
+          nf F low (freshKeys F raw ks) ≡ nf F low ks →
+          (Seen (k .col ∷ raw) low → nf F low (freshKeys F (k .col ∷ raw) ks) ≡ nf F low ks) →
+          (Seen (k .col ∷ raw) (c ∷ low) → nf F (c ∷ low) (freshKeys F (k .col ∷ raw) ks) ≡ nf F (c ∷ low) ks) →
+          nf F low (cond a (freshKeys F raw ks) (k ∷ freshKeys F (k .col ∷ raw) ks)) ≡ cond b (nf F low ks) (k′ ∷ nf F (c ∷ low) ks)
+      go true e true q ih _ _ = ih
+      go true e false q ih _ _ = no-bool (sym q ∙ drops e)
+      go false e true q _ ih _ =
+          ap (λ (x : Bool). cond x (nf F low (freshKeys F (k .col ∷ raw) ks)) (k′ ∷ nf F (c ∷ low) (freshKeys F (k .col ∷ raw) ks))) q
+          ∙ ih (seen-more (k .col) raw low h (in-low (isC F c) (member c low) q (hF .classes .const (k .col) ∙ or-false (isC F (k .col)) (member (k .col) raw) e .0)))
+        where
+          in-low : (x y : Bool) → x || y ≡ true → x ≡ false → y ≡ true
+          in-low true y p r = no-bool (sym r)
+          in-low false y p r = p
+      go false e false q _ _ ih =
+          ap (λ (x : Bool). cond x (nf F low (freshKeys F (k .col ∷ raw) ks)) (k′ ∷ nf F (c ∷ low) (freshKeys F (k .col ∷ raw) ks))) q
+          ∙ ap (λ (l : List Key). k′ ∷ l) (ih (seen-more (k .col) raw (c ∷ low) (λ x m. or-right (eqb (cl F x) c) (member (cl F x) low) (h x m)) (ap (λ (x : Bool). x || member c low) (eq-eqb c c refl))))
+
+pub fresh-same : (F : Facts) → Canon F → (ks : List Key) → nf F [] (freshKeys F [] ks) ≡ nf F [] ks
+fresh-same F h ks = fresh-nf F h [] [] ks (λ c e. no-bool e)
+
+pub fresh-some : (F : Facts) → Canon F → (ks : List Key) → isNil (nf F [] ks) ≡ false → isNil (freshKeys F [] ks) ≡ false
+fresh-some F h ks e = go (freshKeys F [] ks) (fresh-same F h ks)
+  where
+    go : (l : List Key) → nf F [] l ≡ nf F [] ks → isNil l ≡ false
+    go [] q = ap isNil q ∙ e
+    go (k ∷ l) q = refl
+
+-- ---- wishes
+pub nowish-met : (w : Wish) (fs : List Facts) → isNil (wantedOf w 0) ≡ true → every (λ a. met (getD fs (a .child) nothing) (a .keys)) (asksOf w) ≡ true
+nowish-met noWish fs e = refl
+nowish-met (same []) fs e = refl
+nowish-met (same (k ∷ ks)) fs e = no-bool e
+nowish-met (pairs []) fs e = refl
+nowish-met (pairs (k ∷ on)) fs e = no-bool e
+
+-- of the number of its children that a node can have, what is wanted of some child is nothing only if nothing is wanted of the first
+keys-nil : (on : List On) → isNil (map rightKey on) ≡ true → isNil (map (λ k. k .key) on) ≡ true
+keys-nil [] e = refl
+keys-nil (k ∷ on) e = no-bool e
+
+pub nil-zero : (o : Op) (n i : ℕ) → FitsA (arity o) n → i < n → isNil (wanted o i) ≡ true → isNil (wanted o 0) ≡ true
+nil-zero (source s) n i f l e = refl
+nil-zero filter n i f l e = refl
+nil-zero (projection cols) n i f l e = refl
+nil-zero union n i f l e = refl
+nil-zero (repartition p m h ks) n i f l e = refl
+nil-zero (coalesce g) n i f l e = refl
+nil-zero (sortOp p ks g) n i f l e = refl
+nil-zero (mergeOp ks g) n zero f l e = e
+nil-zero (mergeOp ks g) n (suc i) f l e = absurd (omega arith)
+nil-zero (globalLimit s g note) n i f l e = refl
+nil-zero (localLimit g note) n i f l e = refl
+nil-zero (sortMergeJoin t on) n zero f l e = e
+nil-zero (sortMergeJoin t on) n (suc zero) f l e = keys-nil on e
+nil-zero (sortMergeJoin t on) n (suc (suc i)) f l e = absurd (omega arith)
+nil-zero (hashJoin t on) n i f l e = refl
+nil-zero (outputRequirement ks d g) n zero f l e = e
+nil-zero (outputRequirement ks d g) n (suc i) f l e = absurd (omega arith)
+nil-zero (partialSort p ks m g) n zero f l e = e
+nil-zero (partialSort p ks m g) n (suc i) f l e = absurd (omega arith)
+
+abbrev pub Granted : Op → List Facts → Type 0
+Granted o fs = (i : ℕ) → i < length fs → met (getD fs i nothing) (wanted o i) ≡ true
+
+pub wants-in : (o : Op) (fs : List Facts) → FitsA (arity o) (length fs) → Granted o fs → wants o fs ≡ true
+wants-in (source s) fs f h = refl
+wants-in filter fs f h = refl
+wants-in (projection cols) fs f h = refl
+wants-in union fs f h = refl
+wants-in (repartition p n hash part) fs f h = refl
+wants-in (coalesce g) fs f h = refl
+wants-in (sortOp p ks g) fs f h = refl
+wants-in (mergeOp ks g) fs f h = ap₂ _&&_ (h 0 (omega arith)) refl
+wants-in (globalLimit s g note) fs f h = refl
+wants-in (localLimit g note) fs f h = refl
+wants-in (sortMergeJoin t on) fs f h = ap₂ _&&_ (h 0 (omega arith)) (ap₂ _&&_ (h 1 (omega arith)) refl)
+wants-in (hashJoin t on) fs f h = refl
+wants-in (outputRequirement ks dist most) fs f h = ap₂ _&&_ (h 0 (omega arith)) refl
+wants-in (partialSort p ks n g) fs f h = ap₂ _&&_ (h 0 (omega arith)) refl
+
+pub wants-remark : (g : Bool → Bool) (o : Op) (fs : List Facts) → wants (remark g o) fs ≡ wants o fs
+wants-remark g o fs = ap (λ (w : Wish). every (λ a. met (getD fs (a .child) nothing) (a .keys)) (asksOf w)) (remark-same wish g (λ p q n h ks. refl) o)

@@ -1,0 +1,6 @@
+pub mod Contexts
+pub mod Agrees
+pub mod HelperCalls
+pub mod Nodes
+pub mod Sorts
+pub mod SameAnswers
