@@ -10,19 +10,6 @@ pub fn wide(x: u8) -> usize
     x as usize
 }
 
-pub fn read8(s: &[u8]) -> [usize; 8]
-    requires { ⌜ length (now s) ≡ 8 ⌝ }
-    ensures { λ r. ⌜ r ≡ now (s .entry) ⌝ }
-{
-    let mut out = [0usize; 8];
-    let mut i = 0;
-    while i < 8 {
-        out[i] = wide(s[i]);
-        i += 1;
-    }
-    out
-}
-
 pub fn read32(s: &[u8]) -> [usize; 32]
     requires { ⌜ length (now s) ≡ 32 ⌝ }
     ensures { λ r. ⌜ r ≡ now (s .entry) ⌝ }

@@ -15,10 +15,10 @@ use Rattle.plan.specs.Numbers.{numberOf}
 use Rattle.plan.specs.WellFormed.{wellFormed}
 use Rattle.plan_format.specs.Reading.{refusalOf}
 use Rattle.plan_roundtrip.specs.Back.{AllBytes}
-use Rattle.plan_codec.specs.Encode.{num}
+use Rattle.plan_codec.specs.Encode.{oneIf}
 use Rattle.plan_codec.specs.Reading.{plan, planOf, reading, refused}
 use Rattle.plan_codec.specs.RoundTrip.{read-well-formed}
-use Rattle.semantics.specs.Check.{check, Met}
+use Rattle.semantics.specs.Check.{check, EachMet}
 use Rattle.semantics.specs.theorems.check.CheckIsMet.{check-met, met-check}
 use Rattle.semantics.specs.Runs.{Env, Run, Sources, Streams}
 use Rattle.sort_placement.specs.Answers.{checkAnswer}
@@ -39,11 +39,11 @@ is-plan : (s : List ℕ) → numberOf (refusalOf s) ≡ 0 → reading s ≡ plan
 unfolding reading
 is-plan s z = ap (λ b. cond b (plan (planOf s)) (refused (refusalOf s))) (eq-eqb (numberOf (refusalOf s)) 0 z)
 
-is-answer : (f : Plan) (p : ℕ) → checkAnswer (plan f) p ≡ num (check f)
+is-answer : (f : Plan) (p : ℕ) → checkAnswer (plan f) p ≡ oneIf (check f)
 unfolding checkAnswer
 is-answer f p = refl
 
-is-one : (b : Bool) → num b ≡ 1 → b ≡ true
+is-one : (b : Bool) → oneIf b ≡ 1 → b ≡ true
 is-one true e = refl
 is-one false e = absurd (omega arith)
 
@@ -53,15 +53,15 @@ module _ (s : List ℕ) (answer before after : ℕ) (bytes : AllBytes s)
   holding : answer ≡ 0 → {P : Plan → Type 0} → P (planOf s) → Holding s P
   holding z p = let r = is-plan s (sym first ∙ z) in record { held = planOf s; read = r; formed = read-well-formed s (planOf s) bytes r; that = p }
 
-  writes : answer ≡ 0 → after ≡ num (check (planOf s))
+  writes : answer ≡ 0 → after ≡ oneIf (check (planOf s))
   writes z = second ∙ ap (λ a. checkAnswer a before) (is-plan s (sym first ∙ z)) ∙ is-answer (planOf s) before
 
   pub checked-feeds : answer ≡ 0 → after ≡ 1 → Holding s FeedsInOrder
   checked-feeds z o = holding z (order-kept (planOf s) (is-one (check (planOf s)) (sym (writes z) ∙ o)))
 
   -- and it writes 1 exactly if each node's wanted orders are met by its children's facts
-  pub writes-one : answer ≡ 0 → after ≡ 1 → Holding s Met
+  pub writes-one : answer ≡ 0 → after ≡ 1 → Holding s EachMet
   writes-one z o = holding z (check-met (planOf s) (is-one (check (planOf s)) (sym (writes z) ∙ o)))
 
-  pub met-writes-one : answer ≡ 0 → (f : Plan) → reading s ≡ plan f → Met f → after ≡ 1
-  met-writes-one z f r m = second ∙ ap (λ a. checkAnswer a before) r ∙ is-answer f before ∙ ap num (met-check m)
+  pub met-writes-one : answer ≡ 0 → (f : Plan) → reading s ≡ plan f → EachMet f → after ≡ 1
+  met-writes-one z f r m = second ∙ ap (λ a. checkAnswer a before) r ∙ is-answer f before ∙ ap oneIf (met-check m)

@@ -14,7 +14,7 @@ use Rattle.plan.specs.Forest.{Forest}
 use Rattle.plan.specs.Op.{Op, Plan}
 use Rattle.plan.specs.WellFormed.{wellFormed}
 use Rattle.semantics.specs.Properties.{wanted}
-use Rattle.semantics.specs.Check.{check, Met}
+use Rattle.semantics.specs.Check.{check, EachMet}
 use Rattle.semantics.specs.Runs.{Streams, Env, Run, EachSource, Sources}
 use Rattle.semantics.specs.SourceRows.{rowsFor, Filled}
 use Rattle.semantics.specs.Holds.{Wanted, Everywhere}
@@ -52,7 +52,7 @@ order-kept f c E d out r = everywhere-map (λ o below css own h. sorted-fed o cs
 -- No empty promise: the check passes wherever each node's wanted orders are met by its children's facts; every plan has source rows, as
 -- many as one likes on every stream, that keep its declared facts; and every accepted plan has a run, whatever its source rows and filter
 -- tests. `PassingPlan` (semantics) has a plan of eight nodes with all of it
-pub check-passes : {f : Plan} → Met f → check f ≡ true
+pub check-passes : {f : Plan} → EachMet f → check f ≡ true
 check-passes = met-check
 
 pub declared-rows : (n : ℕ) (f : Plan) → (E : Env) × Sources E 0 f × EachSource (λ i s. Filled n (E .rows i) s) 0 f

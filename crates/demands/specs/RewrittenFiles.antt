@@ -21,7 +21,7 @@ use Rattle.plan_format.specs.Reading.{refusalOf}
 use Rattle.plan_roundtrip.specs.Back.{AllBytes}
 use Rattle.plan_codec.specs.Reading as codec
 use Rattle.plan_codec.specs.Reading.{plan, planOf, reading}
-use Rattle.plan_codec.specs.Writing.{written}
+use Rattle.plan_codec.specs.Writing.{fileOfPlan}
 use Rattle.plan_codec.specs.RoundTrip.{read-well-formed, read-written}
 use Rattle.semantics.specs.Check.{check}
 use Rattle.semantics.specs.Runs.{Env, Run, SameInputs, Sources, Streams}
@@ -99,17 +99,17 @@ module _ (w : Walk) (s out : List ℕ) (bytes : AllBytes s) where
       fine = read-well-formed s (planOf s) bytes r
 
       -- by the room in the output
-      short : (g : Plan) → answer w (planOf s) ≡ answered g → (b : Bool) → n ≡ numberOf (cond b OutputTooShort Accepted) → out' ≡ cond b out (written g ++ drop (length (written g)) out) → Rewriting w s out'
+      short : (g : Plan) → answer w (planOf s) ≡ answered g → (b : Bool) → n ≡ numberOf (cond b OutputTooShort Accepted) → out' ≡ cond b out (fileOfPlan g ++ drop (length (fileOfPlan g)) out) → Rewriting w s out'
       short g e true first second = absurd (let y : 0 ≡ 24 = sym z ∙ first in omega arith)
       short g e false first second =
           record {
             given = planOf s;
             made = g;
-            long = length (written g);
+            long = length (fileOfPlan g);
             read = r;
             formed = fine;
             answers = e;
-            again = ap (λ x. reading (take (length (written g)) x)) second ∙ ap reading (take-append-le (length (written g)) (written g) (drop (length (written g)) out) (omega arith) ∙ take-length (written g)) ∙ read-written g (well-formed-again w (planOf s) g fine e);
+            again = ap (λ x. reading (take (length (fileOfPlan g)) x)) second ∙ ap reading (take-append-le (length (fileOfPlan g)) (fileOfPlan g) (drop (length (fileOfPlan g)) out) (omega arith) ∙ take-length (fileOfPlan g)) ∙ read-written g (well-formed-again w (planOf s) g fine e);
           }
 
       -- by the walk's answer

@@ -127,11 +127,6 @@ module _ (b : List ℕ) (u h : ℕ) (p : Ensures b u h) where
   pub child-standing : Standing b u h
   child-standing = record { arena = p .arena; here = p .here }
 
-  pub to-remove : Removes b u h
-  to-remove =
-      let r = p .room in let m = p .small in let n = p .few in
-      record { arena = p .arena; here = p .here; room = omega arith; small = omega arith; few = omega arith }
-
   stays : (v : Tree) → v ≡ treeOf b h → Grown b u b (record { used = u; root = h }) v (u + 2 * sizeT (treeOf b h) + 1)
   stays v e = subst (λ x. Grown b u b (record { used = u; root = h }) x (u + 2 * sizeT (treeOf b h) + 1)) (sym e) (grown-none b u h (u + 2 * sizeT (treeOf b h) + 1) (p .arena) (p .here) (omega arith))
 

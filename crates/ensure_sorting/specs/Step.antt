@@ -198,30 +198,30 @@ module _ (b : List ℕ) (u : ℕ) (r ks : List ℕ) (i : ℕ) (p : Opened b u r 
 
 -- ---- handles copied
 
-pub record Copied (ks : List ℕ) (j : ℕ) (out : List ℕ) : Type 0 where
+pub record KeysCopied (ks : List ℕ) (j : ℕ) (out : List ℕ) : Type 0 where
   pub wide : length out ≡ 8
   pub low : j ≤ length ks
   pub is : take j out ≡ take j ks
 
-pub copied-none : (ks : List ℕ) → Copied ks 0 (replicate 8 0)
+pub copied-none : (ks : List ℕ) → KeysCopied ks 0 (replicate 8 0)
 copied-none ks = record { wide = refl; low = omega arith; is = refl }
 
-pub copied-more : (ks : List ℕ) (j : ℕ) (out : List ℕ) → Copied ks j out → length ks ≤ 8 → j < length ks → Copied ks (j + 1) (set out j (getD ks j 0))
+pub copied-more : (ks : List ℕ) (j : ℕ) (out : List ℕ) → KeysCopied ks j out → length ks ≤ 8 → j < length ks → KeysCopied ks (j + 1) (set out j (getD ks j 0))
 copied-more ks j out c h l =
     let w = c .wide in
     rw (add-one j) (record { wide = length-set out j (getD ks j 0) ∙ c .wide; low = omega arith; is = take-suc-set out j (getD ks j 0) (omega arith) ∙ ap (λ x. x ++ (getD ks j 0 ∷ [])) (c .is) ∙ sym (take-suc ks j 0 l) })
 
-pub copied-all : (ks : List ℕ) (j : ℕ) (out : List ℕ) → Copied ks j out → length ks ≤ j → Copied ks (length ks) out
-copied-all ks j out c h = let l = c .low in subst (λ i. Copied ks i out) (omega arith) c
+pub copied-all : (ks : List ℕ) (j : ℕ) (out : List ℕ) → KeysCopied ks j out → length ks ≤ j → KeysCopied ks (length ks) out
+copied-all ks j out c h = let l = c .low in subst (λ i. KeysCopied ks i out) (omega arith) c
 
 take-all : (l : List ℕ) → take (length l) l ≡ l
 take-all [] = refl
 take-all (x ∷ l) = ap (λ r. x ∷ r) (take-all l)
 
-copied-is : (ks out : List ℕ) → Copied ks (length ks) out → take (length ks) out ≡ ks
+copied-is : (ks out : List ℕ) → KeysCopied ks (length ks) out → take (length ks) out ≡ ks
 copied-is ks out c = c .is ∙ take-all ks
 
-module _ (b : List ℕ) (u : ℕ) (r ks : List ℕ) (i : ℕ) (out : List ℕ) (c : Copied ks (length ks) out) where
+module _ (b : List ℕ) (u : ℕ) (r ks : List ℕ) (i : ℕ) (out : List ℕ) (c : KeysCopied ks (length ks) out) where
   pub copied-opened : Opened b u r ks i → Opened b u r (take (length ks) out) i
   copied-opened p = subst (λ k. Opened b u r k i) (sym (copied-is ks out c)) p
 

@@ -53,7 +53,7 @@ ghost use Rattle.utils.specs.Sorting.{Sortable};
 ghost use Rattle.ensure_sorting.specs.Child.{Sorts, Ensures};
 ghost use Rattle.ensure_sorting.specs.Finishing.{Finishes};
 ghost use Rattle.ensure_sorting.specs.Loop.{Loops};
-ghost use Rattle.ensure_sorting.specs.Step.{Marks, Copied};
+ghost use Rattle.ensure_sorting.specs.Step.{Marks, KeysCopied};
 
 // ---- one child
 
@@ -225,7 +225,7 @@ fn ensure_open(m: &mut [u8], u: usize, r: &[u8], ks: &mut [usize], i: usize) -> 
 // The handles, in an array.
 fn copied(ks: &[usize]) -> [usize; 8]
     requires { ⌜ length (now ks) ≤ 8 ⌝ }
-    ensures { λ x. ⌜ Copied (now (ks .entry)) (length (now (ks .entry))) x ⌝ }
+    ensures { λ x. ⌜ KeysCopied (now (ks .entry)) (length (now (ks .entry))) x ⌝ }
 {
     let mut out = [0usize; 8];
     let mut j = 0;

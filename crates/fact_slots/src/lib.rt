@@ -4,8 +4,8 @@ use key_lists::Keys;
 ghost use mathlib.Core.Path.{_≡_};
 ghost use Prim.Native.Nat.{_+_, _≤_, _<_};
 ghost use lib.ListN.{length, set};
-ghost use Rattle.plan_codec.specs.Encode.{num};
-ghost use Rattle.facts.specs.Known.{Fine};
+ghost use Rattle.plan_codec.specs.Encode.{oneIf};
+ghost use Rattle.facts.specs.Known.{Coherent};
 ghost use Rattle.fact_slots.specs.Slots.{le64, loaded, head, wordBytes, Stored, passesIn};
 
 // Where the facts stand in their row: one byte each for the width and the order's length, two for the streams, a set of four for the
@@ -103,7 +103,7 @@ pub fn word_row(w: usize) -> [usize; 8]
 
 // The facts over the first 48 bytes; the others stay.
 pub fn store(b: &mut [u8], f: Facts)
-    requires { ⌜ (length (now b) ≡ 112) × Fine f × (f .streams < 65536) ⌝ }
+    requires { ⌜ (length (now b) ≡ 112) × Coherent f × (f .streams < 65536) ⌝ }
     ensures { λ _. ⌜ Stored f (now (b .entry)) (now (b .exit)) ⌝ }
 {
     let head = head_row(f);
@@ -121,11 +121,4 @@ pub fn passes(b: &[u8]) -> bool
     ensures { λ r. ⌜ r ≡ passesIn (now (b .entry)) ⌝ }
 {
     b[48] == 1
-}
-
-pub fn store_passes(b: &mut [u8], p: bool)
-    requires { ⌜ length (now b) ≡ 112 ⌝ }
-    ensures { λ _. ⌜ now (b .exit) ≡ set (now (b .entry)) 48 (num p) ⌝ }
-{
-    b[48] = p as u8;
 }

@@ -16,7 +16,7 @@ abbrev pub known : Coded → Facts
 known f = record { width = f .width; streams = f .streams; consts = tab (f .width) (bit (f .consts)); cls = take (f .width) (f .low); order = keysOf (f .order) }
 
 -- What travels with the struct: from the width on no column is constant and each is alone in its class
-pub record Fine (f : Coded) : Type 0 where
+pub record Coherent (f : Coded) : Type 0 where
   pub wide : f .width ≤ 32
   pub long : length (f .low) ≡ 32
   pub alone : Alone (f .width) (f .low)
@@ -27,7 +27,7 @@ pub record Fine (f : Coded) : Type 0 where
 -- The struct f says the facts F, and is fine
 pub record Says (F : Facts) (f : Coded) : Type 0 where
   pub is : known f ≡ F
-  pub fine : Fine f
+  pub fine : Coherent f
 
 -- A table has F's classes
 abbrev pub Agrees : Facts → List ℕ → Type 0

@@ -19,7 +19,7 @@ use Rattle.key_lists.specs.declared.Keys.{Keys}
 use Rattle.key_lists.specs.Keys.{keysIn, Keyed, Longer}
 use Rattle.key_lists.specs.Lists.{next, end, Building, rebuilt, grown, built}
 use Rattle.facts.specs.declared.Facts.{Facts as Coded}
-use Rattle.facts.specs.Known.{known, Fine, Says, Agrees}
+use Rattle.facts.specs.Known.{known, Coherent, Says, Agrees}
 use Rattle.facts.specs.Reading.{cl-is, constants}
 use Rattle.facts.specs.Saying.{says}
 
@@ -64,7 +64,7 @@ all-projected t cols ks out w n p h l F a =
     let d : projOrder F cols (keysIn n w) ≡ [] = rw (end n w h) in
     built _ out l (rebuilt d (p F a))
 
-pub says-projection : (f : Coded) (cols t : List ℕ) (s : ℕ) (o : Keys) → Fine f → length cols ≤ 32 → Filled (length cols) (projectionLow (f .low) cols) t
+pub says-projection : (f : Coded) (cols t : List ℕ) (s : ℕ) (o : Keys) → Coherent f → length cols ≤ 32 → Filled (length cols) (projectionLow (f .low) cols) t
     → Holding (below (length cols) (λ j. bit (f .consts) (getD cols j 0))) s → Keyed (projOrder (known f) cols (known f .order)) o
     → Says (projFacts (known f) cols) (record { width = length cols; streams = f .streams; consts = s; low = t; order = o })
 says-projection f cols t s o h l g q k =

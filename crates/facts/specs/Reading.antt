@@ -17,7 +17,7 @@ use Rattle.class_tables.specs.Filling.{read}
 use Rattle.key_lists.specs.Keys.{Keyed}
 use Rattle.key_lists.specs.Lists.{no-keys-is}
 use Rattle.facts.specs.declared.Facts.{Facts as Coded}
-use Rattle.facts.specs.Known.{known, Fine, Agrees}
+use Rattle.facts.specs.Known.{known, Coherent, Agrees}
 
 -- inside a list it does not matter what stands past its end
 inside : (t : List ℕ) (c d e : ℕ) → c < length t → getD t c d ≡ getD t c e
@@ -25,7 +25,7 @@ inside [] c d e h = absurd (omega arith)
 inside (x ∷ t) zero d e h = refl
 inside (x ∷ t) (suc c) d e h = inside t c d e (omega arith)
 
-module _ (f : Coded) (h : Fine f) where
+module _ (f : Coded) (h : Coherent f) where
   pub classes : Agrees (known f) (f .low)
   classes c = go (ltb c (f .width)) refl
     where

@@ -22,7 +22,7 @@ use Rattle.class_tables.specs.Filling.{filled-alone, filled-down, filled-tab}
 use Rattle.key_lists.specs.declared.Keys.{Keys}
 use Rattle.key_lists.specs.Keys.{Keyed}
 use Rattle.facts.specs.declared.Facts.{Facts as Coded}
-use Rattle.facts.specs.Known.{known, Fine, Says}
+use Rattle.facts.specs.Known.{known, Coherent, Says}
 use Rattle.facts.specs.Reading.{cl-is}
 
 tab-ext : {A : Type 0} (n : ℕ) (f g : ℕ → A) → ((c : ℕ) → c < n → f c ≡ g c) → tab n f ≡ tab n g
@@ -50,7 +50,7 @@ says w n s t o g p ks l h d e k =
     }
 
 -- other streams and another order over the same table and set
-pub says-ordered : (f : Coded) (n : ℕ) (o : Keys) (ks : List Key) → Fine f → Keyed ks o
+pub says-ordered : (f : Coded) (n : ℕ) (o : Keys) (ks : List Key) → Coherent f → Keyed ks o
     → Says (ordered (known f) n ks) (record { width = f .width; streams = n; consts = f .consts; low = f .low; order = o })
 says-ordered f n o ks h k =
     record {
@@ -92,7 +92,7 @@ says-source w n s t o l e h k = says w n s t o (λ c. c) (bit s) [] l (alone-any
     go c true x = refl
     go c false x = fits-none w s e c (ltb-false c w x)
 
-pub says-both : (a b : Coded) (t : List ℕ) (o : Keys) → Fine a → Fine b → Filled (a .width) (unionLow (a .low) (b .low)) t → Keyed (common (known a .order) (known b .order)) o
+pub says-both : (a b : Coded) (t : List ℕ) (o : Keys) → Coherent a → Coherent b → Filled (a .width) (unionLow (a .low) (b .low)) t → Keyed (common (known a .order) (known b .order)) o
     → Says (both (known a) (known b)) (record { width = a .width; streams = a .streams + b .streams; consts = 0; low = t; order = o })
 says-both a b t o f g h k =
     let low : (ℕ → ℕ) → (ℕ → ℕ) → ℕ → ℕ = λ x y k. lowest (λ i. eqb (x i) (x k) && eqb (y i) (y k)) k in

@@ -22,7 +22,7 @@ ghost use Rattle.plan.specs.WellFormed.{below, setFits};
 ghost use Rattle.semantics.specs.Facts as sem;
 ghost use Rattle.class_tables.specs.Tables.{Columns};
 ghost use Rattle.key_lists.specs.Keys.{keysOf, Keyed};
-ghost use Rattle.facts.specs.Known.{known, Fine, Says, Agrees};
+ghost use Rattle.facts.specs.Known.{known, Coherent, Says, Agrees};
 
 // specs/Known.antt says which facts these are. An empty order is no order.
 pub struct Facts {
@@ -35,7 +35,7 @@ pub struct Facts {
 
 // Other streams, and the normal form of the keys for an order.
 pub fn sorted_facts(f: Facts, streams: usize, keys: Keys) -> Facts
-    requires { ⌜ Fine f × (keys .len ≤ 8) ⌝ }
+    requires { ⌜ Coherent f × (keys .len ≤ 8) ⌝ }
     ensures { λ r. ⌜ Says (sem.ordered (known f) streams (sem.nf (known f) [] (keysOf keys))) r ⌝ }
 {
     let table = f.low;
@@ -51,7 +51,7 @@ pub fn sorted_facts(f: Facts, streams: usize, keys: Keys) -> Facts
 
 // To reorder: the list's normal form in the known order's place.
 fn reordered(f: Facts, keys: Keys) -> Facts
-    requires { ⌜ Fine f × (keys .len ≤ 8) ⌝ }
+    requires { ⌜ Coherent f × (keys .len ≤ 8) ⌝ }
     ensures { λ r. ⌜ Says (sem.reorder (known f) (keysOf keys)) r ⌝ }
 {
     sorted_facts(f, f.streams, keys)
@@ -92,7 +92,7 @@ pub fn source_facts(width: usize, streams: usize, consts: u32, keys: Keys) -> Fa
 
 // Union: streams added, the common prefix, common classes, no constants.
 pub fn union_facts(a: Facts, b: Facts) -> Facts
-    requires { ⌜ Fine a × Fine b × (a .streams + b .streams < 2 ^ 64) ⌝ }
+    requires { ⌜ Coherent a × Coherent b × (a .streams + b .streams < 2 ^ 64) ⌝ }
     ensures { λ r. ⌜ Says (sem.both (known a) (known b)) r ⌝ }
 {
     let x = a.low;
@@ -135,7 +135,7 @@ fn projection_order(table: &[usize; 32], cols: &[usize], keys: Keys) -> Keys
 
 // Projection carries what its columns carry.
 pub fn projection_facts(f: Facts, cols: &[usize]) -> Facts
-    requires { ⌜ Fine f × (below (f .width) (now cols) ≡ true) × (length (now cols) ≤ 32) ⌝ }
+    requires { ⌜ Coherent f × (below (f .width) (now cols) ≡ true) × (length (now cols) ≤ 32) ⌝ }
     ensures { λ r. ⌜ Says (sem.projFacts (known f) (now (cols .entry))) r ⌝ }
 {
     let x = f.low;

@@ -14,7 +14,7 @@ use Rattle.semantics.specs.theorems.facts.Fits.{Fits}
 use Rattle.key_lists.specs.declared.Keys.{Keys}
 use Rattle.key_lists.specs.Keys.{keysOf}
 use Rattle.facts.specs.declared.Facts.{Facts as Coded}
-use Rattle.facts.specs.Known.{known, Fine}
+use Rattle.facts.specs.Known.{known, Coherent}
 use Rattle.join_facts.specs.declared.KeptSide.{KeptSide}
 use Rattle.join_facts.specs.declared.KeptSide.the-variants.{Left, Right, Neither}
 
@@ -37,8 +37,8 @@ pub record Linkable (w : ℕ) (k : On) : Type 0 where
 
 -- Both sides' facts, as a plan has them
 pub record Sides (t : JoinType) (a b : Coded) : Type 0 where
-  pub left : Fine a
-  pub right : Fine b
+  pub left : Coherent a
+  pub right : Coherent b
   pub leftFits : Fits (known a)
   pub rightFits : Fits (known b)
   pub wide : joinWidth t (a .width) (b .width) ≤ 32

@@ -18,13 +18,13 @@ use Rattle.semantics.specs.theorems.common.Bools.{and-left, and-right}
 use Rattle.column_sets.specs.Sets.{Holding, below}
 use Rattle.class_tables.specs.Tables.{at, Filled, inClasses, linkedLow}
 use Rattle.facts.specs.declared.Facts.{Facts as Coded}
-use Rattle.facts.specs.Known.{known, Fine, Says}
+use Rattle.facts.specs.Known.{known, Coherent, Says}
 use Rattle.facts.specs.Reading.{classes, cl-is, isC-is, own-order}
 use Rattle.facts.specs.Saying.{says}
 use Rattle.join_facts.specs.Joining.{onOf, Linkable}
 
 -- ---- one pair
-module _ (f : Coded) (h : Fine f) (a b : ℕ) where
+module _ (f : Coded) (h : Coherent f) (a b : ℕ) where
   pub says-linked : (t : List ℕ) (s : ℕ) → Filled (f .width) (linkedLow (f .low) (at (f .low) a) (at (f .low) b)) t
       → Holding (λ c. bit (f .consts) c || (below (f .width) (inClasses (f .low) (at (f .low) a) (at (f .low) b)) c && (bit (f .consts) a || bit (f .consts) b))) s
       → Says (linked (known f) a b) (record { width = f .width; streams = f .streams; consts = s; low = t; order = f .order })
@@ -75,7 +75,7 @@ on-end ks cs i h = drop-of-length-le (onOf ks cs) {i = i} (omega (arith, short k
 -- the loop at place i: the pairs that are left lead where all pairs lead from the start
 pub record Linking (w : ℕ) (f : Coded) (ks cs : List ℕ) (g : Coded) (i : ℕ) : Type 0 where
   pub far : i ≤ length ks
-  pub fine : Fine g
+  pub fine : Coherent g
   pub leads : linkAll w (drop i (onOf ks cs)) (known g) ≡ linkAll w (onOf ks cs) (known f)
 
 module _ (w : ℕ) (f : Coded) (ks cs : List ℕ) (g : Coded) (i : ℕ) (n : Linking w f ks cs g i) where

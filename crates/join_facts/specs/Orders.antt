@@ -15,7 +15,7 @@ use Rattle.semantics.specs.theorems.facts.Fits.{within-fits}
 use Rattle.key_lists.specs.declared.Keys.{Keys}
 use Rattle.key_lists.specs.Keys.{keysOf, Keyed, Movable, movedBy}
 use Rattle.facts.specs.declared.Facts.{Facts as Coded}
-use Rattle.facts.specs.Known.{known, Fine}
+use Rattle.facts.specs.Known.{known, Coherent}
 use Rattle.join_facts.specs.Joining.{Sides, Placeable}
 
 -- a left order stays in the left columns

@@ -12,7 +12,7 @@ use Rattle.column_sets.specs.Sets.{Holding, below}
 use Rattle.class_tables.specs.Tables.{at, Filled, besideLow}
 use Rattle.class_tables.specs.Filling.{filled-self, filled-alone, refilled}
 use Rattle.facts.specs.declared.Facts.{Facts as Coded}
-use Rattle.facts.specs.Known.{known, Fine, Says}
+use Rattle.facts.specs.Known.{known, Coherent, Says}
 use Rattle.facts.specs.Reading.{classes, constants, cl-is, own-order}
 use Rattle.facts.specs.Saying.{says}
 
@@ -20,7 +20,7 @@ and-none : (a : Bool) → a && false ≡ false
 and-none true = refl
 and-none false = refl
 
-module _ (f : Coded) (h : Fine f) where
+module _ (f : Coded) (h : Coherent f) where
   -- each class is no higher than its column
   cl-down : (c : ℕ) → cl (known f) c ≤ c
   cl-down c = rw (classes f h c) (h .down c)
@@ -73,7 +73,7 @@ module _ (f : Coded) (h : Fine f) where
         down c false x = let m = ltb-false c w x in rw (le-leb w c m) (let d = cl-down (c - w) in omega arith)
 
 -- ---- both sides
-module _ (a b : Coded) (f : Fine a) (g : Fine b) (l : a .width + b .width ≤ 32) where
+module _ (a b : Coded) (f : Coherent a) (g : Coherent b) (l : a .width + b .width ≤ 32) where
   pub says-beside : (t : List ℕ) (m s : ℕ) → Filled (a .width + b .width) (besideLow (a .low) (b .low) (a .width)) t
       → Holding (λ c. ltb c 32 && (leb (a .width) c && bit (b .consts) (c - a .width))) m → Holding (λ c. bit (a .consts) c || bit m c) s
       → Says (beside (known a) (known b)) (record { width = a .width + b .width; streams = a .streams; consts = s; low = t; order = a .order })

@@ -25,7 +25,7 @@ ghost use Rattle.row_order.specs.Lists.{All};
 ghost use Rattle.plan.specs.WellFormed.{joinWidth};
 ghost use Rattle.semantics.specs.Facts as sem;
 ghost use Rattle.key_lists.specs.Keys.{keysOf, Keyed};
-ghost use Rattle.facts.specs.Known.{known, Fine, Says};
+ghost use Rattle.facts.specs.Known.{known, Coherent, Says};
 ghost use Rattle.join_facts.specs.Joining.{keptOf, onOf, Linkable, Placeable, Joinable};
 
 // The side whose order a join keeps.
@@ -85,7 +85,7 @@ pub fn by_right(t: JoinType) -> bool
 
 // The left side's facts, before n columns of which nothing is known.
 fn placed(f: Facts, n: usize) -> Facts
-    requires { ⌜ Fine f × (f .width + n ≤ 32) ⌝ }
+    requires { ⌜ Coherent f × (f .width + n ≤ 32) ⌝ }
     ensures { λ r. ⌜ Says (sem.placed (known f) n) r ⌝ }
 {
     let table = f.low;
@@ -102,7 +102,7 @@ fn placed(f: Facts, n: usize) -> Facts
 
 // The right side's facts, behind w columns of which nothing is known.
 fn shifted(w: usize, f: Facts) -> Facts
-    requires { ⌜ Fine f × (w + f .width ≤ 32) ⌝ }
+    requires { ⌜ Coherent f × (w + f .width ≤ 32) ⌝ }
     ensures { λ r. ⌜ Says (sem.shifted w (known f)) r ⌝ }
 {
     let left = alone();
@@ -122,7 +122,7 @@ fn shifted(w: usize, f: Facts) -> Facts
 
 // Both sides' facts.
 fn beside(a: Facts, b: Facts) -> Facts
-    requires { ⌜ Fine a × Fine b × (a .width + b .width ≤ 32) ⌝ }
+    requires { ⌜ Coherent a × Coherent b × (a .width + b .width ≤ 32) ⌝ }
     ensures { λ r. ⌜ Says (sem.beside (known a) (known b)) r ⌝ }
 {
     let left = a.low;
@@ -142,7 +142,7 @@ fn beside(a: Facts, b: Facts) -> Facts
 
 // Columns a and b are equal: their classes become one.
 fn linked(f: Facts, a: usize, b: usize) -> Facts
-    requires { ⌜ Fine f × (a < 32) × (b < 32) ⌝ }
+    requires { ⌜ Coherent f × (a < 32) × (b < 32) ⌝ }
     ensures { λ r. ⌜ Says (sem.linked (known f) a b) r ⌝ }
 {
     let old = f.low;
@@ -160,7 +160,7 @@ fn linked(f: Facts, a: usize, b: usize) -> Facts
 
 // The key pairs, behind w left columns.
 fn link_all(f: Facts, lefts: &[usize], rights: &[usize], w: usize) -> Facts
-    requires { ⌜ Fine f ⌝ }
+    requires { ⌜ Coherent f ⌝ }
     requires { ⌜ All (Linkable w) (onOf (now lefts) (now rights)) × (length (now lefts) ≡ length (now rights)) × (w ≤ 32) ⌝ }
     ensures { λ r. ⌜ Says (sem.linkAll w (onOf (now (lefts .entry)) (now (rights .entry))) (known f)) r ⌝ }
 {

@@ -20,7 +20,7 @@ use Rattle.semantics.specs.Facts.{withColumn, eqKey}
 use Rattle.key_lists.specs.declared.Keys.{Keys}
 use Rattle.key_lists.specs.Keys.{keysIn, keysOf, InRange, Movable, movedBy, Longer}
 use Rattle.key_lists.specs.Lists.{next, end, map-next, Building, rebuilt, grown}
-use Rattle.walks.specs.SortPushdown.{atColumn, backBy, noneEqual}
+use Rattle.walks.specs.SortPushdown.{atColumn, addOffsetToPhysicalSortExprs, noneEqual}
 
 -- ---- no key equals its counterpart
 
@@ -99,6 +99,6 @@ room-each off (k ∷ ks) (all-cons h hs) (all-cons g gs) =
 pub back-room : (off : ℕ) (k : Keys) → All (λ k. off ≤ k .col) (keysOf k) → All (Movable (negℤ (pos off))) (keysOf k)
 back-room off k h = room-each off (keysOf k) h (keys-below (k .len) (k .word))
 
-pub back-by : (off : ℕ) (ks : List Key) → All (λ k. off ≤ k .col) ks → map (movedBy (negℤ (pos off))) ks ≡ backBy off ks
+pub back-by : (off : ℕ) (ks : List Key) → All (λ k. off ≤ k .col) ks → map (movedBy (negℤ (pos off))) ks ≡ addOffsetToPhysicalSortExprs off ks
 back-by off [] h = refl
 back-by off (k ∷ ks) (all-cons h hs) = ap₂ _∷_ (ap (λ (z : ℤ). withColumn (natAbs z) k) (less (k .col) off h)) (back-by off ks hs)

@@ -28,7 +28,7 @@ ghost use Rattle.semantics.specs.Facts as sem;
 ghost use Rattle.key_lists.specs.Keys.{keysOf, Keyed};
 ghost use Rattle.record_fields.specs.Proper.{Proper};
 ghost use Rattle.row_facts.specs.Asked.{told, FactRow};
-ghost use Rattle.walks.specs.SortPushdown.{atColumn, onSide, eitherSide, exprSourceSide, noneEqual, backBy, remapRequirementThroughProjection};
+ghost use Rattle.walks.specs.SortPushdown.{atColumn, onSide, eitherSide, exprSourceSide, noneEqual, addOffsetToPhysicalSortExprs, remapRequirementThroughProjection};
 ghost use Rattle.join_sides.specs.Sides.{sideColumn, lowestFrom, Valids, SideIs, Roomy};
 
 // ---- expr_source_side
@@ -161,7 +161,7 @@ fn back(off: usize) -> isize
 // Each column moved back by the offset.
 pub fn moved_back(off: usize, keys: Keys) -> Keys
     requires { ⌜ (off ≤ 32) × All (λ k. off ≤ k .col) (keysOf keys) × (keys .len ≤ 8) ⌝ }
-    ensures { λ r. ⌜ Keyed (backBy off (keysOf keys)) r ⌝ }
+    ensures { λ r. ⌜ Keyed (addOffsetToPhysicalSortExprs off (keysOf keys)) r ⌝ }
 {
     move_keys(keys, back(off))
 }

@@ -16,7 +16,7 @@ use Rattle.plan.specs.Op.{Op, source, filter, projection, union, repartition, c
 use Rattle.plan.specs.Numbers.{kindNumber, code}
 use Rattle.plan.specs.declared.Fetch.{Fetch}
 use Rattle.semantics.specs.Properties.{remark}
-use Rattle.plan_codec.specs.Encode.{fill, num, marksByte, keyBytes, optionsByte, fetchNumber, encode}
+use Rattle.plan_codec.specs.Encode.{fill, oneIf, marksByte, keyBytes, optionsByte, fetchNumber, encode}
 use Rattle.plan_codec.specs.Decode.{decode}
 use Rattle.plan_codec.specs.Fill.{length-fill}
 use Rattle.plan_codec.specs.Keys.{length-bytes}
@@ -32,7 +32,7 @@ pub merge-is : (ks : List Key) (f : Fetch) → newBytes 8 0 f 0 ks 0 ≡ encode 
 unfolding encode
 merge-is ks f = refl
 
-pub sort-is : (p : Bool) (ks : List Key) (f : Fetch) → newBytes 7 (num p) f 0 ks 0 ≡ encode 1 (sortOp p ks f)
+pub sort-is : (p : Bool) (ks : List Key) (f : Fetch) → newBytes 7 (oneIf p) f 0 ks 0 ≡ encode 1 (sortOp p ks f)
 unfolding encode
 sort-is true ks f = refl
 sort-is false ks f = refl
@@ -49,14 +49,14 @@ pub global-is : (s : ℕ) (f : Fetch) (note : List Key) → newBytes 9 0 f s not
 unfolding encode
 global-is s f note = refl
 
-pub partial-is : (p : Bool) (ks : List Key) (n : ℕ) (f : Fetch) → newBytes 14 (num p) f 0 ks n ≡ encode 1 (partialSort p ks n f)
+pub partial-is : (p : Bool) (ks : List Key) (n : ℕ) (f : Fetch) → newBytes 14 (oneIf p) f 0 ks n ≡ encode 1 (partialSort p ks n f)
 unfolding encode
 partial-is true ks n f = refl
 partial-is false ks n f = refl
 
 -- ---- the row of keys
 
-num-bit : (x : ℕ) → x < 2 → num (eqb x 1) ≡ x
+num-bit : (x : ℕ) → x < 2 → oneIf (eqb x 1) ≡ x
 num-bit zero h = refl
 num-bit (suc zero) h = refl
 num-bit (suc (suc x)) h = absurd (omega arith)
@@ -86,9 +86,6 @@ pub record Row (ks : List Key) (row : List ℕ) (at w n : ℕ) : Type 0 where
 
 pub row-none : (k : Keys) → Row (keysOf k) (replicate 16 0) 0 (k .word) (k .len)
 row-none k = record { done = []; whole = refl; place = refl; is = refl }
-
-pub row-long : (ks : List Key) (row : List ℕ) (at w n : ℕ) → Row ks row at w n → length row ≡ 16
-row-long ks row at w n p = ap length (p .is) ∙ length-fill 16 (keyBytes (p .done))
 
 -- there is room for the keys that are left
 pub row-room : (ks : List Key) (row : List ℕ) (at w n : ℕ) → Row ks row at w n → at + 2 * n ≡ 2 * length ks
@@ -134,7 +131,7 @@ long-enough H h = let e = splice-length (replicate 64 0) H 0 16 (omega arith) h 
 
 -- ---- another mark
 
-marks-of : (p q h : Bool) → marksByte p h false / 2 * 2 + num q ≡ marksByte q h false
+marks-of : (p q h : Bool) → marksByte p h false / 2 * 2 + oneIf q ≡ marksByte q h false
 marks-of true true true = refl
 marks-of true true false = refl
 marks-of true false true = refl
@@ -144,7 +141,7 @@ marks-of false true false = refl
 marks-of false false true = refl
 marks-of false false false = refl
 
-set-marks : (n : ℕ) (o : Op) (q : Bool) → code o ≡ 5 → set (encode n o) 3 (getD (encode n o) 3 0 / 2 * 2 + num q) ≡ encode n (remark (λ p. q) o)
+set-marks : (n : ℕ) (o : Op) (q : Bool) → code o ≡ 5 → set (encode n o) 3 (getD (encode n o) 3 0 / 2 * 2 + oneIf q) ≡ encode n (remark (λ p. q) o)
 unfolding encode
 set-marks n (source s) q e = absurd (omega arith)
 set-marks n filter q e = absurd (omega arith)
@@ -182,7 +179,7 @@ unfolding encode
 code-of r n e = ap (λ x. getD x 0 0) e ∙ ap kindNumber (kind-of n (decode r))
 
 module _ (r x : List ℕ) (q : Bool) (c : x ≡ r) (n : ℕ) (e : r ≡ encode n (decode r)) where
-  pub marked : (b : ℕ) → b ≡ num q → getD r 0 0 ≡ 5 → set x 3 (getD r 3 0 / 2 * 2 + b) ≡ encode n (remark (λ p. q) (decode r))
+  pub marked : (b : ℕ) → b ≡ oneIf q → getD r 0 0 ≡ 5 → set x 3 (getD r 3 0 / 2 * 2 + b) ≡ encode n (remark (λ p. q) (decode r))
   marked b d h =
       ap₂ (λ y z. set y 3 (getD z 3 0 / 2 * 2 + b)) (c ∙ e) e
       ∙ ap (λ z. set (encode n (decode r)) 3 (getD (encode n (decode r)) 3 0 / 2 * 2 + z)) d

@@ -11,7 +11,7 @@ ghost use Rattle.plan.specs.Op.{sortOp, mergeOp, coalesce, globalLimit, localLi
 ghost use Rattle.semantics.specs.Properties.{remark};
 ghost use Rattle.key_lists.specs.Keys.{keysOf};
 ghost use Rattle.plan_codec.specs.Decode.{decode};
-ghost use Rattle.plan_codec.specs.Encode.{encode, fill, num, fetchNumber, keyBytes};
+ghost use Rattle.plan_codec.specs.Encode.{encode, fill, oneIf, fetchNumber, keyBytes};
 ghost use Rattle.new_records.specs.Bytes.{headOf, newBytes};
 
 // The keys as a record has them, two bytes each.
@@ -35,7 +35,7 @@ fn key_row(k: Keys) -> [u8; 16]
 
 // The mark in bit 0.
 fn mark_byte(preserve: bool) -> u8
-    ensures { λ r. ⌜ (r ≡ num preserve) × (r ≤ 1) ⌝ }
+    ensures { λ r. ⌜ (r ≡ oneIf preserve) × (r ≤ 1) ⌝ }
 {
     if preserve { 1 } else { 0 }
 }

@@ -23,7 +23,7 @@ ghost use Rattle.row_order.specs.Packed.{keyOf};
 ghost use Rattle.scan.specs.Bytes.{le32};
 ghost use Rattle.plan.specs.WellFormed.{setFits, below};
 ghost use Rattle.semantics.specs.Facts as sem;
-ghost use Rattle.facts.specs.Known.{known, Fine, Says};
+ghost use Rattle.facts.specs.Known.{known, Coherent, Says};
 ghost use Rattle.join_facts.specs.Joining.{Joinable};
 ghost use Rattle.record_fields.specs.Fields.{tailColumns};
 ghost use Rattle.node_facts.specs.Ready.{count, lentKeys, lentColumns, typeIn, onIn};
@@ -43,7 +43,7 @@ pub fn source_of(r: &[u8]) -> Facts
 
 // A projection to the columns of its record.
 pub fn projected(r: &[u8], f: Facts) -> Facts
-    requires { ⌜ (length (now r) ≡ 64) × (getD (now r) 13 0 ≤ 32) × Fine f × (below (f .width) (lentColumns (now r) (getD (now r) 13 0)) ≡ true) ⌝ }
+    requires { ⌜ (length (now r) ≡ 64) × (getD (now r) 13 0 ≤ 32) × Coherent f × (below (f .width) (lentColumns (now r) (getD (now r) 13 0)) ≡ true) ⌝ }
     ensures { λ g. ⌜ Says (sem.projFacts (known f) (lentColumns (now (r .entry)) (getD (now (r .entry)) 13 0))) g ⌝ }
 {
     let cols = tail_columns(r);

@@ -27,10 +27,6 @@ pub kind-is : (r : List ℕ) → kindOf (getD r 0 0) ≡ kind (decode r)
 unfolding decode
 kind-is r = sym (operator-kind (kindOf (getD r 0 0)) (fromBytes r))
 
--- the kind of a record whose kind byte is a kind's number
-pub kind-at : (r : List ℕ) (k : Kind) → getD r 0 0 ≡ kindNumber k → kindOf (getD r 0 0) ≡ k
-kind-at r k e = ap kindOf e ∙ number-back k
-
 -- a test of the kind byte
 pub code-is : (r : List ℕ) (n : ℕ) → Proper r → eqb (getD r 0 0) n ≡ eqb (code (decode r)) n
 code-is r n p = ap (λ k. eqb k n) (p .kind)

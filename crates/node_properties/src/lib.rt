@@ -49,25 +49,11 @@ ghost use Rattle.node_properties.specs.Nodes.{Among};
 
 // ---- kinds: is_sort, is_union, is_sort_preserving_merge, is_coalesce_partitions, is_repartition and is_limit of utils.rs
 
-pub fn kind_in(r: &[u8]) -> Kind
-    requires { ⌜ Proper (now r) ⌝ }
-    ensures { λ k. ⌜ k ≡ kind (decode (now (r .entry))) ⌝ }
-{
-    kind_of(r[KIND])
-}
-
 pub fn is_projection(r: &[u8]) -> bool
     requires { ⌜ Proper (now r) ⌝ }
     ensures { λ b. ⌜ b ≡ eqb (code (decode (now (r .entry)))) 3 ⌝ }
 {
     r[KIND] == 3
-}
-
-pub fn is_union(r: &[u8]) -> bool
-    requires { ⌜ Proper (now r) ⌝ }
-    ensures { λ b. ⌜ b ≡ eqb (code (decode (now (r .entry)))) 4 ⌝ }
-{
-    r[KIND] == 4
 }
 
 pub fn is_repartition(r: &[u8]) -> bool
@@ -103,13 +89,6 @@ pub fn is_limit(r: &[u8]) -> bool
     ensures { λ b. ⌜ b ≡ node.isLimit (decode (now (r .entry))) ⌝ }
 {
     (r[KIND] == 9) | (r[KIND] == 10)
-}
-
-pub fn is_partial_sort(r: &[u8]) -> bool
-    requires { ⌜ Proper (now r) ⌝ }
-    ensures { λ b. ⌜ b ≡ eqb (code (decode (now (r .entry)))) 14 ⌝ }
-{
-    r[KIND] == 14
 }
 
 // ---- fields: what the operator of a kind that has them keeps there (plan_codec, operatorOf)
@@ -150,13 +129,6 @@ pub fn hash_mark(r: &[u8]) -> bool
     ensures { λ b. ⌜ b ≡ fromBytes (now (r .entry)) .hash ⌝ }
 {
     (r[MARKS] >> 1) & 1 == 1
-}
-
-fn unbounded_mark(r: &[u8]) -> bool
-    requires { ⌜ Proper (now r) ⌝ }
-    ensures { λ b. ⌜ b ≡ fromBytes (now (r .entry)) .unbounded ⌝ }
-{
-    (r[MARKS] >> 2) & 1 == 1
 }
 
 pub fn streams_field(r: &[u8]) -> usize
@@ -410,30 +382,6 @@ pub fn fetch(r: &[u8]) -> Fetch
     }
 }
 
-// How many rows of each stream it leaves out first.
-pub fn skip(r: &[u8]) -> u32
-    requires { ⌜ Proper (now r) ⌝ }
-    ensures { λ n. ⌜ n ≡ node.cuts (decode (now (r .entry))) .skip ⌝ }
-{
-    let kind = kind_of(r[KIND]);
-    match kind {
-        Kind::Source => 0,
-        Kind::Filter => 0,
-        Kind::Projection => 0,
-        Kind::Union => 0,
-        Kind::Repartition => 0,
-        Kind::Coalesce => 0,
-        Kind::Sort => 0,
-        Kind::Merge => 0,
-        Kind::GlobalLimit => scan::get32(r, SKIP),
-        Kind::LocalLimit => 0,
-        Kind::SortMergeJoin => 0,
-        Kind::HashJoin => 0,
-        Kind::OutputRequirement => 0,
-        Kind::PartialSort => 0,
-    }
-}
-
 pub fn some_fetch(f: Fetch) -> bool
     ensures { λ b. ⌜ b ≡ someFetch f ⌝ }
 {
@@ -503,30 +451,6 @@ pub fn cardinality_equal(r: &[u8]) -> bool
 }
 
 // ---- boundedness
-
-// Whether the node is a source without an end. A limit is bounded; any other node is unbounded if a child is.
-pub fn is_endless_source(r: &[u8]) -> bool
-    requires { ⌜ Proper (now r) ⌝ }
-    ensures { λ b. ⌜ b ≡ node.sourceEndless (decode (now (r .entry))) ⌝ }
-{
-    let kind = kind_of(r[KIND]);
-    match kind {
-        Kind::Source => unbounded_mark(r),
-        Kind::Filter => false,
-        Kind::Projection => false,
-        Kind::Union => false,
-        Kind::Repartition => false,
-        Kind::Coalesce => false,
-        Kind::Sort => false,
-        Kind::Merge => false,
-        Kind::GlobalLimit => false,
-        Kind::LocalLimit => false,
-        Kind::SortMergeJoin => false,
-        Kind::HashJoin => false,
-        Kind::OutputRequirement => false,
-        Kind::PartialSort => false,
-    }
-}
 
 // ---- partitionings
 

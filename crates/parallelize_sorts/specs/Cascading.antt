@@ -29,8 +29,8 @@ use Rattle.walks.specs.theorems.common.NewNodes.{coalesce-ok, narrowT, node-fet
 use Rattle.walks.specs.theorems.common.Keeps.{Keeps, pass-one}
 use Rattle.walks.specs.theorems.common.Base.{ease-blank}
 use Rattle.walks.specs.theorems.common.Skeleton.{pass-ease}
-use Rattle.walks.specs.theorems.parallelize.Kept.{freed-kept}
-use Rattle.walks.specs.ParallelizeSorts.{freed, parallelBy, parallelizeSorts, updateCoalesceCtxChildren}
+use Rattle.walks.specs.theorems.parallelize.Kept.{without-self-kept}
+use Rattle.walks.specs.ParallelizeSorts.{withoutSelf, parallelBy, parallelizeSorts, updateCoalesceCtxChildren}
 use Rattle.plan_context.specs.View.{treeOf, forest, mostSlots, Arena, Grown, Here, Puts}
 use Rattle.plan_context.specs.Covering.{Under, cover-puts, cover-grown, ok-of}
 use Rattle.plan_context.specs.Laws.{here}
@@ -41,7 +41,7 @@ use Rattle.utils.specs.Sorting.{Sortable}
 use Rattle.parallelize_sorts.specs.declared.SortExprs.{SortExprs}
 use Rattle.parallelize_sorts.specs.Connecting.{some-first}
 use Rattle.parallelize_sorts.specs.Shown.{record-proper}
-use Rattle.parallelize_sorts.specs.Removing.{Opens, freed-size}
+use Rattle.parallelize_sorts.specs.Removing.{Opens, without-self-size}
 use Rattle.parallelize_sorts.specs.Exprs.{Exprs, cascades, Cascaded, cascaded, merge-keys, Coalesced, stays-else}
 
 -- A node with the record r over the tree at h, that stands in no slot
@@ -81,7 +81,7 @@ module _ (m : List ℕ) (u : ℕ) (r : List ℕ) (h : ℕ) (p : Rebuilds m u r h
   T = treeOf m h
 
   abbrev L : Tree
-  L = freed (over (decode r) false (treeOf m h))
+  L = withoutSelf (over (decode r) false (treeOf m h))
 
   pub rebuilds-opens : Opens m u h
   rebuilds-opens = let x = p .room in let y = p .small in record { arena = p .arena; here = p .here; room = omega arith; small = omega arith }
@@ -93,21 +93,21 @@ module _ (m : List ℕ) (u : ℕ) (r : List ℕ) (h : ℕ) (p : Rebuilds m u r h
   fitting = let f = ok-fit (tree o (strip (plant T none)) none) (p .ok .0, p .ok .1, tt) in (f .0, f .1)
 
   module _ (pass : passing (decode r) ≡ true) where
-    kept : Keeps false true true (over (decode r) false (treeOf m h)) (freed (over (decode r) false (treeOf m h)))
-    kept = freed-kept (over o false T) pass fitting
+    kept : Keeps false true true (over (decode r) false (treeOf m h)) (withoutSelf (over (decode r) false (treeOf m h)))
+    kept = without-self-kept (over o false T) pass fitting
 
-    freed-width : fact (freed (over (decode r) false (treeOf m h))) .width ≡ fact (treeOf m h) .width
-    freed-width = ap (λ F. F .width) (kept .base ∙ ease-blank o (fact T ∷ []) (pass-ease o pass))
+    without-self-width : fact (withoutSelf (over (decode r) false (treeOf m h))) .width ≡ fact (treeOf m h) .width
+    without-self-width = ap (λ F. F .width) (kept .base ∙ ease-blank o (fact T ∷ []) (pass-ease o pass))
 
     -- what is left below it
-    module _ (m₁ : List ℕ) (lm : length m₁ ≡ length m) (a : At) (g : Grown m u m₁ a (freed (over (decode r) false (treeOf m h))) (u + sizeT (treeOf m h))) where
+    module _ (m₁ : List ℕ) (lm : length m₁ ≡ length m) (a : At) (g : Grown m u m₁ a (withoutSelf (over (decode r) false (treeOf m h))) (u + sizeT (treeOf m h))) where
       left-under : Under m₁ (a .used) (a .root) 1
       left-under =
-          let x = g .room in let y = p .room in let z = p .small in let s = ap sizeT (g .tree) in let f = freed-size o false T in let n = p .few in
+          let x = g .room in let y = p .room in let z = p .small in let s = ap sizeT (g .tree) in let f = without-self-size o false T in let n = p .few in
           record { arena = g .arena; here = g .here; room = omega arith; small = omega arith; few = omega arith }
 
       left-width : fact (treeOf m₁ (a .root)) .width ≡ fact (treeOf m h) .width
-      left-width = ap (λ t. fact t .width) (g .tree) ∙ freed-width
+      left-width = ap (λ t. fact t .width) (g .tree) ∙ without-self-width
 
       -- the sort over it
       module _ (s : SortExprs) (c : Cascaded (decode r) s (fact (treeOf m h) .width) (treeOf m h)) where
@@ -124,7 +124,7 @@ module _ (m : List ℕ) (u : ℕ) (r : List ℕ) (h : ℕ) (p : Rebuilds m u r h
             (x : List ℕ) (e : x ≡ encode 1 (mergeOp (keysOf (s .keys)) (s .fetch))) where
           merge-under : Under m₂ (z .used) (z .root) 1
           merge-under =
-              let y = k .room in let q = g .room in let v = p .room in let w = p .small in let i = ap sizeT (k .tree) in let j = above-size ks (s .fetch) (treeOf m₁ (a .root)) in let l = ap sizeT (g .tree) in let f = freed-size o false T in let n = p .few in
+              let y = k .room in let q = g .room in let v = p .room in let w = p .small in let i = ap sizeT (k .tree) in let j = above-size ks (s .fetch) (treeOf m₁ (a .root)) in let l = ap sizeT (g .tree) in let f = without-self-size o false T in let n = p .few in
               record { arena = k .arena; here = k .here; room = omega arith; small = omega arith; few = omega arith }
 
           merge-ok : nodeOk (mergeOp (keysOf (s .keys)) (s .fetch)) (fact (treeOf m₂ (z .root)) .width ∷ []) ≡ true

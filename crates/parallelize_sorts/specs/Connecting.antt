@@ -18,21 +18,21 @@ use Rattle.plan_context.specs.View.{forest}
 use Rattle.parallelize_sorts.specs.From.{from, from-first, from-next}
 
 -- Each of the first j children is unmarked, or p does not hold of it
-abbrev pub Passed : (ℕ → Bool) → List ℕ → ℕ → Type 0
-Passed p ks j = (m : List ℕ) → anyMarkAt (from p j) (forest m (drop j ks)) ≡ anyMarkAt p (forest m ks)
+abbrev pub UnmarkedBefore : (ℕ → Bool) → List ℕ → ℕ → Type 0
+UnmarkedBefore p ks j = (m : List ℕ) → anyMarkAt (from p j) (forest m (drop j ks)) ≡ anyMarkAt p (forest m ks)
 
 module _ (p : ℕ → Bool) (ks : List ℕ) where
-  pub passed-none : Passed p ks 0
+  pub passed-none : UnmarkedBefore p ks 0
   passed-none m = refl
 
-  module _ (j : ℕ) (q : Passed p ks j) where
+  module _ (j : ℕ) (q : UnmarkedBefore p ks j) where
     split : j < length ks → (m : List ℕ) → anyMarkAt (from p j) (forest m (drop j ks)) ≡ (marked (getD ks j 0) && p j) || anyMarkAt (from p (suc j)) (forest m (drop (suc j) ks))
     unfolding forest
     split l m =
         ap (λ hs. anyMarkAt (from p j) (forest m hs)) (drop-cons ks j 0 l)
         ∙ ap₂ (λ x f. (marked (getD ks j 0) && x) || anyMarkAt f (forest m (drop (suc j) ks))) (from-first p j) (from-next p j)
 
-    pub passed-more : j < length ks → marked (getD ks j 0) && p j ≡ false → Passed p ks (j + 1)
+    pub passed-more : j < length ks → marked (getD ks j 0) && p j ≡ false → UnmarkedBefore p ks (j + 1)
     passed-more l e m = rw (add-one j) (sym (split l m ∙ ap (λ b. b || anyMarkAt (from p (suc j)) (forest m (drop (suc j) ks))) e) ∙ q m)
 
     pub passed-found : j < length ks → marked (getD ks j 0) && p j ≡ true → (m : List ℕ) → true ≡ anyMarkAt p (forest m ks)

@@ -26,9 +26,9 @@ use Rattle.walks.specs.Marks.{Marked, Tree, fact, node, over, plant, Shape, aSo
 use Rattle.walks.specs.Utils.{isSort, isSortPreservingMerge, isCoalescePartitions, addSortAboveWithCheck}
 use Rattle.walks.specs.Terms.{passing}
 use Rattle.walks.specs.theorems.common.Keys.{KeysFit, keys-of}
-use Rattle.walks.specs.ParallelizeSorts.{cascade, freed, parallelBy}
+use Rattle.walks.specs.ParallelizeSorts.{cascade, withoutSelf, parallelBy}
 use Rattle.parallelize_sorts.specs.declared.SortExprs.{SortExprs}
-use Rattle.parallelize_sorts.specs.Removing.{freed-by}
+use Rattle.parallelize_sorts.specs.Removing.{without-self-by}
 
 -- They are those that parallelBy hands to cascade, as written (reading 7)
 abbrev pub Exprs : Shape → SortExprs → Type 0
@@ -111,7 +111,7 @@ pub record Cascaded (o : Op) (s : SortExprs) (w : ℕ) (t : Tree) : Type 0 where
   pub pass : passing o ≡ true
   pub few : s .keys .len ≤ 8
   pub merge : nodeOk (mergeOp (keysOf (s .keys)) (s .fetch)) (w ∷ []) ≡ true
-  pub is : (x : Bool) → parallelBy (shape o) (over o x t) ≡ over (mergeOp (keysOf (s .keys)) (s .fetch)) false (addSortAboveWithCheck (keysOf (s .keys)) (s .fetch) (freed (over o x t)))
+  pub is : (x : Bool) → parallelBy (shape o) (over o x t) ≡ over (mergeOp (keysOf (s .keys)) (s .fetch)) false (addSortAboveWithCheck (keysOf (s .keys)) (s .fetch) (withoutSelf (over o x t)))
 
 pub cascaded : (o : Op) (s : SortExprs) (w : ℕ) (t : Tree) → Exprs (shape o) s → nodeOk o (w ∷ []) ≡ true → cascades o (fact t) ≡ true → Cascaded o s w t
 cascaded o s w t =
@@ -121,15 +121,15 @@ cascaded o s w t =
       pass = refl;
       few = x .0 .few;
       merge = ap₂ (λ l g. nodeOk (mergeOp l g) (w ∷ [])) (x .0 .is) (x .1) ∙ k;
-      is = λ y. ap (λ b. cond b (over (mergeOp ks f) false (addSortAboveWithCheck ks f (freed (over (sortOp p ks f) y t)))) (over (sortOp p ks f) y t)) c
-          ∙ ap₂ (λ l g. over (mergeOp l g) false (addSortAboveWithCheck l g (freed (over (sortOp p ks f) y t)))) (sym (x .0 .is)) (sym (x .1));
+      is = λ y. ap (λ b. cond b (over (mergeOp ks f) false (addSortAboveWithCheck ks f (withoutSelf (over (sortOp p ks f) y t)))) (over (sortOp p ks f) y t)) c
+          ∙ ap₂ (λ l g. over (mergeOp l g) false (addSortAboveWithCheck l g (withoutSelf (over (sortOp p ks f) y t)))) (sym (x .0 .is)) (sym (x .1));
     })
     (λ ks f x k c.
     record {
       pass = refl;
       few = x .0 .few;
       merge = ap₂ (λ l g. nodeOk (mergeOp l g) (w ∷ [])) (x .0 .is) (x .1) ∙ k;
-      is = λ y. ap₂ (λ l g. over (mergeOp l g) false (addSortAboveWithCheck l g (freed (over (mergeOp ks f) y t)))) (sym (x .0 .is)) (sym (x .1));
+      is = λ y. ap₂ (λ l g. over (mergeOp l g) false (addSortAboveWithCheck l g (withoutSelf (over (mergeOp ks f) y t)))) (sym (x .0 .is)) (sym (x .1));
     })
     (λ f x k c. no-bool c)
     (λ p e x k c. no-bool (sym (ap₂ (λ a b. (a || b) && leb (factsOp p (fact t ∷ []) .streams) 1) (e .sort) (e .merge)) ∙ c))
@@ -145,7 +145,7 @@ merge-keys w ks f e =
 -- A coalesce over t
 pub record Coalesced (o : Op) (t : Tree) : Type 0 where
   pub pass : passing o ≡ true
-  pub is : (x : Bool) → parallelBy (shape o) (over o x t) ≡ over (coalesce (cuts o .fetch)) false (freed (over o x t))
+  pub is : (x : Bool) → parallelBy (shape o) (over o x t) ≡ over (coalesce (cuts o .fetch)) false (withoutSelf (over o x t))
 
 pub coalesced : (o : Op) (t : Tree) → isCoalescePartitions o ≡ true → Coalesced o t
 coalesced o t =
@@ -160,7 +160,7 @@ coalesced o t =
 pub stays-else : (o : Op) (x : Bool) (c : Forest Marked) (t : Tree) → (passing o ≡ true → c ≡ plant t none) → cascades o (fact t) ≡ false → isCoalescePartitions o ≡ false → parallelBy (shape o) (node o x c) ≡ node o x c
 stays-else o x c t =
     by-kind (λ p. (passing p ≡ true → c ≡ plant t none) → cascades p (fact t) ≡ false → isCoalescePartitions p ≡ false → parallelBy (shape p) (node p x c) ≡ node p x c)
-    (λ p ks f h e d. subst (λ g. cascade ks f (node (sortOp p ks f) x g) ≡ node (sortOp p ks f) x g) (sym (h refl)) (ap (λ b. cond b (over (mergeOp ks f) false (addSortAboveWithCheck ks f (freed (over (sortOp p ks f) x t)))) (over (sortOp p ks f) x t)) e))
+    (λ p ks f h e d. subst (λ g. cascade ks f (node (sortOp p ks f) x g) ≡ node (sortOp p ks f) x g) (sym (h refl)) (ap (λ b. cond b (over (mergeOp ks f) false (addSortAboveWithCheck ks f (withoutSelf (over (sortOp p ks f) x t)))) (over (sortOp p ks f) x t)) e))
     (λ ks f h e d. no-bool (sym e))
     (λ f h e d. no-bool (sym d))
     (λ p k h e d. k .stays (node p x c))
@@ -168,23 +168,23 @@ stays-else o x c t =
 
 -- ---- the mark of what is rebuilt does not matter
 
-same-freed : (o : Op) (x : Bool) (t : Tree) → freed (over o x t) ≡ freed (over o false t)
-same-freed o x t = freed-by o x t ∙ sym (freed-by o false t)
+same-without-self : (o : Op) (x : Bool) (t : Tree) → withoutSelf (over o x t) ≡ withoutSelf (over o false t)
+same-without-self o x t = without-self-by o x t ∙ sym (without-self-by o false t)
 
 pub cascades-alike : (o : Op) (x : Bool) (t : Tree) → cascades o (fact t) ≡ true → parallelBy (shape o) (over o false t) ≡ parallelBy (shape o) (over o x t)
 cascades-alike o x t =
     by-kind (λ p. cascades p (fact t) ≡ true → parallelBy (shape p) (over p false t) ≡ parallelBy (shape p) (over p x t))
     (λ p ks f c.
-    ap (λ b. cond b (over (mergeOp ks f) false (addSortAboveWithCheck ks f (freed (over (sortOp p ks f) false t)))) (over (sortOp p ks f) false t)) c
-    ∙ ap (λ v. over (mergeOp ks f) false (addSortAboveWithCheck ks f v)) (sym (same-freed (sortOp p ks f) x t))
-    ∙ sym (ap (λ b. cond b (over (mergeOp ks f) false (addSortAboveWithCheck ks f (freed (over (sortOp p ks f) x t)))) (over (sortOp p ks f) x t)) c))
-    (λ ks f c. ap (λ v. over (mergeOp ks f) false (addSortAboveWithCheck ks f v)) (sym (same-freed (mergeOp ks f) x t)))
+    ap (λ b. cond b (over (mergeOp ks f) false (addSortAboveWithCheck ks f (withoutSelf (over (sortOp p ks f) false t)))) (over (sortOp p ks f) false t)) c
+    ∙ ap (λ v. over (mergeOp ks f) false (addSortAboveWithCheck ks f v)) (sym (same-without-self (sortOp p ks f) x t))
+    ∙ sym (ap (λ b. cond b (over (mergeOp ks f) false (addSortAboveWithCheck ks f (withoutSelf (over (sortOp p ks f) x t)))) (over (sortOp p ks f) x t)) c))
+    (λ ks f c. ap (λ v. over (mergeOp ks f) false (addSortAboveWithCheck ks f v)) (sym (same-without-self (mergeOp ks f) x t)))
     (λ f c. no-bool c)
     (λ p e c. no-bool (sym (ap₂ (λ a b. (a || b) && leb (factsOp p (fact t ∷ []) .streams) 1) (e .sort) (e .merge)) ∙ c))
     o
 
 pub coalesced-alike : (o : Op) (x : Bool) (t : Tree) → isCoalescePartitions o ≡ true → parallelBy (shape o) (over o false t) ≡ parallelBy (shape o) (over o x t)
-coalesced-alike o x t c = let k = coalesced o t c in k .is false ∙ ap (over (coalesce (cuts o .fetch)) false) (sym (same-freed o x t)) ∙ sym (k .is x)
+coalesced-alike o x t c = let k = coalesced o t c in k .is false ∙ ap (over (coalesce (cuts o .fetch)) false) (sym (same-without-self o x t)) ∙ sym (k .is x)
 
 -- ---- what is rebuilt has one child
 

@@ -3,7 +3,7 @@ pub mod Connecting
 pub mod Shown
 pub mod Skipping
 pub mod Sizes
-pub mod Settling
+pub mod IdleNodes
 pub mod Removing
 pub mod Exprs
 pub mod Cascading

@@ -23,11 +23,11 @@ ghost use Rattle.semantics.specs.Properties.{singles};
 ghost use Rattle.plan_codec.specs.Decode.{decode};
 ghost use Rattle.record_fields.specs.Proper.{Proper};
 ghost use Rattle.walks.specs.Marks.{shape, over, sizeT};
-ghost use Rattle.walks.specs.ParallelizeSorts.{bottleneck, firstIs, freed, idle, liftFirst, settle as settled, skipSame};
+ghost use Rattle.walks.specs.ParallelizeSorts.{bottleneck, firstIs, withoutSelf, idle, liftFirst, withoutIdle, skipSame};
 ghost use Rattle.arena.specs.Arena.{slot};
 ghost use Rattle.plan_context.specs.View.{treeOf, forest, Arena, Grown, Over, Puts};
 ghost use Rattle.parallelize_sorts.specs.Skipping.{Skips};
-ghost use Rattle.parallelize_sorts.specs.Settling.{Lifts};
+ghost use Rattle.parallelize_sorts.specs.IdleNodes.{Lifts};
 ghost use Rattle.parallelize_sorts.specs.Removing.{openOne, Opens};
 
 // The first tree below the coalesce at h, past repartitions that are equal to the node with the record r.
@@ -86,9 +86,9 @@ fn is_idle(m: &[u8], r: &[u8], ks: &[usize]) -> bool
 }
 
 // The node with the record r put back over the children ks, marked; where it is idle, its child. Slot i holds it as it was.
-fn settle(m: &mut [u8], u: usize, r: &[u8], ks: &[usize], i: usize) -> At
+fn without_idle(m: &mut [u8], u: usize, r: &[u8], ks: &[usize], i: usize) -> At
     requires { ⌜ Puts (now m) u (now r) (now ks) × (i < u) ⌝ }
-    ensures { λ a. ⌜ Grown (now (m .entry)) u (now (m .exit)) a (settled (record { op = decode (now (r .entry)); mark = true }) (forest (now (m .entry)) (now (ks .entry)))) (u + 1) ⌝ }
+    ensures { λ a. ⌜ Grown (now (m .entry)) u (now (m .exit)) a (withoutIdle (record { op = decode (now (r .entry)); mark = true }) (forest (now (m .entry)) (now (ks .entry)))) (u + 1) ⌝ }
 {
     if is_idle(m, r, ks) {
         return At {
@@ -106,13 +106,13 @@ fn settle(m: &mut [u8], u: usize, r: &[u8], ks: &[usize], i: usize) -> At
 // Node i, with the record r, whose first child, a coalesce, gives its place to what stands below it.
 fn lift_first(m: &mut [u8], u: usize, r: &[u8], i: usize) -> At
     requires { ⌜ Lifts (now m) u i (now r) ⌝ }
-    ensures { λ a. ⌜ Grown (now (m .entry)) u (now (m .exit)) a (settled (record { op = decode (now (r .entry)); mark = true }) (liftFirst (decode (now (r .entry))) (forest (now (m .entry)) (slot (now (m .entry)) i .kids)))) (u + 1) ⌝ }
+    ensures { λ a. ⌜ Grown (now (m .entry)) u (now (m .exit)) a (withoutIdle (record { op = decode (now (r .entry)); mark = true }) (liftFirst (decode (now (r .entry))) (forest (now (m .entry)) (slot (now (m .entry)) i .kids)))) (u + 1) ⌝ }
 {
     let n = child_count(m, i);
     let k = child(m, i, 0);
     let mut kids = children_of(m, i);
     kids[0] = skip_same(m, r, k);
-    settle(m, u, r, &kids[..n], i)
+    without_idle(m, u, r, &kids[..n], i)
 }
 
 // The tree at h, if it is connected: the coalesce that is its first child goes, or its connected children are rewritten.
@@ -141,13 +141,13 @@ fn remove_bottleneck_in_subplan_impl(m: &mut [u8], u: usize, h: usize, removable
         kids[j] = a.root;
         j += 1;
     }
-    settle(m, w, &r, &kids[..n], i)
+    without_idle(m, w, &r, &kids[..n], i)
 }
 
 // What stands below the node with the record r and the only child at h, without bottlenecks: the caller takes the node itself out.
 pub fn remove_bottleneck_in_subplan(m: &mut [u8], u: usize, r: &[u8], h: usize) -> At
     requires { ⌜ Opens (now m) u h × Proper (now r) ⌝ }
-    ensures { λ a. ⌜ Grown (now (m .entry)) u (now (m .exit)) a (freed (over (decode (now (r .entry))) false (treeOf (now (m .entry)) h))) (u + sizeT (treeOf (now (m .entry)) h)) ⌝ }
+    ensures { λ a. ⌜ Grown (now (m .entry)) u (now (m .exit)) a (withoutSelf (over (decode (now (r .entry))) false (treeOf (now (m .entry)) h))) (u + sizeT (treeOf (now (m .entry)) h)) ⌝ }
 {
     if is_bottleneck(record_at(m, h / 2)) {
         let k = skip_same(m, r, h);

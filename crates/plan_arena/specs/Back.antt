@@ -16,7 +16,7 @@ use Rattle.plan_roundtrip.specs.Plans.{file-back}
 use Rattle.arena.specs.Arena.{slotSize, held, treeAt}
 use Rattle.plan_arena.specs.Fill.{HoldsTree}
 use Rattle.plan_arena.specs.Flat.{Flattens}
-use Rattle.plan_arena.specs.Answers.{blockSlots, fillable}
+use Rattle.plan_arena.specs.ReadFile.{blockSlots, fillable}
 
 pub size-nodes : {A : Type 0} (f : Forest A) → size f ≡ length (nodes f)
 size-nodes none = refl

@@ -19,7 +19,7 @@ use Rattle.plan_format.specs.Reading.{finished, enough, childrenAt, kindsOk, tr
 use Rattle.plan_format.specs.Tree.{takeF, dropF, build, treeOf}
 use Rattle.plan_passes.specs.Laws.{past, past-back, past-all}
 use Rattle.plan_reader.specs.Stack.{push, rest, rest-back, enough-at, kidByte, kid-byte}
-use Rattle.arena.specs.Arena.{Node, slotSize, index, held, leaf, beside, forest, planted, trees, treeAt, at, Below, Fine, Good, same, more}
+use Rattle.arena.specs.Arena.{Node, slotSize, index, held, leaf, beside, forest, planted, trees, treeAt, at, Below, GoodNode, Good, same, more}
 use Rattle.arena.specs.Laws.{index-even, at-new, length-trees, ext-tree, below-more, below-take, below-drop, forest-new, forest-take, forest-drop}
 use Rattle.arena.specs.Held.{nodeOf, length-held, Appends, Appended, held-more}
 use Rattle.plan_arena.specs.Parts.{Part, here, part-new}
@@ -138,7 +138,7 @@ module _ (s : List ℕ) (c room : ℕ) (a : Fillable s c room) where
         let cnt : finished (past (childrenAt s) c (i - 1)) ≡ finished (past (childrenAt s) c i) - childrenAt s (i - 1) + 1 = ap finished pb in
         let ld = length-drop k ws in let pc = p .count in
         let bk : Below (2 * u) (drop k ws) = below-drop (2 * u) k ws (p .below) in
-        let fine : Fine u node = record { below = fill-fine k e .1; long = long-record (i - 1) (omega arith); count = fill-fine k e .0; few = few-children (i - 1) (omega arith) } in
+        let fine : GoodNode u node = record { below = fill-fine k e .1; long = long-record (i - 1) (omega arith); count = fill-fine k e .0; few = few-children (i - 1) (omega arith) } in
         let new : forest (trees (node ∷ ns)) (2 * u ∷ drop k ws) ≡ tree (recordAt s (i - 1)) (forest (trees ns) (take k ws)) (forest (trees ns) (drop k ws)) =
         (ap (λ (x : ℕ). forest (trees (node ∷ ns)) (2 * x ∷ drop k ws)) (sym lu) ∙ forest-new ns node (drop k ws) (rw lu bk)) in
         record {

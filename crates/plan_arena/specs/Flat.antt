@@ -12,7 +12,7 @@ use Rattle.plan.specs.Forest.{tree, size, nodes}
 use Rattle.plan_format.specs.Record.{children}
 use Rattle.plan_roundtrip.specs.Files.{length-span}
 use Rattle.plan_format.specs.Writing.{joined}
-use Rattle.arena.specs.Arena.{slotSize, recordSize, index, Tree, beside, slot, held, forest, trees, treeAt, at, leaf, Below, Fine, Good}
+use Rattle.arena.specs.Arena.{slotSize, recordSize, index, Tree, beside, slot, held, forest, trees, treeAt, at, leaf, Below, GoodNode, Good}
 use Rattle.arena.specs.Laws.{index-even, onto, below-more}
 use Rattle.arena.specs.Held.{view}
 
@@ -130,7 +130,7 @@ module _ (m : List ℕ) (u i : ℕ) (rs₀ : List ℕ) (a : Flattens m u i (leng
     grown : forest (trees (held m u)) (drop t w) ≡ tree (slot m (index k) .rec) (forest (trees (held m u)) (slot m (index k) .kids)) (forest (trees (held m u)) (drop (t + 1) w))
     grown = ap (forest (trees (held m u))) stack ∙ first-tree m u k (drop (t + 1) w) (a .good) flat-here
 
-    pub flat-fine : Fine (index (getD w t 0)) (slot m (index (getD w t 0)))
+    pub flat-fine : GoodNode (index (getD w t 0)) (slot m (index (getD w t 0)))
     flat-fine = let h = flat-here in view m u (index k) (a .good) (omega arith) .fine
 
     -- there is room for the record and for the children

@@ -1,5 +1,5 @@
 pub mod Parts
 pub mod Fill
 pub mod Flat
-pub mod Answers
+pub mod ReadFile
 pub mod Back

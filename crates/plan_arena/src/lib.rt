@@ -9,7 +9,7 @@ ghost use Rattle.plan_format.specs.Blocks.{blockCount};
 ghost use Rattle.plan_format.specs.Writing.{joined, writeRefusal, written};
 ghost use Rattle.arena.specs.Arena.{slotSize, slot, held, treeAt};
 ghost use Rattle.plan_arena.specs.Flat.{Flattens};
-ghost use Rattle.plan_arena.specs.Answers.{blockSlots, ReadAs};
+ghost use Rattle.plan_arena.specs.ReadFile.{blockSlots, ReadAs};
 ghost use Rattle.plan_arena.specs.Fill.{Fillable, HoldsTree};
 use arena::At;
 use arena::RECORD;
@@ -44,20 +44,20 @@ fn fill(s: &[u8], c: usize, m: &mut [u8]) -> At
 }
 
 // What reading answers: the refusal, or how many slots are used and the handle of the file's tree.
-pub struct Answer {
+pub struct PlanRead {
     pub refusal: Refusal,
     pub used: usize,
     pub root: usize,
 }
 
 // The plan file s into the memory m, which has room for a node of each record that its blocks can hold.
-pub fn read(s: &[u8], m: &mut [u8]) -> Answer
+pub fn read(s: &[u8], m: &mut [u8]) -> PlanRead
     requires { ⌜ blockSlots * blockCount (now s) ≤ length (now m) ⌝ }
     ensures { λ r. ⌜ ReadAs (now (s .entry)) (now (m .entry)) (now (m .exit)) r ⌝ }
 {
     let x = plan_reader::refusal_of(s);
     if plan::number(x) != 0 {
-        return Answer {
+        return PlanRead {
             refusal: x,
             used: 0,
             root: 0,
@@ -66,7 +66,7 @@ pub fn read(s: &[u8], m: &mut [u8]) -> Answer
     let n = s.len() / 512;
     let c = plan_passes::record_count(s, n);
     let r = fill(s, c, m);
-    Answer {
+    PlanRead {
         refusal: x,
         used: r.used,
         root: r.root,

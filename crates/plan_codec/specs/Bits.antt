@@ -16,8 +16,8 @@ use Rattle.plan.specs.declared.JoinType.the-variants.{Inner, Left, Right, Full,
 use Rattle.plan.specs.declared.Fetch.{Fetch}
 use Rattle.plan.specs.declared.Fetch.the-variants.{Unlimited, AtMost}
 use Rattle.plan_format.specs.Record.{noFetch}
-use Rattle.plan_codec.specs.Decode.{fetchOf, keyOf}
-use Rattle.plan_codec.specs.Encode.{num, marksByte, fetchNumber, optionsByte}
+use Rattle.plan_codec.specs.Decode.{fetchOf, keyOfBytes}
+use Rattle.plan_codec.specs.Encode.{oneIf, marksByte, fetchNumber, optionsByte}
 
 -- ---- Booleans
 
@@ -114,15 +114,15 @@ pub bits-marks : (m : ℕ) → m < 8 → marksByte (bit m 0) (bit m 1) (bit m 2)
 unfolding allBelow
 bits-marks m h = row (λ m. marksByte (bit m 0) (bit m 1) (bit m 2)) (λ m. m) 8 refl m h
 
-pub options-bits : (d f : Bool) → (bit (num d + 2 * num f) 0 ≡ d) × (bit (num d + 2 * num f) 1 ≡ f) × (num d + 2 * num f < 4)
+pub options-bits : (d f : Bool) → (bit (oneIf d + 2 * oneIf f) 0 ≡ d) × (bit (oneIf d + 2 * oneIf f) 1 ≡ f) × (oneIf d + 2 * oneIf f < 4)
 options-bits true true = (refl, refl, omega arith)
 options-bits true false = (refl, refl, omega arith)
 options-bits false true = (refl, refl, omega arith)
 options-bits false false = (refl, refl, omega arith)
 
-pub bits-options : (c o : ℕ) → o < 4 → optionsByte (keyOf c o) ≡ o
+pub bits-options : (c o : ℕ) → o < 4 → optionsByte (keyOfBytes c o) ≡ o
 unfolding allBelow
-bits-options c o h = row (λ o. num (bit o 0) + 2 * num (bit o 1)) (λ o. o) 4 refl o h
+bits-options c o h = row (λ o. oneIf (bit o 0) + 2 * oneIf (bit o 1)) (λ o. o) 4 refl o h
 
 -- ---- fetch
 

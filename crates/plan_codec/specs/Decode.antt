@@ -23,15 +23,15 @@ abbrev pub fetchOf : ℕ → Fetch
 fetchOf n = cond (eqb n noFetch) Unlimited (AtMost n)
 
 -- "keys of two bytes, column and options (bit 0 descending, bit 1 nulls first)"
-abbrev pub keyOf : ℕ → ℕ → Key
-keyOf c o = record { col = c; desc = bit o 0; first = bit o 1 }
+abbrev pub keyOfBytes : ℕ → ℕ → Key
+keyOfBytes c o = record { col = c; desc = bit o 0; first = bit o 1 }
 
 -- n keys, from their bytes
 abbrev pub keysOf : ℕ → List ℕ → List Key
 keysOf zero l = []
 keysOf (suc n) [] = []
 keysOf (suc n) (c ∷ []) = []
-keysOf (suc n) (c ∷ o ∷ l) = keyOf c o ∷ keysOf n l
+keysOf (suc n) (c ∷ o ∷ l) = keyOfBytes c o ∷ keysOf n l
 
 -- the fields of a record
 abbrev pub fromBytes : List ℕ → NodeRecord

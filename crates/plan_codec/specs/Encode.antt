@@ -22,13 +22,13 @@ fill (suc n) [] = 0 ∷ fill n []
 fill (suc n) (x ∷ l) = x ∷ fill n l
 
 -- a bit's number
-abbrev pub num : Bool → ℕ
-num false = 0
-num true = 1
+abbrev pub oneIf : Bool → ℕ
+oneIf false = 0
+oneIf true = 1
 
 -- "3 marks: bit 0 preserve, bit 1 hash, bit 2 unbounded"
 abbrev pub marksByte : Bool → Bool → Bool → ℕ
-marksByte p h u = num p + 2 * num h + 4 * num u
+marksByte p h u = oneIf p + 2 * oneIf h + 4 * oneIf u
 
 -- "4-7 fetch, 4294967295 for none"
 abbrev pub fetchNumber : Fetch → ℕ
@@ -37,7 +37,7 @@ fetchNumber (AtMost n) = n
 
 -- "keys of two bytes, column and options (bit 0 descending, bit 1 nulls first)"
 abbrev pub optionsByte : Key → ℕ
-optionsByte k = num (k .desc) + 2 * num (k .first)
+optionsByte k = oneIf (k .desc) + 2 * oneIf (k .first)
 
 abbrev pub keyBytes : List Key → List ℕ
 keyBytes [] = []

@@ -13,8 +13,8 @@ use Rattle.plan.specs.Op.{On}
 use Rattle.plan.specs.WellFormed.{every, plain}
 use Rattle.plan_format.specs.Blocks.{span}
 use Rattle.plan_format.specs.Record.{either, keyOk}
-use Rattle.plan_codec.specs.Decode.{keyOf, keysOf, onOf}
-use Rattle.plan_codec.specs.Encode.{fill, num, optionsByte, keyBytes}
+use Rattle.plan_codec.specs.Decode.{keyOfBytes, keysOf, onOf}
+use Rattle.plan_codec.specs.Encode.{fill, oneIf, optionsByte, keyBytes}
 use Rattle.plan_rules.specs.Slots.{even, slot-next}
 use Rattle.plan_codec.specs.Bits.{no-false, both, options-bits, bits-options}
 
@@ -30,7 +30,7 @@ length-keys (suc n) (c ∷ o ∷ l) h = ap suc (length-keys n l (omega arith))
 
 -- ---- keys, bytes, keys
 
-key-back : (k : Key) → keyOf (k .col) (optionsByte k) ≡ k
+key-back : (k : Key) → keyOfBytes (k .col) (optionsByte k) ≡ k
 key-back k = let b = options-bits (k .desc) (k .first) in λ i. record { col = k .col; desc = b .0 i; first = b .1 i }
 
 pub keys-back : (n : ℕ) (ks : List Key) → 2 * length ks ≤ n → keysOf (length ks) (fill n (keyBytes ks)) ≡ ks
@@ -79,13 +79,13 @@ bytes-plain (suc n) (suc m) (c ∷ []) e h = absurd (omega arith)
 bytes-plain (suc n) (suc m) (c ∷ o ∷ l) e h =
     let f = first-used true n c o (h 0 (omega arith)) in
     let z : o ≡ 0 = eqb-true o 0 (sym (or-false (eqb o 0)) ∙ f) in
-    let k : plain (keyOf c o) ≡ true = rw z in
-    both (plain (keyOf c o)) (every plain (keysOf n l)) k
+    let k : plain (keyOfBytes c o) ≡ true = rw z in
+    both (plain (keyOfBytes c o)) (every plain (keysOf n l)) k
     (bytes-plain n m l (omega arith) (λ i q. sym (slot-next c o l i true (suc n) n (omega arith)) ∙ h (suc i) (omega arith)))
 
 -- ---- the bytes of keys obey the rule
 
-options-ok : (p d f : Bool) → (p ≡ true → (not d && not f) ≡ true) → either p (eqb (num d + 2 * num f) 0) (eqb ((num d + 2 * num f) / 4) 0) ≡ true
+options-ok : (p d f : Bool) → (p ≡ true → (not d && not f) ≡ true) → either p (eqb (oneIf d + 2 * oneIf f) 0) (eqb ((oneIf d + 2 * oneIf f) / 4) 0) ≡ true
 options-ok true true f h = no-false (h refl)
 options-ok true false true h = no-false (h refl)
 options-ok true false false h = refl

@@ -22,19 +22,19 @@ use Rattle.plan_roundtrip.specs.Back.{AllBytes}
 use Rattle.plan_roundtrip.specs.Files.{passed}
 use Rattle.plan_roundtrip.specs.Plans.{FineTree, tree-accepted, tree-back, accepted-tree, file-back}
 use Rattle.plan_codec.specs.Decode.{decode}
-use Rattle.plan_codec.specs.Reading.{Answer, refused, plan, planOf, reading}
-use Rattle.plan_codec.specs.Writing.{written}
+use Rattle.plan_codec.specs.Reading.{PlanOrRefusal, refused, plan, planOf, reading}
+use Rattle.plan_codec.specs.Writing.{fileOfPlan}
 use Rattle.plan_codec.specs.Bits.{both, no-false}
 use Rattle.plan_codec.specs.Trees.{recorded, nodes-recorded, length-records, roots-map, last-tree}
 use Rattle.plan_codec.specs.Plans.{plan-fine, decoded, Fit, recorded-back, nodes-fine}
 
 -- ---- a plan's answer
 
-is-plan : Answer → Bool
+is-plan : PlanOrRefusal → Bool
 is-plan (refused r) = false
 is-plan (plan f) = true
 
-plan-in : Answer → Plan
+plan-in : PlanOrRefusal → Plan
 plan-in (refused r) = none
 plan-in (plan f) = f
 
@@ -52,18 +52,18 @@ read s f e = go (eqb (numberOf (refusalOf s)) 0) refl e
 
 -- ---- the file of a plan
 
-file-same : (f : Plan) → fileOfTree (recorded f) ≡ written f
+file-same : (f : Plan) → fileOfTree (recorded f) ≡ fileOfPlan f
 file-same f = ap fileOf (nodes-recorded f)
 
 -- The file of a well-formed plan is never refused
-pub written-accepted : (f : Plan) → wellFormed f ≡ true → refusalOf (written f) ≡ Accepted
+pub written-accepted : (f : Plan) → wellFormed f ≡ true → refusalOf (fileOfPlan f) ≡ Accepted
 written-accepted f e = ap refusalOf (sym (file-same f)) ∙ tree-accepted (recorded f) (plan-fine f e)
 
 -- Reading what was written gives the plan back
-pub read-written : (f : Plan) → wellFormed f ≡ true → reading (written f) ≡ plan f
+pub read-written : (f : Plan) → wellFormed f ≡ true → reading (fileOfPlan f) ≡ plan f
 unfolding reading
 read-written f e =
-    let t : treeOf (written f) ≡ recorded f = ap treeOf (sym (file-same f)) ∙ tree-back (recorded f) (plan-fine f e) in
+    let t : treeOf (fileOfPlan f) ≡ recorded f = ap treeOf (sym (file-same f)) ∙ tree-back (recorded f) (plan-fine f e) in
     let n : nodesOk f ≡ true = and-right (leb (size f) 126) (nodesOk f) (and-right (eqb (length (roots f)) 1) (leb (size f) 126 && nodesOk f) e) in
     rw (written-accepted f e) (ap plan (ap (mapF decode) t ∙ decoded f n))
 
@@ -89,7 +89,7 @@ module _ (s : List ℕ) (f : Plan) (by : AllBytes s) (e : reading s ≡ plan f) 
   same-tree = ap recorded (sym (read s f e .same)) ∙ recorded-back (treeOf s) fit
 
   -- Writing what was read gives the same bytes
-  pub written-read : written f ≡ s
+  pub written-read : fileOfPlan f ≡ s
   written-read = sym (file-same f) ∙ ap fileOfTree same-tree ∙ file-back s by (read s f e .fine)
 
   -- An accepted file's plan is well formed

@@ -12,5 +12,5 @@ abbrev pub recordsOf : Plan → List (List ℕ)
 recordsOf none = []
 recordsOf (tree o c r) = encode (length (roots c)) o ∷ (recordsOf c ++ recordsOf r)
 
-abbrev pub written : Plan → List ℕ
-written f = fileOf (recordsOf f)
+abbrev pub fileOfPlan : Plan → List ℕ
+fileOfPlan f = fileOf (recordsOf f)

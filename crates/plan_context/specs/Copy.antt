@@ -42,7 +42,7 @@ pub record Copies (a : List ℕ) (ua h : ℕ) (b : List ℕ) (v : ℕ) : Type 0 
   pub small : v + sizeT (treeOf a h) ≤ mostSlots
 
 -- The first j children are copied
-pub record Copied (a : List ℕ) (h : ℕ) (b₀ : List ℕ) (v j w : ℕ) (kids b : List ℕ) : Type 0 where
+pub record ChildrenCopied (a : List ℕ) (h : ℕ) (b₀ : List ℕ) (v j w : ℕ) (kids b : List ℕ) : Type 0 where
   pub made : Kids b₀ v j w kids b
   pub is : forest b (take j kids) ⊕ forest a (drop j (slot a (index h) .kids)) ≡ forest a (slot a (index h) .kids)
   pub left : w + size (forest a (drop j (slot a (index h) .kids))) ≤ v + size (forest a (slot a (index h) .kids))
@@ -57,11 +57,11 @@ module _ (a : List ℕ) (ua h : ℕ) (b₀ : List ℕ) (v : ℕ) (c : Copies a u
   whole : sizeT (treeOf a h) ≡ suc (size (forest a (slot a (index h) .kids)))
   whole = ap sizeT (shown .tree)
 
-  pub copied-none : (kids : List ℕ) → length kids ≡ 8 → Copied a h b₀ v 0 v kids b₀
+  pub copied-none : (kids : List ℕ) → length kids ≡ 8 → ChildrenCopied a h b₀ v 0 v kids b₀
   unfolding forest
   copied-none kids l = record { made = kids-none b₀ v kids (c .arena) l; is = refl; left = omega arith }
 
-  module _ (j w : ℕ) (kids b : List ℕ) (p : Copied a h b₀ v j w kids b) (l : j < length (slot a (index h) .kids)) where
+  module _ (j w : ℕ) (kids b : List ℕ) (p : ChildrenCopied a h b₀ v j w kids b) (l : j < length (slot a (index h) .kids)) where
     abbrev k : ℕ
     k = getD (slot a (index h) .kids) j 0
 
@@ -76,7 +76,7 @@ module _ (a : List ℕ) (ua h : ℕ) (b₀ : List ℕ) (v : ℕ) (c : Copies a u
         (omega arith, record { from = c .from; here = omega arith; arena = p .made .arena; room = omega arith; small = omega arith })
 
     pub copied-more : (b' : List ℕ) → length b' ≡ length b → (r : At) → Grown b w b' r (treeOf a (getD (slot a (index h) .kids) j 0)) (w + sizeT (treeOf a (getD (slot a (index h) .kids) j 0)))
-        → Copied a h b₀ v (j + 1) (r .used) (set kids j (r .root)) b'
+        → ChildrenCopied a h b₀ v (j + 1) (r .used) (set kids j (r .root)) b'
     copied-more b' lb r g =
         let f = shown .few in
         let s = ap size split in let q = p .left in let top = g .room in
@@ -88,7 +88,7 @@ module _ (a : List ℕ) (ua h : ℕ) (b₀ : List ℕ) (v : ℕ) (c : Copies a u
         }
 
   -- all children are copied
-  module _ (j n w : ℕ) (kids b : List ℕ) (p : Copied a h b₀ v j w kids b) (f : n ≡ j) (e : n ≡ children (slot a (index h) .rec)) where
+  module _ (j n w : ℕ) (kids b : List ℕ) (p : ChildrenCopied a h b₀ v j w kids b) (f : n ≡ j) (e : n ≡ children (slot a (index h) .rec)) where
     counted : length (take n kids) ≡ length (slot a (index h) .kids)
     counted = let x = shown .count in let y = shown .few in let z = p .made .wide in length-take-le n kids (omega arith) ∙ e ∙ x
 

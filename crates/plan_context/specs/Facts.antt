@@ -18,7 +18,7 @@ use Rattle.walks.specs.theorems.common.Trees.{OkT, ok-to}
 use Rattle.class_tables.specs.Filling.{alone-filled}
 use Rattle.facts.specs.Saying.{says-unknown}
 use Rattle.facts.specs.declared.Facts.{Facts as Coded}
-use Rattle.facts.specs.Known.{known as told, Fine, Says}
+use Rattle.facts.specs.Known.{known as told, Coherent, Says}
 use Rattle.fact_slots.specs.Slots.{loaded}
 use Rattle.row_facts.specs.Asked.{FactRow}
 use Rattle.arena.specs.Arena.{keptSize, index, keptPart}
@@ -31,7 +31,7 @@ abbrev pub mostStreams : ℕ
 mostStreams = 65472
 
 pub record Usable (f : Coded) : Type 0 where
-  pub fine : Fine f
+  pub fine : Coherent f
   pub fits : Fits (told f)
   pub few : f .streams ≤ mostStreams
 

@@ -6,7 +6,7 @@ use Prim.Native.Nat.{ℕ, _+_, _*_, _/_, _%_, _≤_, _<_}
 use native.Mathlib.Omega.{arith}
 use lib.Dec.{eqb}
 use lib.ListN.{length, getD}
-use Rattle.plan_codec.specs.Encode.{num}
+use Rattle.plan_codec.specs.Encode.{oneIf}
 use Rattle.plan_format.specs.Record.{children}
 use Rattle.arena.specs.Arena.{slotSize, index, slot}
 use Rattle.walks.specs.Marks.{Tree, setMark, kid0}
@@ -18,7 +18,7 @@ pub record Marks (h : ℕ) (b : Bool) (r : ℕ) : Type 0 where
   pub slot : index r ≡ index h
   pub tree : (m : List ℕ) → treeOf m r ≡ setMark b (treeOf m h)
 
-pub marks : (h : ℕ) (b : Bool) → Marks h b (2 * (index h) + num b)
+pub marks : (h : ℕ) (b : Bool) → Marks h b (2 * (index h) + oneIf b)
 marks h true =
     let s : (2 * (index h) + 1) / 2 ≡ index h = omega arith in
     let t : (2 * (index h) + 1) % 2 ≡ 1 = omega arith in
@@ -42,6 +42,6 @@ first-kid m h x l k e =
 pub kid-asks : (m : List ℕ) (h : ℕ) → Here m h → 0 < length (slot m (index h) .kids) → ((index h + 1) * slotSize ≤ length m) × (0 < children (slot m (index h) .rec)) × (children (slot m (index h) .rec) ≤ 8)
 kid-asks m h x l = let s = seen m (index h) (x .holds .proper) in let c = s .count in let f = s .few in (x .slot, omega arith, omega arith)
 
-pub num-small : (b : Bool) → num b ≤ 1
+pub num-small : (b : Bool) → oneIf b ≤ 1
 num-small true = omega arith
 num-small false = omega arith

@@ -119,6 +119,3 @@ pub length-facts : (m hs : List ℕ) → length (known (forest m hs)) ≡ length
 unfolding forest
 length-facts m [] = refl
 length-facts m (k ∷ hs) = ap suc (length-facts m hs)
-
-pub part-long : (m : List ℕ) (k : ℕ) → (k + 1) * slotSize ≤ length m → length (keptPart m k) ≡ keptSize
-part-long m k h = length-part m (k * slotSize + keptFrom) keptSize (omega arith)

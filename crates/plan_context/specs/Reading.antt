@@ -26,7 +26,7 @@ use Rattle.plan_roundtrip.specs.Back.{AllBytes}
 use Rattle.plan_roundtrip.specs.Plans.{accepted-tree}
 use Rattle.plan_arena.specs.Parts.{Part, here, under, beside}
 use Rattle.plan_arena.specs.Fill.{HoldsTree}
-use Rattle.plan_arena.specs.Answers.{blockSlots, fillable}
+use Rattle.plan_arena.specs.ReadFile.{blockSlots, fillable}
 use Rattle.plan_arena.specs.Back.{size-tree}
 use Rattle.arena.specs.Arena as records
 use Rattle.arena.specs.Arena.{slotSize, slot, held}

@@ -9,7 +9,7 @@ use lib.ListN.{length}
 use Rattle.plan.specs.Forest.{none, tree, mapF}
 use Rattle.plan.specs.Op.{Plan}
 use Rattle.plan_codec.specs.Decode.{decode}
-use Rattle.semantics.specs.Check.{check, wants}
+use Rattle.semantics.specs.Check.{check, wantsMet}
 use Rattle.walks.specs.Marks.{Tree, strip, known, opT, setMark}
 use Rattle.arena.specs.Arena as records
 use Rattle.arena.specs.Arena.{Node, index, marked, held, at, Below, Good}
@@ -60,8 +60,8 @@ views m u h g l =
     same-trees (held m u) g (index h) (omega arith) ∙ ap planT (at-trees m u (index h) (omega arith))
 
 -- the check of its plan, at its root and below
-pub check-plan : (t : Tree) → wants (opT t) (known (t .kids)) && check (strip (t .kids)) ≡ check (planT t)
-check-plan t = ap (λ b. wants (opT t) (known (t .kids)) && b) (go (check (strip (t .kids))))
+pub check-plan : (t : Tree) → wantsMet (opT t) (known (t .kids)) && check (strip (t .kids)) ≡ check (planT t)
+check-plan t = ap (λ b. wantsMet (opT t) (known (t .kids)) && b) (go (check (strip (t .kids))))
   where
     go : (b : Bool) → b ≡ b && true
     go true = refl

@@ -19,7 +19,7 @@ use Rattle.plan.specs.declared.Kind.the-variants.{Source, Union}
 use Rattle.plan_format.specs.Record.{children}
 use Rattle.plan_codec.specs.Decode.{fromBytes, operatorOf, decode}
 use Rattle.semantics.specs.Facts.{nothing, facts, factsOp, reorder, sourceFacts}
-use Rattle.semantics.specs.Check.{wants}
+use Rattle.semantics.specs.Check.{wantsMet}
 use Rattle.record_fields.specs.Fields.{tailColumns}
 use Rattle.facts.specs.declared.Facts.{Facts as Coded}
 use Rattle.facts.specs.Known.{Says}
@@ -100,7 +100,7 @@ module _ (m : List ℕ) (i : ℕ) (s : Settles m i) where
     few-streams f p = let z = usable-of (node (decode (slot m i .rec)) false (forest m (slot m i .kids))) (shown .ok) (shown .small) f p .few in omega arith
 
     -- w: the wanted orders are met; as the code computes the summary x
-    pub settled-with : (r : List ℕ) → r ≡ slot m i .rec → (w : Bool) → w ≡ wants (decode (slot m i .rec)) (known (forest m (slot m i .kids))) → (x : Summary) → x ≡ own r w s' → (b : List ℕ) → length b ≡ keptSize
+    pub settled-with : (r : List ℕ) → r ≡ slot m i .rec → (w : Bool) → w ≡ wantsMet (decode (slot m i .rec)) (known (forest m (slot m i .kids))) → (x : Summary) → x ≡ own r w s' → (b : List ℕ) → length b ≡ keptSize
         → Says (factsOp (decode (slot m i .rec)) (known (forest m (slot m i .kids)))) (loaded b) → summaryIn b ≡ x
         → Settled m i (splice m (i * slotSize + keptFrom) (i * slotSize + keptFrom + keptSize - (i * slotSize + keptFrom)) b)
     settled-with r e w v x y b l f z =
@@ -159,10 +159,10 @@ some-kid (outputRequirement ks d t) n f g e = omega (arith, eqb-true n 1 e)
 some-kid (partialSort p ks k t) n f g e = omega (arith, eqb-true n 1 e)
 
 module _ (m r ks : List ℕ) (a : Over m r ks) where
-  -- a union has no wish
-  pub union-wants : kindOf (getD r 0 0) ≡ Union → true ≡ wants (decode r) (known (forest m ks))
+  -- a union wants no order
+  pub union-wants : kindOf (getD r 0 0) ≡ Union → true ≡ wantsMet (decode r) (known (forest m ks))
   unfolding decode
-  union-wants e = sym (ap (λ k. wants (operatorOf k (fromBytes r)) (known (forest m ks))) e)
+  union-wants e = sym (ap (λ k. wantsMet (operatorOf k (fromBytes r)) (known (forest m ks))) e)
 
   module _ (n : kindOf (getD r 0 0) ≡ Union → ⊥) where
     pub inner-some : (kindOf (getD r 0 0) ≡ Source → ⊥) → 0 < length ks
@@ -195,8 +195,8 @@ module _ (m r ks : List ℕ) (a : Over m r ks) where
       pub source-fact : (s : Coded) → Says (reorder (sourceFacts (getD r 13 0) (getD r 2 0) (le32 (tailColumns r) 0)) (map keyOf (lentKeys r (count r)))) s → Says (factsOp (decode r) (known (forest m ks))) s
       source-fact s p = own-says m r ks a n z z first second s (source-says r z z h e s p)
 
-      pub source-wants : true ≡ wants (decode r) (known (forest m ks))
-      source-wants = no-want r z z h Source e refl ∙ ap (wants (decode r)) (same-kids m r ks a n z z first second)
+      pub source-wants : true ≡ wantsMet (decode r) (known (forest m ks))
+      source-wants = no-want r z z h Source e refl ∙ ap (wantsMet (decode r)) (same-kids m r ks a n z z first second)
 
     -- a node with children, their facts copied
     module _ (b c : List ℕ) (k : length b ≡ 48) (l : length c ≡ 48) (f : Child (known (forest m ks)) 0 (loaded b)) (g : Child (known (forest m ks)) 1 (loaded c)) where
@@ -211,8 +211,8 @@ module _ (m r ks : List ℕ) (a : Over m r ks) where
       pub inner-says : (o : Coded) → Says (factsOp (decode r) (kidsOf r (loaded b) (loaded c))) o → Says (factsOp (decode r) (known (forest m ks))) o
       inner-says o p = own-says m r ks a n (loaded b) (loaded c) f g o p
 
-      pub inner-wants : (w : Bool) → w ≡ wants (decode r) (kidsOf r (loaded b) (loaded c)) → w ≡ wants (decode r) (known (forest m ks))
-      inner-wants w x = x ∙ ap (wants (decode r)) (same-kids m r ks a n (loaded b) (loaded c) f g)
+      pub inner-wants : (w : Bool) → w ≡ wantsMet (decode r) (kidsOf r (loaded b) (loaded c)) → w ≡ wantsMet (decode r) (known (forest m ks))
+      inner-wants w x = x ∙ ap (wantsMet (decode r)) (same-kids m r ks a n (loaded b) (loaded c) f g)
 
 -- the bytes that a child's slot keeps, copied
 pub row-is : (x b r : List ℕ) → r ≡ take 48 x → x ≡ b → length b ≡ keptSize → (length r ≡ 48) × (loaded r ≡ loaded b)

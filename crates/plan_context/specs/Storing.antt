@@ -9,7 +9,7 @@ use lib.ListN.{length, getD, take, drop, take-append-drop}
 use lib.Seq.{length-take-le, getD-append-add, take-append-le, take-take}
 use Rattle.scan.specs.Bytes.{le16, le32}
 use Rattle.plan_roundtrip.specs.Back.{four}
-use Rattle.plan_codec.specs.Encode.{num}
+use Rattle.plan_codec.specs.Encode.{oneIf}
 use Rattle.fact_slots.specs.Slots.{loaded}
 use Rattle.row_facts.specs.Rows.{loaded-kept}
 use Rattle.arena.specs.Arena.{keptSize}
@@ -18,9 +18,9 @@ use Rattle.plan_context.specs.View.{summaryFrom, summaryIn}
 
 abbrev pub summaryBytes : Summary → List ℕ
 summaryBytes s =
-    num (s .passes) ∷ num (s .endless) ∷ s .nodes % 256 ∷ s .nodes / 256 % 256 ∷ s .fetch % 256 ∷ s .fetch / 256 % 256 ∷ s .fetch / 65536 % 256 ∷ s .fetch / 16777216 % 256 ∷ []
+    oneIf (s .passes) ∷ oneIf (s .endless) ∷ s .nodes % 256 ∷ s .nodes / 256 % 256 ∷ s .fetch % 256 ∷ s .fetch / 256 % 256 ∷ s .fetch / 65536 % 256 ∷ s .fetch / 16777216 % 256 ∷ []
 
-flag : (b : Bool) → eqb (num b) 1 ≡ b
+flag : (b : Bool) → eqb (oneIf b) 1 ≡ b
 flag true = refl
 flag false = refl
 

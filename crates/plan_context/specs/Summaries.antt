@@ -12,7 +12,7 @@ use Rattle.plan.specs.declared.Fetch.the-variants.{Unlimited}
 use Rattle.plan_codec.specs.Decode.{decode, fetchOf}
 use Rattle.plan_codec.specs.Encode.{encode}
 use Rattle.semantics.specs.Properties.{anyOf, endless as endlessEach, fetches}
-use Rattle.semantics.specs.Check.{check, wants}
+use Rattle.semantics.specs.Check.{check, wantsMet}
 use Rattle.walks.specs.Marks.{Marked, Tree, strip, known, node, plant, opT, setMark}
 use Rattle.plan_context.specs.declared.Summary.{Summary}
 use Rattle.plan_context.specs.View.{treeOf, forest, Sums}
@@ -48,7 +48,7 @@ sums-more : (t : Tree) (c : Forest Marked) (x s : Summary) → Sums t x → Sums
 sums-more t c x s p q =
     let n = p .nodes in let k = q .nodes in
     record {
-      passes = ap₂ _&&_ (p .passes) (q .passes) ∙ and-assoc (wants (opT t) (known (t .kids))) (check (strip (t .kids))) (check (strip c));
+      passes = ap₂ _&&_ (p .passes) (q .passes) ∙ and-assoc (wantsMet (opT t) (known (t .kids))) (check (strip (t .kids))) (check (strip c));
       endless = ap₂ _||_ (p .endless) (q .endless);
       nodes = omega arith;
       fetch = p .fetch;
@@ -94,7 +94,7 @@ own r w s =
       fetch = cond (eqb (getD r 0 0) 3) (s .fetch) (fetchIn r);
     }
 
-pub own-sums : (r : List ℕ) (n : ℕ) (w : Bool) (s : Summary) (c : Forest Marked) → r ≡ encode n (decode r) → w ≡ wants (decode r) (known c) → SumsEach c s → Sums (node (decode r) false c) (own r w s)
+pub own-sums : (r : List ℕ) (n : ℕ) (w : Bool) (s : Summary) (c : Forest Marked) → r ≡ encode n (decode r) → w ≡ wantsMet (decode r) (known c) → SumsEach c s → Sums (node (decode r) false c) (own r w s)
 own-sums r n w s c e q p =
     let k = p .nodes in
     record {

@@ -12,7 +12,7 @@ use Rattle.plan.specs.Op.{filter}
 use Rattle.plan_codec.specs.Decode.{decode, fetchOf}
 use Rattle.plan_codec.specs.Encode.{encode}
 use Rattle.semantics.specs.Properties.{endless as endlessEach, endlessOp}
-use Rattle.semantics.specs.Check.{check, wants}
+use Rattle.semantics.specs.Check.{check, wantsMet}
 use Rattle.walks.specs.Marks.{Marked, Tree, strip, known, node, plant, opT, fact, fetchT, sizeT, setMark}
 use Rattle.walks.specs.theorems.common.Trees.{OkT}
 use Rattle.facts.specs.Known.{Says}
@@ -69,7 +69,7 @@ summaryIn b = record { passes = eqb (getD b 104 0) 1; endless = eqb (getD b 105 
 
 -- It is that of the tree t
 pub record Sums (t : Tree) (s : Summary) : Type 0 where
-  pub passes : s .passes ≡ wants (opT t) (known (t .kids)) && check (strip (t .kids))
+  pub passes : s .passes ≡ wantsMet (opT t) (known (t .kids)) && check (strip (t .kids))
   pub endless : s .endless ≡ endlessOp (opT t) (endlessEach (strip (t .kids)))
   pub nodes : s .nodes ≡ sizeT t
   pub fetch : fetchOf (s .fetch) ≡ fetchT t

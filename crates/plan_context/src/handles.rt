@@ -22,11 +22,3 @@ pub fn set_mark(h: usize, b: bool) -> usize
 {
     2 * (h / 2) + b as usize
 }
-
-// The first child's handle.
-pub fn first_child(m: &[u8], h: usize) -> usize
-    requires { ⌜ Here (now m) h × (0 < length (slot (now m) (index h) .kids)) ⌝ }
-    ensures { λ r. ⌜ treeOf (now (m .entry)) r ≡ kid0 (treeOf (now (m .entry)) h) (treeOf (now (m .entry)) h .kids) ⌝ }
-{
-    child(m, h / 2, 0)
-}

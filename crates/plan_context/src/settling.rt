@@ -26,7 +26,7 @@ ghost use Rattle.plan.specs.Numbers.{kindOf};
 ghost use Rattle.plan.specs.declared.Kind.the-variants.{Source, Union};
 ghost use Rattle.plan_codec.specs.Decode.{decode};
 ghost use Rattle.semantics.specs.Facts as sem;
-ghost use Rattle.facts.specs.Known.{known as told, Fine, Says};
+ghost use Rattle.facts.specs.Known.{known as told, Coherent, Says};
 ghost use Rattle.fact_slots.specs.Slots.{loaded};
 ghost use Rattle.node_facts.specs.Ready.{kidsOf};
 ghost use Rattle.row_facts.specs.Over.{Over as Rows};
@@ -166,7 +166,7 @@ fn summed(r: &[u8], met: bool, s: Summary) -> Summary
 
 // The facts f and the summary s over the bytes of one slot.
 fn keep(b: &mut [u8], f: Facts, s: Summary)
-    requires { ⌜ (length (now b) ≡ keptSize) × Fine f × (f .streams < 65536) × (s .nodes < 65536) ⌝ }
+    requires { ⌜ (length (now b) ≡ keptSize) × Coherent f × (f .streams < 65536) × (s .nodes < 65536) ⌝ }
     ensures { λ _. ⌜ Says (told f) (loaded (now (b .exit))) × (summaryIn (now (b .exit)) ≡ s) ⌝ }
 {
     fact_slots::store(b, f);

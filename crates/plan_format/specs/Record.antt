@@ -82,15 +82,15 @@ abbrev pub keyOk : Bool → ℕ → ℕ → ℕ → ℕ → Bool
 keyOk plain n i c o = either (ltb i n) (either plain (eqb o 0) (eqb (o / 4) 0)) (eqb c 0 && eqb o 0)
 
 -- 'a keyed set has 1 to 8 ones'; v: byte 14, x: the set
-abbrev pub keyed : Fields → ℕ → Bool
-keyed f v = f .distribution && eqb v 2
+abbrev pub isKeyed : Fields → ℕ → Bool
+isKeyed f v = f .distribution && eqb v 2
 
 abbrev pub keyedSetOk : Fields → ℕ → ℕ → Bool
-keyedSetOk f v x = not (keyed f v) || between 1 8 (ones x)
+keyedSetOk f v x = not (isKeyed f v) || between 1 8 (ones x)
 
 -- How many bytes from 32 on are used: a set of four bytes, w child columns, or n right key columns; v: byte 14
 abbrev pub tailUsed : Fields → ℕ → ℕ → ℕ → ℕ
-tailUsed f v w n = cond (f .constants || keyed f v) 4 (cond (f .columns) w (cond (f .join) n 0))
+tailUsed f v w n = cond (f .constants || isKeyed f v) 4 (cond (f .columns) w (cond (f .join) n 0))
 
 -- Bytes 2 to 11
 abbrev pub headOk : Fields → List ℕ → Bool

@@ -12,7 +12,7 @@ ghost use Prim.Native.Nat.{_*_, _≤_, _<_};
 ghost use lib.ListN.{length};
 ghost use Rattle.plan_format.specs.Blocks.{blockCount};
 ghost use Rattle.arena.specs.Arena.{slotSize};
-ghost use Rattle.plan_arena.specs.Answers.{blockSlots};
+ghost use Rattle.plan_arena.specs.ReadFile.{blockSlots};
 
 const NO_FETCH: u32 = 4294967295;
 

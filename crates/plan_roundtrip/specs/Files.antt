@@ -31,7 +31,7 @@ abbrev pub byte : ℕ → Bool
 byte x = ltb x 256
 
 -- What the reader asks of a list of records
-pub record Fine (l : List (List ℕ)) : Type 0 where
+pub record Acceptable (l : List (List ℕ)) : Type 0 where
   pub some : 1 ≤ length l
   pub most : length l ≤ 126
   pub longs : every long l ≡ true
@@ -200,7 +200,7 @@ tests : (a b c d f g : Bool) (x : Refusal) → a ≡ true → b ≡ true → c �
 tests a b c d f g x p q r t u v = rw (p, q, r, t, u, v)
 
 -- a fine list's file is accepted, and its records come back
-pub fine-accepted : (l : List (List ℕ)) → Fine l → refusalOf (fileOf l) ≡ Accepted
+pub fine-accepted : (l : List (List ℕ)) → Acceptable l → refusalOf (fileOf l) ≡ Accepted
 unfolding refusalOf earlyRefusal kindsOk treeOk recordsOk
 fine-accepted l v =
     let s : List ℕ = fileOf l in
@@ -245,7 +245,7 @@ passed s e = go (lengthOk (length s)) (sumsOk s) (headersOk s) (kindsOk s) (tree
     go false b c d f g p q r t u v e = clash Length e (λ z. omega arith)
 
 -- an accepted file's records are fine; the same bytes are written of them again
-pub accepted-fine : (s : List ℕ) → AllBytes s → refusalOf s ≡ Accepted → Fine (records s)
+pub accepted-fine : (s : List ℕ) → AllBytes s → refusalOf s ≡ Accepted → Acceptable (records s)
 unfolding kindsOk treeOk recordsOk
 accepted-fine s by e =
     let v = passed s e in

@@ -15,13 +15,13 @@ use Rattle.plan_format.specs.Reading.{finished, enough, refusalOf}
 use Rattle.plan_format.specs.Tree.{build, treeOf, fileOfTree}
 use Rattle.plan_roundtrip.specs.Back.{AllBytes}
 use Rattle.plan_roundtrip.specs.Tree.{_⊕_, arity, nodes-build, build-nodes, roots-build, arity-build}
-use Rattle.plan_roundtrip.specs.Files.{Fine, records-back, fine-accepted, accepted-fine, accepted-same}
+use Rattle.plan_roundtrip.specs.Files.{Acceptable, records-back, fine-accepted, accepted-fine, accepted-same}
 
 -- A tree whose file is accepted: one root, each record says how many children it has, and its records in node order are fine
 pub record FineTree (f : Forest (List ℕ)) : Type 0 where
   pub one : length (roots f) ≡ 1
   pub counts : arity f ≡ true
-  pub records : Fine (nodes f)
+  pub records : Acceptable (nodes f)
 
 pub join-none : (f : Forest (List ℕ)) → f ⊕ none ≡ f
 join-none none = refl

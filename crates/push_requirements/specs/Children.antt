@@ -86,10 +86,10 @@ module _ (r : List ℕ) (fs : List Facts) (m : ℕ) (ps : List Key) (p : Pushed)
         subst⁻¹ (λ o. Pushes m (walk.pushByKind o fs ps) p) e (subst (λ j. Pushes j (G n (factsOp n fs) (at0 fs) (at1 fs)) p) (sym (eqb-true m 2 c)) (subst (λ P. Pushes 2 P p) i h))
 
     pub by-hash : (t : JoinType) → decode r ≡ hashJoin t (pairsOf r) → (x y : ℕ) → x ≡ F .width → y ≡ R .width
-        → Pushes m (walk.goIf (keptSide (hashKept t) 1 && every (λ k. leb (x - y) (k .col)) ps) (walk.onRight (walk.backBy (x - y) ps))) p → Pushes m (walk.pushByKind (decode r) fs ps) p
+        → Pushes m (walk.goIf (keptSide (hashKept t) 1 && every (λ k. leb (x - y) (k .col)) ps) (walk.onRight (walk.addOffsetToPhysicalSortExprs (x - y) ps))) p → Pushes m (walk.pushByKind (decode r) fs ps) p
     by-hash t e x y ex ey h =
         let n : Op = hashJoin t (pairsOf r) in
-        let G : ℕ → ℕ → walk.Pushed = λ u v. walk.goIf (keptSide (hashKept t) 1 && every (λ k. leb (u - v) (k .col)) ps) (walk.onRight (walk.backBy (u - v) ps)) in
+        let G : ℕ → ℕ → walk.Pushed = λ u v. walk.goIf (keptSide (hashKept t) 1 && every (λ k. leb (u - v) (k .col)) ps) (walk.onRight (walk.addOffsetToPhysicalSortExprs (u - v) ps)) in
         let i : G x y ≡ G (factsOp n fs .width) (at1 fs .width) = ap₂ G (ex ∙ ap (λ H. H .width) (facts-of n e)) (ey ∙ ap (λ H. H .width) (s .second (two-at-least m (count-of n e)))) in
         subst⁻¹ (λ o. Pushes m (walk.pushByKind o fs ps) p) e (subst (λ P. Pushes m P p) i h)
 

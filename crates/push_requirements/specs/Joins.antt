@@ -170,9 +170,9 @@ module _ (t : JoinType) (r own a b : List ℕ) (j : JoinRows t r own a b) (paren
           let l = j .here .fine .wide in
           (omega arith, all-map (λ k p. omega (arith, p .0)) (right-all e), right-few S k (subst (SideIs S) e at-side))
 
-      module _ (q : Keys) (kq : Keyed (walk.backBy (x - y) (keysOf k)) q) where
-        back-is : keysOf q ≡ walk.backBy off (keysOf k)
-        back-is = kq .is ∙ ap₂ (λ u v. walk.backBy (u - v) (keysOf k)) ex ey
+      module _ (q : Keys) (kq : Keyed (walk.addOffsetToPhysicalSortExprs (x - y) (keysOf k)) q) where
+        back-is : keysOf q ≡ walk.addOffsetToPhysicalSortExprs off (keysOf k)
+        back-is = kq .is ∙ ap₂ (λ u v. walk.addOffsetToPhysicalSortExprs (u - v) (keysOf k)) ex ey
 
         pub right-inside : (q .len ≤ 8) × All (λ k. k .col < told b .width) (keysOf q)
         right-inside = (kq .few, subst⁻¹ (All (λ k. k .col < told b .width)) back-is (all-over (walk.atColumn (λ c. c - off)) (λ k p. p .1) (right-all e)))

@@ -35,7 +35,7 @@ ghost use Rattle.push_requirements.specs.Pushing.{Pushes, JoinRows};
 // To the right child, if the join maintains it and all columns are the right child's; width, right: the columns of the join and of that child.
 pub fn handle_hash_join(t: JoinType, width: usize, right: usize, parent: Keys) -> Pushed
     requires { ⌜ (parent .len ≤ 8) × (width ≤ 32) × (keptSide (sem.hashKept t) 1 ≡ true → right ≤ width) ⌝ }
-    ensures { λ p. ⌜ ((m : ℕ) → Pushes m (walk.goIf (keptSide (sem.hashKept t) 1 && every (λ k. leb (width - right) (k .col)) (keysOf parent)) (walk.onRight (walk.backBy (width - right) (keysOf parent)))) p) ⌝ }
+    ensures { λ p. ⌜ ((m : ℕ) → Pushes m (walk.goIf (keptSide (sem.hashKept t) 1 && every (λ k. leb (width - right) (k .col)) (keysOf parent)) (walk.onRight (walk.addOffsetToPhysicalSortExprs (width - right) (keysOf parent)))) p) ⌝ }
 {
     if !hash_keeps(t, 1) {
         return Pushed::Stop;

@@ -14,14 +14,14 @@ use Rattle.scan.specs.Bytes.{part}
 use Rattle.plan.specs.WellFormed.{below}
 use Rattle.plan_format.specs.Blocks.{span}
 use Rattle.semantics.specs.Properties.{rightKey}
-use Rattle.plan_codec.specs.Decode.{keyOf, keysOf, onOf}
+use Rattle.plan_codec.specs.Decode.{keyOfBytes, keysOf, onOf}
 use Rattle.plan_codec.specs.Fill.{part-bytes}
 use Rattle.record_fields.specs.Fields.{packed, packedKeys, rightPacked, packedRightKeys, tailColumns}
 
 -- ---- keys
 
 -- one key, where its column is one
-pub packed-key : (c o : ℕ) → c < 32 → row_order.keyOf (32 * o + c % 32) ≡ keyOf c o
+pub packed-key : (c o : ℕ) → c < 32 → row_order.keyOf (32 * o + c % 32) ≡ keyOfBytes c o
 packed-key c o h =
     let a : (32 * o + c % 32) % 32 ≡ c = omega arith in
     let b : (32 * o + c % 32) / 32 ≡ o / 1 = omega arith in
@@ -98,6 +98,3 @@ pub packed-right-bytes : (r : List ℕ) → length r ≡ 64
     ≡ (32 * getD r 17 0 + getD r 32 0 % 32) ∷ (32 * getD r 19 0 + getD r 33 0 % 32) ∷ (32 * getD r 21 0 + getD r 34 0 % 32) ∷ (32 * getD r 23 0 + getD r 35 0 % 32) ∷ (32 * getD r 25 0 + getD r 36 0 % 32) ∷ (32 * getD r 27 0 + getD r 37 0 % 32) ∷ (32 * getD r 29 0 + getD r 38 0 % 32) ∷ (32 * getD r 31 0 + getD r 39 0 % 32) ∷ []
 unfolding span
 packed-right-bytes r h = ap₂ rightPacked (part-bytes r 16 16 (omega arith)) (part-bytes r 8 32 (omega arith))
-
-pub length-right : (r : List ℕ) → length r ≡ 64 → length (packedRightKeys r) ≡ 8
-length-right r h = ap length (packed-right-bytes r h)

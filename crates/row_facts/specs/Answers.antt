@@ -20,7 +20,7 @@ use Rattle.key_lists.specs.declared.Order.the-variants.{Unordered, By}
 use Rattle.key_lists.specs.Keys.{keysIn, keysOf, orderOf, Keyed}
 use Rattle.key_lists.specs.Lists.{length-keys}
 use Rattle.key_lists.specs.Normalising.{fresh-normal}
-use Rattle.facts.specs.Known.{known, Fine}
+use Rattle.facts.specs.Known.{known, Coherent}
 use Rattle.facts.specs.Reading.{classes, constants, isC-is, no-order}
 use Rattle.fact_slots.specs.Slots.{loaded}
 use Rattle.row_facts.specs.Asked.{told, FactRow}

@@ -6,7 +6,7 @@ use Prim.Native.Nat.{ℕ, suc, _≤_, _<_}
 use lib.ListN.{length, take}
 use Rattle.row_order.specs.Iso.{Key}
 use Rattle.semantics.specs.Facts.{Facts, nf, prefixb, knownOrder}
-use Rattle.facts.specs.Known.{known, Fine}
+use Rattle.facts.specs.Known.{known, Coherent}
 use Rattle.fact_slots.specs.Slots.{loaded}
 
 -- The facts that a row holds in its first 48 bytes
@@ -15,7 +15,7 @@ told b = known (loaded b)
 
 pub record FactRow (b : List ℕ) : Type 0 where
   pub long : 48 ≤ length b
-  pub fine : Fine (loaded b)
+  pub fine : Coherent (loaded b)
 
 -- r leading keys of ks, and no more, have a normal form that is a prefix of q
 pub record Fronts (F : Facts) (q ks : List Key) (r : ℕ) : Type 0 where

@@ -12,7 +12,7 @@ use Rattle.scan.specs.Parts.{part-left, part-same}
 use Rattle.semantics.specs.Facts.{Facts, ordered}
 use Rattle.key_lists.specs.Keys.{Keyed}
 use Rattle.facts.specs.declared.Facts.{Facts as Coded}
-use Rattle.facts.specs.Known.{known, Fine, Says}
+use Rattle.facts.specs.Known.{known, Coherent, Says}
 use Rattle.facts.specs.Saying.{says-ordered}
 use Rattle.fact_slots.specs.Slots.{le64, loaded}
 
@@ -74,12 +74,12 @@ loaded-streams (a ∷ b ∷ []) x y h = absurd (omega arith)
 loaded-streams (a ∷ b ∷ c ∷ []) x y h = absurd (omega arith)
 loaded-streams (a ∷ b ∷ c ∷ d ∷ l) x y h = refl
 
-keyed-if : (f : Coded) → Fine f → (keep : Bool) → Keyed (cond keep (known f .order) []) (record { word = f .order .word; len = cond keep (f .order .len) 0 })
+keyed-if : (f : Coded) → Coherent f → (keep : Bool) → Keyed (cond keep (known f .order) []) (record { word = f .order .word; len = cond keep (f .order .len) 0 })
 keyed-if f h true = record { is = refl; few = h .few }
 keyed-if f h false = record { is = refl; few = omega arith }
 
 -- the copy with other streams, and with its order or without
-pub restream-says : (b d : List ℕ) → 48 ≤ length b → Fine (loaded b) → (s n : ℕ) (keep : Bool) → n ≡ cond keep (getD b 1 0) 0
+pub restream-says : (b d : List ℕ) → 48 ≤ length b → Coherent (loaded b) → (s n : ℕ) (keep : Bool) → n ≡ cond keep (getD b 1 0) 0
     → Says (ordered (known (loaded b)) s (cond keep (known (loaded b) .order) [])) (loaded (set (set (set (take 48 b ++ d) 2 s) 3 0) 1 n))
 restream-says b d h f s n keep e =
     let l : 4 ≤ length (take 48 b ++ d) = long-enough in

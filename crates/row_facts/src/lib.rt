@@ -35,10 +35,10 @@ ghost use Prim.Native.Nat.{_≤_, _<_};
 ghost use lib.ListN.{length, getD, take, drop};
 ghost use Rattle.row_order.specs.Packed.{keyOf};
 ghost use Rattle.semantics.specs.Facts as sem;
-ghost use Rattle.facts.specs.Known.{known, Fine, Says};
+ghost use Rattle.facts.specs.Known.{known, Coherent, Says};
 ghost use Rattle.fact_slots.specs.Slots.{loaded};
 ghost use Rattle.plan.specs.WellFormed.{below};
-ghost use Rattle.semantics.specs.Check.{wants};
+ghost use Rattle.semantics.specs.Check.{wantsMet};
 ghost use Rattle.plan_codec.specs.Decode.{decode};
 ghost use Rattle.join_facts.specs.Joining.{Joinable};
 ghost use Rattle.node_facts.specs.Ready.{kidsOf, count, lentKeys, lentColumns, typeIn, onIn, Ready};
@@ -115,7 +115,7 @@ fn sort(own: &mut [u8], r: &[u8], b: &[u8], preserve: bool)
 
 // A projection to the columns of the record.
 fn project(own: &mut [u8], r: &[u8], b: &[u8])
-    requires { ⌜ (length (now own) ≡ 112) × (length (now r) ≡ 64) × (getD (now r) 13 0 ≤ 32) × (48 ≤ length (now b)) × Fine (loaded (now b)) × (below (loaded (now b) .width) (lentColumns (now r) (getD (now r) 13 0)) ≡ true) × (loaded (now b) .streams < 65536) ⌝ }
+    requires { ⌜ (length (now own) ≡ 112) × (length (now r) ≡ 64) × (getD (now r) 13 0 ≤ 32) × (48 ≤ length (now b)) × Coherent (loaded (now b)) × (below (loaded (now b) .width) (lentColumns (now r) (getD (now r) 13 0)) ≡ true) × (loaded (now b) .streams < 65536) ⌝ }
     ensures { λ _. ⌜ Says (sem.projFacts (known (loaded (now (b .entry)))) (lentColumns (now (r .entry)) (getD (now (r .entry)) 13 0))) (loaded (now (own .exit))) ⌝ }
 {
     let f = load_row(b);
@@ -177,7 +177,7 @@ pub fn node_into(own: &mut [u8], r: &[u8], first: &[u8], second: &[u8])
 // Whether the children's facts meet the orders that the node wants of them.
 pub fn wants_met(r: &[u8], first: &[u8], second: &[u8]) -> bool
     requires { ⌜ (48 ≤ length (now first)) × (48 ≤ length (now second)) × Ready (now r) (loaded (now first)) (loaded (now second)) ⌝ }
-    ensures { λ b. ⌜ b ≡ wants (decode (now (r .entry))) (kidsOf (now (r .entry)) (loaded (now (first .entry))) (loaded (now (second .entry)))) ⌝ }
+    ensures { λ b. ⌜ b ≡ wantsMet (decode (now (r .entry))) (kidsOf (now (r .entry)) (loaded (now (first .entry))) (loaded (now (second .entry)))) ⌝ }
 {
     let kind = kind_of(r[KIND]);
     match kind {

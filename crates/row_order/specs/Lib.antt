@@ -4,5 +4,5 @@ pub mod Lists
 pub mod Sorting
 pub mod Forms
 pub mod Packed
-pub mod Answer
+pub mod Compared
 pub mod Comparing

@@ -163,9 +163,6 @@ module _ {A : Type 0} where
   mixes-sum mixes-nil w = refl
   mixes-sum (mixes-cons {s = s} {ss = ss} h m) w = omega (arith, mixes-sum h w, mix-sum m w, sum-append w s (concat ss))
 
-  pub mixes-same : {ss : List (List A)} {z : List A} → Mixes ss z → Same z (concat ss)
-  mixes-same h = record { sums = mixes-sum h }
-
   pub mix-all : {P : A → Type 0} {l m n : List A} → Mix l m n → All P l → All P m → All P n
   mix-all mix-nil ps qs = all-nil
   mix-all (mix-left h) ps qs = all-cons (all-head ps) (mix-all h (all-tail ps) qs)

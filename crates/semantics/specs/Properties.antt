@@ -24,41 +24,41 @@ abbrev pub rightKey : On → Key
 rightKey k = record { col = k .other; desc = k .key .desc; first = k .key .first }
 
 -- What a node wants of its children's orders: nothing, one list of its one child, or a join's keys on both sides
-pub data Wish : Type 0 where
-  noWish : Wish
-  same : List Key → Wish
-  pairs : List On → Wish
+pub data WantedOrders : Type 0 where
+  noOrders : WantedOrders
+  same : List Key → WantedOrders
+  pairs : List On → WantedOrders
 
 -- "Merge, output requirement and sort-merge join want their keys as order; a limit's note is not wanted."
 -- 'Rows': "a partial sort wants its prefix"
-abbrev pub wish : Op → Wish
-wish (source s) = noWish
-wish filter = noWish
-wish (projection cols) = noWish
-wish union = noWish
-wish (repartition p n h ks) = noWish
-wish (coalesce f) = noWish
-wish (sortOp p ks f) = noWish
-wish (mergeOp ks f) = same ks
-wish (globalLimit s f note) = noWish
-wish (localLimit f note) = noWish
-wish (sortMergeJoin t on) = pairs on
-wish (hashJoin t on) = noWish
-wish (outputRequirement ks d f) = same ks
-wish (partialSort p ks n f) = same (take n ks)
+abbrev pub wantedOrders : Op → WantedOrders
+wantedOrders (source s) = noOrders
+wantedOrders filter = noOrders
+wantedOrders (projection cols) = noOrders
+wantedOrders union = noOrders
+wantedOrders (repartition p n h ks) = noOrders
+wantedOrders (coalesce f) = noOrders
+wantedOrders (sortOp p ks f) = noOrders
+wantedOrders (mergeOp ks f) = same ks
+wantedOrders (globalLimit s f note) = noOrders
+wantedOrders (localLimit f note) = noOrders
+wantedOrders (sortMergeJoin t on) = pairs on
+wantedOrders (hashJoin t on) = noOrders
+wantedOrders (outputRequirement ks d f) = same ks
+wantedOrders (partialSort p ks n f) = same (take n ks)
 
 -- The order wanted of the first child, and of the second; of others none
-abbrev pub wishesOf : Wish → List (List Key)
-wishesOf noWish = []
-wishesOf (same ks) = ks ∷ []
-wishesOf (pairs on) = map (λ k. k .key) on ∷ map rightKey on ∷ []
+abbrev pub eachOrder : WantedOrders → List (List Key)
+eachOrder noOrders = []
+eachOrder (same ks) = ks ∷ []
+eachOrder (pairs on) = map (λ k. k .key) on ∷ map rightKey on ∷ []
 
--- The order that a node wants of its child number i; the empty list is no wish
-abbrev pub wantedOf : Wish → ℕ → List Key
-wantedOf v i = getD (wishesOf v) i []
+-- The order that a node wants of its child number i; the empty list is no order
+abbrev pub wantedOf : WantedOrders → ℕ → List Key
+wantedOf v i = getD (eachOrder v) i []
 
 abbrev pub wanted : Op → ℕ → List Key
-wanted o i = wantedOf (wish o) i
+wanted o i = wantedOf (wantedOrders o) i
 
 -- ---- wanted distributions
 

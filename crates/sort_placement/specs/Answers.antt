@@ -7,10 +7,10 @@ use lib.ListN.{length, drop}
 use Rattle.plan.specs.Op.{Plan}
 use Rattle.plan.specs.declared.Refusal.{Refusal}
 use Rattle.plan.specs.declared.Refusal.the-variants.{Accepted, OutputTooShort}
-use Rattle.plan_codec.specs.Encode.{num}
+use Rattle.plan_codec.specs.Encode.{oneIf}
 use Rattle.plan_codec.specs.Reading as codec
 use Rattle.plan_codec.specs.Reading.{reading}
-use Rattle.plan_codec.specs.Writing.{written}
+use Rattle.plan_codec.specs.Writing.{fileOfPlan}
 use Rattle.semantics.specs.Check.{check}
 use Rattle.walks.specs.OrderPreserving.{Settings}
 use Rattle.walks.specs.Counted.{Answer, refused, answered}
@@ -19,9 +19,9 @@ use Rattle.walks.specs.Counted.{Answer, refused, answered}
 
 -- The lent number after the order check of what was read: 1 where the plan passes, 0 where it doesn't; "A refusal .. leaves tree and
 -- buffers alone"
-unfoldable pub checkAnswer : codec.Answer → ℕ → ℕ
+unfoldable pub checkAnswer : codec.PlanOrRefusal → ℕ → ℕ
 checkAnswer (codec.refused x) p = p
-checkAnswer (codec.plan f) p = num (check f)
+checkAnswer (codec.plan f) p = oneIf (check f)
 
 -- ---- calls that write a plan
 
@@ -36,7 +36,7 @@ rewritten (refused x) = refuses x
 rewritten (answered f) = gives f
 
 -- "All input refusals come before these"
-abbrev pub afterReading : (Plan → Result) → codec.Answer → Result
+abbrev pub afterReading : (Plan → Result) → codec.PlanOrRefusal → Result
 afterReading g (codec.refused x) = refuses x
 afterReading g (codec.plan f) = g f
 
@@ -53,7 +53,7 @@ settingsIn spr spm prefer = record { spr = setting spr; spm = setting spm; prefe
 
 -- "24: the output buffer is shorter than the file to write"
 abbrev pub tooShort : Plan → List ℕ → Bool
-tooShort f out = ltb (length out) (length (written f))
+tooShort f out = ltb (length out) (length (fileOfPlan f))
 
 -- The refusal, with the output that was lent
 abbrev pub refusalIn : Result → List ℕ → Refusal
@@ -65,7 +65,7 @@ refusalIn (gives f) out = cond (tooShort f out) OutputTooShort Accepted
 abbrev pub outputIn : Result → List ℕ → List ℕ
 outputIn (refuses x) out = out
 outputIn (checks b) out = out
-outputIn (gives f) out = cond (tooShort f out) out (written f ++ drop (length (written f)) out)
+outputIn (gives f) out = cond (tooShort f out) out (fileOfPlan f ++ drop (length (fileOfPlan f)) out)
 
 abbrev pub passesIn : Result → Bool
 passesIn (refuses x) = false

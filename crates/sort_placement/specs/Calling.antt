@@ -24,7 +24,7 @@ use Rattle.walks.specs.Marks.{Tree, strip, opT, plant, sizeT}
 use Rattle.walks.specs.Counted.{answerOf, answerTo, bind, Counted, counted, countUp, hasPartialSort, refused, stopped}
 use Rattle.arena.specs.Arena.{slotSize, index, held}
 use Rattle.plan_arena.specs.Fill.{HoldsTree}
-use Rattle.plan_arena.specs.Answers.{blockSlots, fillable}
+use Rattle.plan_arena.specs.ReadFile.{blockSlots, fillable}
 use Rattle.plan_arena.specs.Back.{size-tree}
 use Rattle.plan_context.specs.View.{treeIn, treeOf, Arena}
 use Rattle.plan_context.specs.Facts.{size-strip}

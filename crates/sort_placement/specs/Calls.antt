@@ -14,7 +14,7 @@ use Rattle.semantics.specs.Check.{check}
 use Rattle.walks.specs.Marks.{sizeT}
 use Rattle.walks.specs.Counted.{answerTo, countUp, partiallySorted, pushed}
 use Rattle.arena.specs.Arena.{slotSize}
-use Rattle.plan_arena.specs.Answers.{blockSlots}
+use Rattle.plan_arena.specs.ReadFile.{blockSlots}
 use Rattle.plan_context.specs.View.{treeOf, Arena}
 use Rattle.plan_context.specs.Records.{planT}
 use Rattle.plan_context.specs.Reading.{Loaded}
@@ -27,7 +27,7 @@ use Rattle.sort_placement.specs.declared.calls.Call.{Call}
 use Rattle.sort_placement.specs.declared.calls.Call.the-variants.{CheckOrder, CopyPlan, PartialSort, PushDown, TransformUp}
 use Rattle.sort_placement.specs.declared.calls.Called.{Called}
 use Rattle.sort_placement.specs.declared.calls.Called.the-variants.{Done, NoRoom}
-use Rattle.sort_placement.specs.declared.memory.Answer.{Answer}
+use Rattle.sort_placement.specs.declared.memory.Reply.{Reply}
 use Rattle.sort_placement.specs.PartialSorts.{partialT}
 use Rattle.sort_placement.specs.Answers.{Result, checks, gives, rewritten, refusalIn, outputIn, passesIn}
 
@@ -44,7 +44,7 @@ CalledAs (Done n b) R out out' room = (n ≡ numberOf (refusalIn R out)) × (b �
 CalledAs NoRoom R out out' room = (out' ≡ out) × (room < fullSlots * slotSize)
 
 -- in the end
-abbrev pub Answered : Answer → Result → List ℕ → List ℕ → Type 0
+abbrev pub Answered : Reply → Result → List ℕ → List ℕ → Type 0
 Answered r R out out' = (r .number ≡ numberOf (refusalIn R out)) × (r .passes ≡ passesIn R) × (out' ≡ outputIn R out)
 
 -- as a walk stops

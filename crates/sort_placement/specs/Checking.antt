@@ -8,7 +8,7 @@ use borrow.Author.Tests.{eqb-true, eqb-false}
 use lib.Dec.{eqb}
 use Rattle.plan.specs.Numbers.{numberOf}
 use Rattle.plan_format.specs.Reading.{refusalOf}
-use Rattle.plan_codec.specs.Encode.{num}
+use Rattle.plan_codec.specs.Encode.{oneIf}
 use Rattle.plan_codec.specs.Reading.{plan, planOf, reading, refused}
 use Rattle.plan_codec.specs.Reading as codec
 use Rattle.sort_placement.specs.declared.calls.Call.the-variants.{CheckOrder}
@@ -16,7 +16,7 @@ use Rattle.sort_placement.specs.Answers.{afterReading, checkAnswer, pass
 use Rattle.sort_placement.specs.Calls.{resultOf}
 
 module _ (s out : List ℕ) where
-  abbrev read : Bool → codec.Answer
+  abbrev read : Bool → codec.PlanOrRefusal
   read b = cond b (plan (planOf s)) (refused (refusalOf s))
 
   pub check-number : numberOf (refusalIn (afterReading (resultOf CheckOrder) (reading s)) out) ≡ numberOf (refusalOf s)
@@ -28,11 +28,11 @@ module _ (s out : List ℕ) where
       go false e = refl
 
   module _ (n : ℕ) (e : n ≡ numberOf (refusalOf s)) (p : ℕ) where
-    pub check-writes : n ≡ 0 → (b : Bool) → b ≡ passesIn (afterReading (resultOf CheckOrder) (reading s)) → num b ≡ checkAnswer (reading s) p
+    pub check-writes : n ≡ 0 → (b : Bool) → b ≡ passesIn (afterReading (resultOf CheckOrder) (reading s)) → oneIf b ≡ checkAnswer (reading s) p
     unfolding reading checkAnswer
-    check-writes z b q = ap num q ∙ go (eqb (numberOf (refusalOf s)) 0) refl
+    check-writes z b q = ap oneIf q ∙ go (eqb (numberOf (refusalOf s)) 0) refl
       where
-        go : (b : Bool) → eqb (numberOf (refusalOf s)) 0 ≡ b → num (passesIn (afterReading (resultOf CheckOrder) (read b))) ≡ checkAnswer (read b) p
+        go : (b : Bool) → eqb (numberOf (refusalOf s)) 0 ≡ b → oneIf (passesIn (afterReading (resultOf CheckOrder) (read b))) ≡ checkAnswer (read b) p
         go true x = refl
         go false x = absurd (eqb-false (numberOf (refusalOf s)) 0 x (sym e ∙ z))
 

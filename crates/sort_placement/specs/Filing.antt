@@ -17,7 +17,7 @@ use Rattle.plan_codec.specs.Decode.{decode}
 use Rattle.plan_codec.specs.Encode.{encode}
 use Rattle.plan_codec.specs.OneRecord.{encode-long}
 use Rattle.plan_codec.specs.Trees.{recorded, nodes-recorded}
-use Rattle.plan_codec.specs.Writing.{written, recordsOf}
+use Rattle.plan_codec.specs.Writing.{fileOfPlan, recordsOf}
 use Rattle.semantics.specs.Facts.{facts}
 use Rattle.walks.specs.Marks.{Tree, strip, opT, sizeT}
 use Rattle.walks.specs.theorems.common.Trees.{Ok}
@@ -110,7 +110,7 @@ module _ (m : List ℕ) (u h : ℕ) (a : Loaded m u) (l : h < 2 * u) (out : List
   rows-are : joined (nodes (treeAt (held m u) h)) ≡ joined (recordsOf (planT (treeOf m h)))
   rows-are = ap (λ t. joined (nodes t)) tree-is ∙ ap joined (nodes-recorded (planT (treeOf m h)))
 
-  file-is : fileOfBytes (joined (nodes (treeAt (held m u) h))) ≡ written (planT (treeOf m h))
+  file-is : fileOfBytes (joined (nodes (treeAt (held m u) h))) ≡ fileOfPlan (planT (treeOf m h))
   file-is = ap fileOfBytes rows-are
 
   tree-size : size (treeAt (held m u) h) ≡ sizeT (treeOf m h)
@@ -119,7 +119,7 @@ module _ (m : List ℕ) (u h : ℕ) (a : Loaded m u) (l : h < 2 * u) (out : List
   pub flattens : sizeT (treeOf m h) ≤ 126 → Flattens m u h 8064
   flattens f = let z = tree-size in record { slots = a .slots; good = good m u (a .proper); here = l; few = omega arith; fits = omega arith }
 
-  file-long : blocksFor (length (joined (nodes (treeAt (held m u) h)))) * 512 ≡ length (written (planT (treeOf m h)))
+  file-long : blocksFor (length (joined (nodes (treeAt (held m u) h)))) * 512 ≡ length (fileOfPlan (planT (treeOf m h)))
   file-long =
       let o = a .proper (index h) (omega arith) .ok in
       let e : length rs ≡ 64 * size (planT (treeOf m h)) = ap length rows-are ∙ rows-long (planT (treeOf m h)) (o .0, o .1, tt) in

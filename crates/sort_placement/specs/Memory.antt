@@ -11,7 +11,7 @@ use Rattle.plan_format.specs.Blocks.{blockCount}
 use Rattle.plan_format.specs.Reading.{refusalOf}
 use Rattle.plan_codec.specs.Reading.{reading}
 use Rattle.arena.specs.Arena.{slotSize}
-use Rattle.plan_arena.specs.Answers.{few-blocks, is-accepted}
+use Rattle.plan_arena.specs.ReadFile.{few-blocks, is-accepted}
 use Rattle.transform_up.specs.Tidying.{fullSlots}
 use Rattle.sort_placement.specs.declared.calls.Call.{Call}
 use Rattle.sort_placement.specs.declared.calls.Called.{Called}

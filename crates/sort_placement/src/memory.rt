@@ -26,7 +26,7 @@ const SLOTS_382: usize = 382 * SLOT;
 const SLOTS_772: usize = 772 * SLOT;
 
 // What a call answers in the end: the number of its refusal or 0, and whether the plan passes.
-pub struct Answer {
+pub struct Reply {
     pub number: u32,
     pub passes: bool,
 }
@@ -76,7 +76,7 @@ fn call_with(k: Call, plan: &[u8], out: &mut [u8], slots: usize) -> Called
 }
 
 // The call in the largest arena.
-fn call_in_largest(k: Call, plan: &[u8], out: &mut [u8]) -> Answer
+fn call_in_largest(k: Call, plan: &[u8], out: &mut [u8]) -> Reply
     requires { ⌜ blockCount (now plan) ≤ 18 ⌝ }
     ensures { λ r. ⌜ Answered r (afterReading (resultOf k) (reading (now (plan .entry)))) (now (out .entry)) (now (out .exit)) ⌝ }
 {
@@ -84,24 +84,24 @@ fn call_in_largest(k: Call, plan: &[u8], out: &mut [u8]) -> Answer
     let mut c = [0u8; SLOTS_126];
     let r = call_in(k, plan, out, &mut m, &mut c);
     let Called::Done(number, passes) = r else {
-        return Answer {
+        return Reply {
             number: 0,
             passes: false,
         };
     };
-    Answer {
+    Reply {
         number: number,
         passes: passes,
     }
 }
 
 // The call on the plan file.
-pub fn call(k: Call, plan: &[u8], out: &mut [u8]) -> Answer
+pub fn call(k: Call, plan: &[u8], out: &mut [u8]) -> Reply
     ensures { λ r. ⌜ Answered r (afterReading (resultOf k) (reading (now (plan .entry)))) (now (out .entry)) (now (out .exit)) ⌝ }
 {
     let blocks = plan.len() / 512;
     if (blocks == 0) | (18 < blocks) {
-        return Answer {
+        return Reply {
             number: plan::number(plan_reader::refusal_of(plan)),
             passes: false,
         };
@@ -110,7 +110,7 @@ pub fn call(k: Call, plan: &[u8], out: &mut [u8]) -> Answer
     while slots <= 382 {
         let r = call_with(k, plan, out, slots);
         if let Called::Done(number, passes) = r {
-            return Answer {
+            return Reply {
                 number: number,
                 passes: passes,
             };

@@ -182,17 +182,17 @@ module _ (o : Op) (c : Plan) (D E : walk.Decision) (b : Bool) (r : Decision) whe
 
 -- an order by keys
 module _ (o : Order) (k : Keys) (r : Real o) (e : o ≡ By k) where
-  pub wish-is : keysOf k ≡ orderOf o
-  wish-is = ap orderOf (sym e)
+  pub requirement-is : keysOf k ≡ orderOf o
+  requirement-is = ap orderOf (sym e)
 
-  pub wish-few : k .len ≤ 8
-  wish-few = subst Real e r .1
+  pub requirement-few : k .len ≤ 8
+  requirement-few = subst Real e r .1
 
-  pub wish-some : isNil (orderOf o) ≡ false
-  wish-some = ap (λ x. isNil (orderOf x)) e ∙ some-keys k (subst Real e r)
+  pub requirement-some : isNil (orderOf o) ≡ false
+  requirement-some = ap (λ x. isNil (orderOf x)) e ∙ some-keys k (subst Real e r)
 
-pub wish-none : (o : Order) → o ≡ Unordered → isNil (orderOf o) ≡ true
-wish-none o e = ap (λ x. isNil (orderOf x)) e
+pub requirement-none : (o : Order) → o ≡ Unordered → isNil (orderOf o) ≡ true
+requirement-none o e = ap (λ x. isNil (orderOf x)) e
 
 -- ---- a node that stays
 
@@ -229,7 +229,7 @@ module _ (n o : Op) (fs : List Facts) (m : ℕ) (F L R : Facts) (s : Seen n o fs
 -- ---- steps
 
 pub one-some : (o : Order) (k : Keys) → Real o → o ≡ By k → 1 ≡ some (orderOf o)
-one-some o k h e = go (orderOf o) (wish-some o k h e)
+one-some o k h e = go (orderOf o) (requirement-some o k h e)
   where
     go : (ks : List Key) → isNil ks ≡ false → 1 ≡ some ks
     go [] f = no-bool (sym f)

@@ -74,13 +74,13 @@ pub record Decides (o : Op) (c : Plan) (D : walk.Decision) (r : Decision) : Type
   pub quiet : r .quiet ≡ D .quiet
 
 -- A node with the record r and the facts own over a and b, visited with an order
-pub record Visited (r own a b : List ℕ) (wish : Order) : Type 0 where
+pub record Visited (r own a b : List ℕ) (requirement : Order) : Type 0 where
   pub proper : Proper r
   pub here : FactRow own
   pub first : FactRow a
   pub second : FactRow b
-  pub real : Real wish
-  pub inside : All (λ k. k .col < told own .width) (orderOf wish)
+  pub real : Real requirement
+  pub inside : All (λ k. k .col < told own .width) (orderOf requirement)
   pub merged : (t : JoinType) → decode r ≡ sortMergeJoin t (pairsOf r) → JoinRows t r own a b
   pub hashed : (t : JoinType) → decode r ≡ hashJoin t (pairsOf r) → told own .width ≡ joinWidth t (told a .width) (told b .width)
 

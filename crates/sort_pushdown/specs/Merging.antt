@@ -93,8 +93,8 @@ asked-again r own a b order new again h x y =
       hashed = h .hashed;
     }
 
-pub visited-asked : (r own a b : List ℕ) (wish : Order) (k : Keys) → Visited r own a b wish → wish ≡ By k → Asked r own a b k
-visited-asked r own a b wish k h e =
+pub visited-asked : (r own a b : List ℕ) (requirement : Order) (k : Keys) → Visited r own a b requirement → requirement ≡ By k → Asked r own a b k
+visited-asked r own a b requirement k h e =
     record {
       proper = h .proper;
       here = h .here;

@@ -129,10 +129,10 @@ fn decide_node(v: Visit, r: &[u8], own: &[u8], a: &[u8], b: &[u8], limit: Fetch)
     ensures { λ x. ⌜ ((c : Plan) (o : Op) → Seen (decode (now (r .entry))) o (sem.facts c) (walk.childCount c) (told (now (own .entry))) (told (now (a .entry))) (told (now (b .entry))) → limit ≡ fetchOp o (fetches c) → Decides o c (walk.decideNode (visitOf v) o c) x) ⌝ }
 {
     let req = v.req;
-    let wish = req.order;
+    let requirement = req.order;
     let fetch = req.fetch;
     let d = req.distribution;
-    let Order::By(order) = wish else {
+    let Order::By(order) = requirement else {
         return unasked(v.root, r);
     };
     if meets(own, order) {

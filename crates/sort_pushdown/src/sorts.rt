@@ -56,7 +56,7 @@ fn removed(tops: NewNodes, req: ParentRequirements, quiet: bool) -> Decision
     }
 }
 
-// The distribution of a root sort's child is the sort's own wish, of another's none.
+// The distribution of a root sort's child is what the sort itself requires, of another's none.
 fn root_distribution(root: bool, r: &[u8]) -> Distribution
     requires { ⌜ Proper (now r) ⌝ }
     ensures { λ d. ⌜ d ≡ cond root (distOf (decode (now (r .entry))) 0) distribution.Unspecified ⌝ }
@@ -158,9 +158,9 @@ pub fn decide_sort(v: Visit, r: &[u8], own: &[u8], a: &[u8]) -> Decision
     ensures { λ d. ⌜ ((p : Bool) (ks : List Key) (f : Fetches) (c : Plan) → decode (now (r .entry)) ≡ sortOp p ks f → Decides (sortOp p ks f) c (sortOn p ks f (visitOf v) (told (now (own .entry))) (told (now (a .entry)))) d) ⌝ }
 {
     let req = v.req;
-    let wish = req.order;
+    let requirement = req.order;
     let d = req.distribution;
-    let Order::By(parent) = wish else {
+    let Order::By(parent) = requirement else {
         return sort_unasked(v, r, own);
     };
     if unnecessary(own, parent) {

@@ -27,11 +27,11 @@ use Rattle.plan_context.specs.Kids.{plus-none}
 use Rattle.sort_removal.specs.Standing.{Standing, tree-is}
 
 -- The node maintains the order of child j, and wants none of it
-abbrev pub freed : Tree → ℕ → Bool
-freed t j = maintains (opT t) (known (t .kids)) j && isNil (wanted (opT t) j)
+abbrev pub maintainsUnasked : Tree → ℕ → Bool
+maintainsUnasked t j = maintains (opT t) (known (t .kids)) j && isNil (wanted (opT t) j)
 
-abbrev pub anyFreed : Tree → Bool
-anyFreed t = anyBelow (length (roots (t .kids))) (freed t)
+abbrev pub anyMaintainsUnasked : Tree → Bool
+anyMaintainsUnasked t = anyBelow (length (roots (t .kids))) (maintainsUnasked t)
 
 -- ---- one child
 
@@ -47,12 +47,12 @@ some-key : (n x : ℕ) → 0 < n → isNil (keysIn n x) ≡ false
 some-key zero x h = absurd (omega arith)
 some-key (suc n) x h = refl
 
-pub asked-some : (t : Tree) (j : ℕ) (o : Order) → Ordered (wanted (opT t) j) o → (k : Keys) → o ≡ By k → false ≡ freed t j
+pub asked-some : (t : Tree) (j : ℕ) (o : Order) → Ordered (wanted (opT t) j) o → (k : Keys) → o ≡ By k → false ≡ maintainsUnasked t j
 asked-some t j o w k e =
     let v : Ordered (wanted (opT t) j) (By k) = subst (Ordered (wanted (opT t) j)) e w in
     none-of (maintains (opT t) (known (t .kids)) j) (isNil (wanted (opT t) j)) (ap isNil (sym (v .is)) ∙ some-key (k .len) (k .word) (v .real .0))
 
-pub asked-none : (t : Tree) (j : ℕ) (o : Order) → Ordered (wanted (opT t) j) o → o ≡ Unordered → (b : Bool) → b ≡ maintains (opT t) (known (t .kids)) j → b ≡ freed t j
+pub asked-none : (t : Tree) (j : ℕ) (o : Order) → Ordered (wanted (opT t) j) o → o ≡ Unordered → (b : Bool) → b ≡ maintains (opT t) (known (t .kids)) j → b ≡ maintainsUnasked t j
 asked-none t j o w e b q = q ∙ true-right (maintains (opT t) (known (t .kids)) j) (isNil (wanted (opT t) j)) (ap isNil (sym (w .is) ∙ ap orderOf e))
 
 -- ---- some number below n
@@ -100,14 +100,14 @@ module _ (m : List ℕ) (u h : ℕ) (a : Standing m u h) where
   abbrev hs : List ℕ
   hs = slot m (index h) .kids
 
-  free-is : anyFreed (treeOf m h) ≡ anyBelow (length (slot m (index h) .kids)) (freed (treeOf m h))
-  free-is = ap (λ t. anyBelow (length (roots (t .kids))) (freed (treeOf m h))) (tree-is m u h a) ∙ ap (λ k. anyBelow k (freed (treeOf m h))) (count-roots m hs)
+  free-is : anyMaintainsUnasked (treeOf m h) ≡ anyBelow (length (slot m (index h) .kids)) (maintainsUnasked (treeOf m h))
+  free-is = ap (λ t. anyBelow (length (roots (t .kids))) (maintainsUnasked (treeOf m h))) (tree-is m u h a) ∙ ap (λ k. anyBelow k (maintainsUnasked (treeOf m h))) (count-roots m hs)
 
-  pub free-found : (j : ℕ) → j < length (slot m (index h) .kids) → freed (treeOf m h) j ≡ true → true ≡ anyFreed (treeOf m h)
-  free-found j l e = sym (free-is ∙ any-at (length hs) (freed (treeOf m h)) j l e)
+  pub free-found : (j : ℕ) → j < length (slot m (index h) .kids) → maintainsUnasked (treeOf m h) j ≡ true → true ≡ anyMaintainsUnasked (treeOf m h)
+  free-found j l e = sym (free-is ∙ any-at (length hs) (maintainsUnasked (treeOf m h)) j l e)
 
-  pub free-none : (j : ℕ) → j ≡ length (slot m (index h) .kids) → anyBelow j (freed (treeOf m h)) ≡ false → false ≡ anyFreed (treeOf m h)
-  free-none j l b = sym (free-is ∙ ap (λ k. anyBelow k (freed (treeOf m h))) (sym l) ∙ b)
+  pub free-none : (j : ℕ) → j ≡ length (slot m (index h) .kids) → anyBelow j (maintainsUnasked (treeOf m h)) ≡ false → false ≡ anyMaintainsUnasked (treeOf m h)
+  free-none j l b = sym (free-is ∙ ap (λ k. anyBelow k (maintainsUnasked (treeOf m h))) (sym l) ∙ b)
 
   mark-is : anyMark (treeOf m h .kids) ≡ anyBelow (length (slot m (index h) .kids)) (λ i. marked (getD (slot m (index h) .kids) i 0))
   mark-is = ap (λ t. anyMark (t .kids)) (tree-is m u h a) ∙ mark-any m hs
@@ -126,7 +126,7 @@ some-root (tree m c r) e = omega arith
 
 module _ (t : Tree) where
   abbrev any : Bool
-  any = anyBelow (length (roots (t .kids))) (λ i. freed t i || isSortPreservingMerge (opT t))
+  any = anyBelow (length (roots (t .kids))) (λ i. maintainsUnasked t i || isSortPreservingMerge (opT t))
 
   pub of-sort : isSort (opT t) ≡ true → true ≡ connected (opT t) (t .kids)
   of-sort e = sym (ap (λ b. cond b true (cond (isLimit (opT t)) false (anyMark (t .kids) && any))) e)
@@ -136,7 +136,7 @@ module _ (t : Tree) where
     of-limit l = sym (ap₂ (λ b d. cond b true (cond d false (anyMark (t .kids) && any))) e l)
 
     module _ (l : isLimit (opT t) ≡ false) where
-      other : connected (opT t) (t .kids) ≡ anyMark (t .kids) && anyBelow (length (roots (t .kids))) (λ i. freed t i || isSortPreservingMerge (opT t))
+      other : connected (opT t) (t .kids) ≡ anyMark (t .kids) && anyBelow (length (roots (t .kids))) (λ i. maintainsUnasked t i || isSortPreservingMerge (opT t))
       other = ap₂ (λ b d. cond b true (cond d false (anyMark (t .kids) && any))) e l
 
       pub of-unmarked : anyMark (t .kids) ≡ false → false ≡ connected (opT t) (t .kids)
@@ -146,11 +146,11 @@ module _ (t : Tree) where
         pub of-merge : isSortPreservingMerge (opT t) ≡ true → true ≡ connected (opT t) (t .kids)
         of-merge y =
             sym (other ∙ ap (λ x. x && any) z
-            ∙ any-at (length (roots (t .kids))) (λ i. freed t i || isSortPreservingMerge (opT t)) 0 (some-root (t .kids) z) (ap (λ x. freed t 0 || x) y ∙ or-true (freed t 0)))
+            ∙ any-at (length (roots (t .kids))) (λ i. maintainsUnasked t i || isSortPreservingMerge (opT t)) 0 (some-root (t .kids) z) (ap (λ x. maintainsUnasked t 0 || x) y ∙ or-true (maintainsUnasked t 0)))
 
-        pub of-other : isSortPreservingMerge (opT t) ≡ false → (f : Bool) → f ≡ anyFreed t → f ≡ connected (opT t) (t .kids)
+        pub of-other : isSortPreservingMerge (opT t) ≡ false → (f : Bool) → f ≡ anyMaintainsUnasked t → f ≡ connected (opT t) (t .kids)
         of-other y f w =
-            w ∙ any-same (length (roots (t .kids))) (freed t) (λ i. freed t i || isSortPreservingMerge (opT t)) (λ i. sym (ap (λ x. freed t i || x) y ∙ or-none (freed t i)))
+            w ∙ any-same (length (roots (t .kids))) (maintainsUnasked t) (λ i. maintainsUnasked t i || isSortPreservingMerge (opT t)) (λ i. sym (ap (λ x. maintainsUnasked t i || x) y ∙ or-none (maintainsUnasked t i)))
             ∙ sym (other ∙ ap (λ x. x && any) z)
 
 -- ---- marks put right

@@ -28,7 +28,7 @@ use Rattle.arena.specs.declared.At.{At}
 use Rattle.walks.specs.Marks.{Marked, Tree, strip, known, node, plant, over, opT, fact, sizeT, setMark, kid0, unmark}
 use Rattle.walks.specs.theorems.common.Trees.{Ok, OkT}
 use Rattle.walks.specs.theorems.ensure.Kept.{strip-unmark}
-use Rattle.walks.specs.EnsureSorting.{limitNote, limited, immediate}
+use Rattle.walks.specs.EnsureSorting.{limitNote, limited, analyzeImmediateSortRemoval}
 use Rattle.plan_context.specs.View.{treeOf, forest, mostSlots, Arena, Grown, Puts}
 use Rattle.plan_context.specs.Laws.{facts-at}
 use Rattle.plan_context.specs.Nodes.{Seen}
@@ -132,7 +132,7 @@ module _ (b : List ℕ) (w h : ℕ) (p : Unmarks b w h) where
 -- ---- the sort's place
 
 abbrev pub immediateAt : List ℕ → ℕ → Tree
-immediateAt b h = immediate (fromBytes (slot b (index h) .rec) .preserve) (fromBytes (slot b (index h) .rec) .keys) (fromBytes (slot b (index h) .rec) .fetch) (treeOf b h) (kid0 (treeOf b h) (treeOf b h .kids))
+immediateAt b h = analyzeImmediateSortRemoval (fromBytes (slot b (index h) .rec) .preserve) (fromBytes (slot b (index h) .rec) .keys) (fromBytes (slot b (index h) .rec) .fetch) (treeOf b h) (kid0 (treeOf b h) (treeOf b h .kids))
 
 pub record Immediates (b : List ℕ) (w h : ℕ) : Type 0 where
   pub arena : Arena b w
@@ -188,8 +188,8 @@ module _ (b : List ℕ) (w h : ℕ) (p : Immediates b w h) where
     kid-is : treeOf b k ≡ kid0 (treeOf b h) (treeOf b h .kids)
     kid-is = ap (treeOf b) hk ∙ first-is b (slot b (index h) .kids) t sort-some ∙ ap (λ y. kid0 t (y .kids)) (sym (tree-is b w h standing))
 
-    at-kid : immediateAt b h ≡ immediate (fromBytes (slot b (index h) .rec) .preserve) (fromBytes (slot b (index h) .rec) .keys) (fromBytes (slot b (index h) .rec) .fetch) (treeOf b h) (treeOf b k)
-    at-kid = ap (immediate (x .preserve) (x .keys) (x .fetch) t) (sym kid-is)
+    at-kid : immediateAt b h ≡ analyzeImmediateSortRemoval (fromBytes (slot b (index h) .rec) .preserve) (fromBytes (slot b (index h) .rec) .keys) (fromBytes (slot b (index h) .rec) .fetch) (treeOf b h) (treeOf b k)
+    at-kid = ap (analyzeImmediateSortRemoval (x .preserve) (x .keys) (x .fetch) t) (sym kid-is)
 
     pub sort-kid : Standing b w k
     sort-kid = kid-standing b w h standing 0 sort-some k hk

@@ -24,14 +24,14 @@ use Rattle.arena.specs.Laws.{below-at, below-more}
 use Rattle.walks.specs.Marks.{Marked, Tree, node, plant, opT, sizeT, setMark, kid0, shape}
 use Rattle.walks.specs.Terms.{_⊕_}
 use Rattle.walks.specs.theorems.common.Trees.{OkT}
-use Rattle.walks.specs.EnsureSorting.{gather, dropSort, removeBy, removeTop, removeKids}
+use Rattle.walks.specs.EnsureSorting.{withSingleStream, dropSort, removeBy, removeTop, removeKids}
 use Rattle.plan_context.specs.View.{treeOf, forest, mostNodes, mostSlots, Arena, Same, Grown}
 use Rattle.plan_context.specs.Laws.{slot-same, forest-same, tree-same, same-trans}
 use Rattle.plan_context.specs.Nodes.{Seen}
 use Rattle.plan_context.specs.Kids.{Kids, kids-none, kids-more, kids-forest, plus-none}
 use Rattle.sort_removal.specs.Standing.{Standing, view as shown, own-over, own-proper, sort-op, one-kid}
 use Rattle.sort_removal.specs.Sizes.{kids-size, by-size}
-use Rattle.sort_removal.specs.Gathering.{Gathers}
+use Rattle.sort_removal.specs.SingleStream.{AsksSingleStream}
 use Rattle.sort_removal.specs.Removing.{removeOne, from, from-first, from-next, one-ok, Rems, Removed, first-is}
 
 pub record Removes (b : List ℕ) (u h : ℕ) : Type 0 where
@@ -100,22 +100,22 @@ module _ (b₀ : List ℕ) (u h : ℕ) (p : Removes b₀ u h) where
 
   -- a marked one
   module _ (s : Bool) (z : marked h ≡ true) where
-    now : removeOne s (treeOf b₀ h) ≡ gather s (Removed b₀ h)
+    now : removeOne s (treeOf b₀ h) ≡ withSingleStream s (Removed b₀ h)
     now = ap₂ (λ m t. removeOne s (setMark m t)) z (view .tree)
 
-    new-ok : OkT (gather s (Removed b₀ h))
+    new-ok : OkT (withSingleStream s (Removed b₀ h))
     new-ok = subst OkT now (one-ok s (treeOf b₀ h) (p .arena .all (index h) half .proper .ok))
 
     -- a tree in its place, and one stream of it
-    pub place-asks : (b : List ℕ) (w k : ℕ) → Arena b w → k < 2 * w → length b ≡ length b₀ → w < u + 2 * sizeT (treeOf b₀ h) → treeOf b k ≡ Removed b₀ h → Gathers b w k s
+    pub place-asks : (b : List ℕ) (w k : ℕ) → Arena b w → k < 2 * w → length b ≡ length b₀ → w < u + 2 * sizeT (treeOf b₀ h) → treeOf b k ≡ Removed b₀ h → AsksSingleStream b w k s
     place-asks b w k a l e f q =
         let r = p .room in let m = p .small in let n = p .few in let t = whole in let y = ap sizeT q in let x = by-size (shape o) (record { op = o; mark = true }) c₀ (removeKids (singles o) c₀) (kids-size (singles o) c₀) in
-        record { arena = a; here = l; room = omega arith; small = omega arith; ok = subst (λ t. OkT (gather s t)) (sym q) new-ok; few = omega arith }
+        record { arena = a; here = l; room = omega arith; small = omega arith; ok = subst (λ t. OkT (withSingleStream s t)) (sym q) new-ok; few = omega arith }
 
-    pub place-grown : (b : List ℕ) (w k : ℕ) → Same u b₀ b → u ≤ w → w < u + 2 * sizeT (treeOf b₀ h) → treeOf b k ≡ Removed b₀ h → (b' : List ℕ) (a : At) → Grown b w b' a (gather s (treeOf b k)) (w + 1) → Grown b₀ u b' a (removeOne s (treeOf b₀ h)) (u + 2 * sizeT (treeOf b₀ h))
+    pub place-grown : (b : List ℕ) (w k : ℕ) → Same u b₀ b → u ≤ w → w < u + 2 * sizeT (treeOf b₀ h) → treeOf b k ≡ Removed b₀ h → (b' : List ℕ) (a : At) → Grown b w b' a (withSingleStream s (treeOf b k)) (w + 1) → Grown b₀ u b' a (removeOne s (treeOf b₀ h)) (u + 2 * sizeT (treeOf b₀ h))
     place-grown b w k e l f q b' a g =
         let x = g .more in let y = g .room in
-        record { arena = g .arena; old = same-trans u w b₀ b b' l e (g .old); more = omega arith; here = g .here; tree = g .tree ∙ ap (gather s) q ∙ sym now; room = omega arith }
+        record { arena = g .arena; old = same-trans u w b₀ b b' l e (g .old); more = omega arith; here = g .here; tree = g .tree ∙ ap (withSingleStream s) q ∙ sym now; room = omega arith }
 
     -- a sort
     module _ (e : code (decode (slot b₀ (index h) .rec)) ≡ 7) where
@@ -136,10 +136,10 @@ module _ (b₀ : List ℕ) (u h : ℕ) (p : Removes b₀ u h) where
         stays : treeOf b₀ h ≡ Removed b₀ h
         stays = ap₂ (λ m t. setMark m t) z (view .tree) ∙ sym (dropped ∙ drop-some (x .fetch) (node o true c₀) f)
 
-        pub stays-asks : Gathers b₀ u h s
+        pub stays-asks : AsksSingleStream b₀ u h s
         stays-asks = let t = whole in place-asks b₀ u h (p .arena) (p .here) refl (omega arith) stays
 
-        pub stays-grown : (b' : List ℕ) (a : At) → Grown b₀ u b' a (gather s (treeOf b₀ h)) (u + 1) → Grown b₀ u b' a (removeOne s (treeOf b₀ h)) (u + 2 * sizeT (treeOf b₀ h))
+        pub stays-grown : (b' : List ℕ) (a : At) → Grown b₀ u b' a (withSingleStream s (treeOf b₀ h)) (u + 1) → Grown b₀ u b' a (removeOne s (treeOf b₀ h)) (u + 2 * sizeT (treeOf b₀ h))
         stays-grown b' a g = let t = whole in place-grown b₀ u h refl (omega arith) (omega arith) stays b' a g
 
       -- it goes
@@ -150,10 +150,10 @@ module _ (b₀ : List ℕ) (u h : ℕ) (p : Removes b₀ u h) where
         goes : treeOf b₀ k ≡ Removed b₀ h
         goes = ap (treeOf b₀) hk ∙ first-is b₀ hs (node o true c₀) sort-some ∙ sym (dropped ∙ drop-none (x .fetch) (node o true c₀) f)
 
-        pub goes-asks : Gathers b₀ u k s
+        pub goes-asks : AsksSingleStream b₀ u k s
         goes-asks = let t = whole in let y = below-at (2 * index h) hs 0 (view .below) sort-some in let v = p .here in place-asks b₀ u k (p .arena) (omega arith) refl (omega arith) goes
 
-        pub goes-grown : (b' : List ℕ) (a : At) → Grown b₀ u b' a (gather s (treeOf b₀ k)) (u + 1) → Grown b₀ u b' a (removeOne s (treeOf b₀ h)) (u + 2 * sizeT (treeOf b₀ h))
+        pub goes-grown : (b' : List ℕ) (a : At) → Grown b₀ u b' a (withSingleStream s (treeOf b₀ k)) (u + 1) → Grown b₀ u b' a (removeOne s (treeOf b₀ h)) (u + 2 * sizeT (treeOf b₀ h))
         goes-grown b' a g = let t = whole in place-grown b₀ u k refl (omega arith) (omega arith) goes b' a g
 
   pub going-none : (kids : List ℕ) → length kids ≡ 8 → Going b₀ u h 0 u kids b₀
@@ -240,10 +240,10 @@ module _ (b₀ : List ℕ) (u h : ℕ) (p : Removes b₀ u h) where
       same-removed = ap₂ (λ k f. removeBy (shape (decode (k .rec))) (record { op = decode (k .rec); mark = true }) f (removeKids (singles (decode (k .rec))) f)) same-slot olds
 
       module _ (s : Bool) (z : marked h ≡ true) (b' : List ℕ) (lb : length b' ≡ length b) (a : At) (g : Grown b w b' a (Removed b h) (w + 1)) where
-        pub end-asks : Gathers b' (a .used) (a .root) s
+        pub end-asks : AsksSingleStream b' (a .used) (a .root) s
         end-asks = let v = q .left in let t = whole in let y = g .room in place-asks s z b' (a .used) (a .root) (g .arena) (g .here) (lb ∙ q .made .long) (omega arith) (g .tree ∙ same-removed)
 
-        pub going-end : (b'' : List ℕ) (r : At) → Grown b' (a .used) b'' r (gather s (treeOf b' (a .root))) (a .used + 1) → Grown b₀ u b'' r (removeOne s (treeOf b₀ h)) (u + 2 * sizeT (treeOf b₀ h))
+        pub going-end : (b'' : List ℕ) (r : At) → Grown b' (a .used) b'' r (withSingleStream s (treeOf b' (a .root))) (a .used + 1) → Grown b₀ u b'' r (removeOne s (treeOf b₀ h)) (u + 2 * sizeT (treeOf b₀ h))
         going-end b'' r k =
             let v = q .left in let t = whole in let x = q .made .more in let y = g .room in let m = g .more in
             place-grown s z b' (a .used) (a .root) (same-trans u w b₀ b b' x (q .made .old) (g .old)) (omega arith) (omega arith) (g .tree ∙ same-removed) b'' r k

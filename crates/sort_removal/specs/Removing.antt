@@ -25,7 +25,7 @@ use Rattle.arena.specs.Laws.{below-at}
 use Rattle.walks.specs.Marks.{Marked, Tree, strip, known, node, plant, opT, setMark, kid0, anyMark, aMerge, aRepartition, shape, rebuild}
 use Rattle.walks.specs.theorems.common.Trees.{Ok, OkT, Fit, FitsA, arity, count, ok-fit}
 use Rattle.walks.specs.theorems.common.Keeps.{KeepsAll, kept-node, like-refl, remark-like}
-use Rattle.walks.specs.EnsureSorting.{connectedEach, updateSortCtxChildrenData, loosen, resettle, removeBy, removeTop, removeKids}
+use Rattle.walks.specs.EnsureSorting.{connectedEach, updateSortCtxChildrenData, loosen, updatedAfterRemoval, removeBy, removeTop, removeKids}
 use Rattle.walks.specs.theorems.ensure.Kept.{removeKids-kept, strip-connected}
 use Rattle.plan_context.specs.View.{treeOf, forest, mostNodes, mostSlots, Arena, Grown, Puts}
 use Rattle.plan_context.specs.Nodes.{Seen, counts-of}
@@ -66,21 +66,21 @@ one-ok s t h =
 abbrev pub needs : Forest Marked → Bool
 needs c = anyMark c || isNil (roots c)
 
-abbrev pub settledBy : Bool → Forest Marked → Forest Marked
-settledBy x d = cond x (connectedEach d) d
+abbrev pub updatedBy : Bool → Forest Marked → Forest Marked
+updatedBy x d = cond x (connectedEach d) d
 
-pub strip-settled : (x : Bool) (d : Forest Marked) → strip (settledBy x d) ≡ strip d
-strip-settled true d = strip-connected d
-strip-settled false d = refl
+pub strip-updated : (x : Bool) (d : Forest Marked) → strip (updatedBy x d) ≡ strip d
+strip-updated true d = strip-connected d
+strip-updated false d = refl
 
-settled-size : (x : Bool) (d : Forest Marked) → size (settledBy x d) ≡ size d
-settled-size true d = connected-size d
-settled-size false d = refl
+updated-by-size : (x : Bool) (d : Forest Marked) → size (updatedBy x d) ≡ size d
+updated-by-size true d = connected-size d
+updated-by-size false d = refl
 
-resettle-is : (o : Op) (c d : Forest Marked) → resettle (record { op = o; mark = true }) c d ≡ node (rebuilt o (known d)) (not (needs c)) (settledBy (needs c) d)
-resettle-is o c d = go (needs c)
+updated-is : (o : Op) (c d : Forest Marked) → updatedAfterRemoval (record { op = o; mark = true }) c d ≡ node (rebuilt o (known d)) (not (needs c)) (updatedBy (needs c) d)
+updated-is o c d = go (needs c)
   where
-    go : (x : Bool) → cond x (updateSortCtxChildrenData false (rebuild o true d)) (rebuild o true d) ≡ node (rebuilt o (known d)) (not x) (settledBy x d)
+    go : (x : Bool) → cond x (updateSortCtxChildrenData false (rebuild o true d)) (rebuild o true d) ≡ node (rebuilt o (known d)) (not x) (updatedBy x d)
     go true = refl
     go false = refl
 
@@ -104,21 +104,21 @@ remark-twice (partialSort p ks n f) g = refl
 
 module _ (c d : Forest Marked) where
   abbrev e : Forest Marked
-  e = settledBy (needs c) d
+  e = updatedBy (needs c) d
 
-  known-is : known (settledBy (needs c) d) ≡ known d
-  known-is = ap facts (strip-settled (needs c) d)
+  known-is : known (updatedBy (needs c) d) ≡ known d
+  known-is = ap facts (strip-updated (needs c) d)
 
-  again : (o : Op) → resettle (record { op = o; mark = true }) c d ≡ rebuild o (not (needs c)) (settledBy (needs c) d)
-  again o = resettle-is o c d ∙ ap (λ fs. node (rebuilt o fs) (not (needs c)) e) (sym known-is)
+  again : (o : Op) → updatedAfterRemoval (record { op = o; mark = true }) c d ≡ rebuild o (not (needs c)) (updatedBy (needs c) d)
+  again o = updated-is o c d ∙ ap (λ fs. node (rebuilt o fs) (not (needs c)) e) (sym known-is)
 
-  by-merge : (ks : List Key) (f : Fetch) → removeBy (shape (mergeOp ks f)) (record { op = mergeOp ks f; mark = true }) c d ≡ setMark (not (needs c)) (kid0 (rebuild (mergeOp ks f) (not (needs c)) (settledBy (needs c) d)) (settledBy (needs c) d))
+  by-merge : (ks : List Key) (f : Fetch) → removeBy (shape (mergeOp ks f)) (record { op = mergeOp ks f; mark = true }) c d ≡ setMark (not (needs c)) (kid0 (rebuild (mergeOp ks f) (not (needs c)) (updatedBy (needs c) d)) (updatedBy (needs c) d))
   by-merge ks f = ap (loosen (aMerge ks f)) (again (mergeOp ks f))
 
-  by-repartition : (p : Bool) (n : ℕ) (q : Bool) (ks : List Key) → removeBy (shape (repartition p n q ks)) (record { op = repartition p n q ks; mark = true }) c d ≡ node (remark (λ z. false) (repartition p n q ks)) (not (needs c)) (settledBy (needs c) d)
+  by-repartition : (p : Bool) (n : ℕ) (q : Bool) (ks : List Key) → removeBy (shape (repartition p n q ks)) (record { op = repartition p n q ks; mark = true }) c d ≡ node (remark (λ z. false) (repartition p n q ks)) (not (needs c)) (updatedBy (needs c) d)
   by-repartition p n q ks = ap (loosen (aRepartition p n q ks)) (again (repartition p n q ks))
 
-  by-other : (o : Op) → (code o ≡ 5 → ⊥) → (code o ≡ 7 → ⊥) → (code o ≡ 8 → ⊥) → removeBy (shape o) (record { op = o; mark = true }) c d ≡ rebuild o (not (needs c)) (settledBy (needs c) d)
+  by-other : (o : Op) → (code o ≡ 5 → ⊥) → (code o ≡ 7 → ⊥) → (code o ≡ 8 → ⊥) → removeBy (shape o) (record { op = o; mark = true }) c d ≡ rebuild o (not (needs c)) (updatedBy (needs c) d)
   by-other (source s) x y z = again (source s)
   by-other filter x y z = again filter
   by-other (projection cols) x y z = again (projection cols)
@@ -154,7 +154,7 @@ pub record Overs (b : List ℕ) (w h : ℕ) (ks : List ℕ) (q : Bool) : Type 0 
   pub room : (w + 1) * slotSize ≤ length b
   pub small : w < mostSlots
   pub below : Below (2 * w) ks
-  pub is : forest b ks ≡ settledBy (needs (forest b (slot b (index h) .kids))) (removeKids (singles (decode (slot b (index h) .rec))) (forest b (slot b (index h) .kids)))
+  pub is : forest b ks ≡ updatedBy (needs (forest b (slot b (index h) .kids))) (removeKids (singles (decode (slot b (index h) .rec))) (forest b (slot b (index h) .kids)))
   pub asked : q ≡ needs (forest b (slot b (index h) .kids))
   pub count : length ks ≡ length (slot b (index h) .kids)
   pub few : 2 * suc (size (forest b (slot b (index h) .kids))) ≤ mostNodes
@@ -178,29 +178,29 @@ module _ (b : List ℕ) (w h : ℕ) (ks : List ℕ) (p : Rems b w h ks) where
   pub asks : (x : Bool) → x ≡ anyMark (treeOf b h .kids) → (n : ℕ) → n ≡ length ks → (x || eqb n 0) ≡ needs (forest b (slot b (index h) .kids))
   asks x e n l = ap₂ _||_ (e ∙ ap (λ t. anyMark (t .kids)) (tree-is b w h rems-at)) (ap (λ k. eqb k 0) (l ∙ p .count) ∙ sym (roots-none b (slot b (index h) .kids)))
 
-  pub settled-none : (x : Bool) → x ≡ needs (forest b (slot b (index h) .kids)) → x ≡ false → Overs b w h ks false
-  settled-none x e z =
+  pub update-none : (x : Bool) → x ≡ needs (forest b (slot b (index h) .kids)) → x ≡ false → Overs b w h ks false
+  update-none x e z =
       record {
         arena = p .arena;
         here = p .here;
         room = p .room;
         small = p .small;
         below = p .below;
-        is = p .is ∙ ap (λ y. settledBy y (removeKids (singles (decode (slot b (index h) .rec))) c₁)) (sym (sym e ∙ z));
+        is = p .is ∙ ap (λ y. updatedBy y (removeKids (singles (decode (slot b (index h) .rec))) c₁)) (sym (sym e ∙ z));
         asked = sym z ∙ e;
         count = p .count;
         few = p .few;
       }
 
-  pub settled-all : (x : Bool) → x ≡ needs (forest b (slot b (index h) .kids)) → x ≡ true → (ks' : List ℕ) → Connected b w ks ks' → Overs b w h ks' true
-  settled-all x e z ks' k =
+  pub update-all : (x : Bool) → x ≡ needs (forest b (slot b (index h) .kids)) → x ≡ true → (ks' : List ℕ) → Connected b w ks ks' → Overs b w h ks' true
+  update-all x e z ks' k =
       record {
         arena = p .arena;
         here = p .here;
         room = p .room;
         small = p .small;
         below = k .below;
-        is = k .is ∙ ap connectedEach (p .is) ∙ ap (λ y. settledBy y (removeKids (singles (decode (slot b (index h) .rec))) c₁)) (sym (sym e ∙ z));
+        is = k .is ∙ ap connectedEach (p .is) ∙ ap (λ y. updatedBy y (removeKids (singles (decode (slot b (index h) .rec))) c₁)) (sym (sym e ∙ z));
         asked = sym z ∙ e;
         count = k .count ∙ p .count;
         few = p .few;
@@ -237,7 +237,7 @@ module _ (b : List ℕ) (w h : ℕ) (ks : List ℕ) (q : Bool) (p : Overs b w h 
   fit = let x = shown .ok in let y = ok-fit (tree o (strip c) none) (x .0, x .1, tt) in (y .0, y .1)
 
   same-strip : strip (forest b ks) ≡ strip (removeKids (singles (decode (slot b (index h) .rec))) (forest b (slot b (index h) .kids)))
-  same-strip = ap strip (p .is) ∙ strip-settled (needs c) d
+  same-strip = ap strip (p .is) ∙ strip-updated (needs c) d
 
   open-ok : OkT (node (decode (slot b (index h) .rec)) false (forest b ks))
   open-ok =
@@ -245,7 +245,7 @@ module _ (b : List ℕ) (w h : ℕ) (ks : List ℕ) (q : Bool) (p : Overs b w h 
       subst (λ g. (nodeOk o (map (λ F. F .width) (facts g)) ≡ true) × Ok g) (sym same-strip) k
 
   sized : size (forest b ks) ≤ 2 * size (forest b (slot b (index h) .kids))
-  sized = let x = ap size (p .is) ∙ settled-size (needs c) d in let y = kids-size (singles o) c in omega arith
+  sized = let x = ap size (p .is) ∙ updated-by-size (needs c) d in let y = kids-size (singles o) c in omega arith
 
   canon : slot b (index h) .rec ≡ encode (length ks) (decode (slot b (index h) .rec))
   canon = shown .canon ∙ ap (λ n. encode n o) (sym (p .count))
@@ -290,7 +290,7 @@ module _ (b : List ℕ) (w h : ℕ) (ks : List ℕ) (q : Bool) (p : Overs b w h 
           more = omega arith;
           here = omega arith;
           tree = m .tree b
-              ∙ ap₂ setMark (z ∙ ap not (p .asked)) (first-is b ks (rebuild (mergeOp (x .keys) (x .fetch)) (not (needs c)) (settledBy (needs c) d)) merge-some ∙ ap (kid0 (rebuild (mergeOp (x .keys) (x .fetch)) (not (needs c)) (settledBy (needs c) d))) (p .is))
+              ∙ ap₂ setMark (z ∙ ap not (p .asked)) (first-is b ks (rebuild (mergeOp (x .keys) (x .fetch)) (not (needs c)) (updatedBy (needs c) d)) merge-some ∙ ap (kid0 (rebuild (mergeOp (x .keys) (x .fetch)) (not (needs c)) (updatedBy (needs c) d))) (p .is))
               ∙ sym (ap (λ k. removeBy (shape k) (record { op = k; mark = true }) c d) merges ∙ by-merge c d (x .keys) (x .fetch));
           room = omega arith;
         }
@@ -331,6 +331,6 @@ module _ (b : List ℕ) (w h : ℕ) (ks : List ℕ) (q : Bool) (p : Overs b w h 
     part-grown b' a g y z k m =
         subst (λ t. Grown b w b' (record { used = a .used; root = k }) t (w + 1))
         (ap (λ t. node t y (forest b ks)) decoded ∙ ap₂ (λ k f. node (remark (λ z. false) o) k f) (z ∙ ap not (p .asked)) (p .is)
-        ∙ ap (λ k. node (remark (λ z. false) k) (not (needs c)) (settledBy (needs c) d)) parts
+        ∙ ap (λ k. node (remark (λ z. false) k) (not (needs c)) (updatedBy (needs c) d)) parts
         ∙ sym (ap (λ k. removeBy (shape k) (record { op = k; mark = true }) c d) parts ∙ by-repartition c d (v .preserve) (v .streams) (v .hash) (v .keys)))
         (marked-grown b w b' a (node (decode x) false (forest b ks)) (w + 1) g y k m)

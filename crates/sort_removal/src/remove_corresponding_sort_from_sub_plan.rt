@@ -36,10 +36,10 @@ ghost use Rattle.plan_codec.specs.Encode.{encode};
 ghost use Rattle.key_lists.specs.Keys.{orderOf, Real};
 ghost use Rattle.arena.specs.Arena.{index, marked, slot};
 ghost use Rattle.walks.specs.Marks.{fetchT, sizeT};
-ghost use Rattle.walks.specs.EnsureSorting.{gatherOp, gather as gathered};
+ghost use Rattle.walks.specs.EnsureSorting.{singleStreamOp, withSingleStream};
 ghost use Rattle.plan_context.specs.View.{treeOf, Grown};
 ghost use Rattle.sort_removal.specs.Standing.{Standing};
-ghost use Rattle.sort_removal.specs.Gathering.{Gathers};
+ghost use Rattle.sort_removal.specs.SingleStream.{AsksSingleStream};
 ghost use Rattle.sort_removal.specs.Removing.{Rems, Overs, Removed, removeOne};
 ghost use Rattle.sort_removal.specs.Recursion.{Removes};
 
@@ -57,9 +57,9 @@ fn plan_fetch(m: &[u8], u: usize, h: usize) -> Fetch
 }
 
 // A merge of the order, or a coalesce where there is none.
-fn gather_record(order: Order, fetch: Fetch) -> [u8; 64]
+fn single_stream_record(order: Order, fetch: Fetch) -> [u8; 64]
     requires { ⌜ Real order ⌝ }
-    ensures { λ x. ⌜ x ≡ encode 1 (gatherOp (orderOf order) fetch) ⌝ }
+    ensures { λ x. ⌜ x ≡ encode 1 (singleStreamOp (orderOf order) fetch) ⌝ }
 {
     match order {
         Order::Unordered => coalesce_record(Fetch::Unlimited),
@@ -68,9 +68,9 @@ fn gather_record(order: Order, fetch: Fetch) -> [u8; 64]
 }
 
 // One stream of the tree at h, where a single one is required.
-fn gather(m: &mut [u8], u: usize, h: usize, single: bool) -> At
-    requires { ⌜ Gathers (now m) u h single ⌝ }
-    ensures { λ a. ⌜ Grown (now (m .entry)) u (now (m .exit)) a (gathered single (treeOf (now (m .entry)) h)) (u + 1) ⌝ }
+fn with_single_stream(m: &mut [u8], u: usize, h: usize, single: bool) -> At
+    requires { ⌜ AsksSingleStream (now m) u h single ⌝ }
+    ensures { λ a. ⌜ Grown (now (m .entry)) u (now (m .exit)) a (withSingleStream single (treeOf (now (m .entry)) h)) (u + 1) ⌝ }
 {
     if !single {
         return At { used: u, root: h };
@@ -79,13 +79,13 @@ fn gather(m: &mut [u8], u: usize, h: usize, single: bool) -> At
     if !several_streams(own) {
         return At { used: u, root: h };
     }
-    let r = gather_record(known_order(own), plan_fetch(m, u, h));
+    let r = single_stream_record(known_order(own), plan_fetch(m, u, h));
     let k = set_mark(h, is_connected(m, u, h));
     put_over(m, u, &r, k)
 }
 
 // The marks of the new children ks put right where an old one was marked or there is none; whether they were.
-fn settle_marks(m: &[u8], u: usize, h: usize, ks: &mut [usize]) -> bool
+fn update_marks(m: &[u8], u: usize, h: usize, ks: &mut [usize]) -> bool
     requires { ⌜ Rems (now m) u h (now ks) ⌝ }
     ensures { λ q. ⌜ Overs (now (m .entry)) u h (now (ks .exit)) q ⌝ }
 {
@@ -97,26 +97,26 @@ fn settle_marks(m: &[u8], u: usize, h: usize, ks: &mut [usize]) -> bool
     false
 }
 
-// The node at h, not a sort, with the record r, over its new children ks; settled: their marks were put right.
-fn remove_over(m: &mut [u8], u: usize, h: usize, r: &[u8], ks: &[usize], settled: bool) -> At
-    requires { ⌜ Overs (now m) u h (now ks) settled × (now r ≡ slot (now m) (index h) .rec) × (code (decode (now r)) ≡ 7 → ⊥) ⌝ }
+// The node at h, not a sort, with the record r, over its new children ks; updated: their marks were put right.
+fn remove_over(m: &mut [u8], u: usize, h: usize, r: &[u8], ks: &[usize], updated: bool) -> At
+    requires { ⌜ Overs (now m) u h (now ks) updated × (now r ≡ slot (now m) (index h) .rec) × (code (decode (now r)) ≡ 7 → ⊥) ⌝ }
     ensures { λ a. ⌜ Grown (now (m .entry)) u (now (m .exit)) a (Removed (now (m .entry)) h) (u + 1) ⌝ }
 {
     if is_sort_preserving_merge(r) {
-        let k = set_mark(ks[0], !settled);
+        let k = set_mark(ks[0], !updated);
         return At { used: u, root: k };
     }
     if is_repartition(r) {
         let x = with_mark(r, false);
         let a = put_again(m, u, &x, ks, h / 2);
-        let k = set_mark(a.root, !settled);
+        let k = set_mark(a.root, !updated);
         return At {
             used: a.used,
             root: k,
         };
     }
     let a = update_plan_from_children(m, u, r, ks, h / 2);
-    let k = set_mark(a.root, !settled);
+    let k = set_mark(a.root, !updated);
     At {
         used: a.used,
         root: k,
@@ -128,8 +128,8 @@ fn remove_by(m: &mut [u8], u: usize, h: usize, r: &[u8], ks: &mut [usize]) -> At
     requires { ⌜ Rems (now m) u h (now ks) × (now r ≡ slot (now m) (index h) .rec) × (code (decode (now r)) ≡ 7 → ⊥) ⌝ }
     ensures { λ a. ⌜ Grown (now (m .entry)) u (now (m .exit)) a (Removed (now (m .entry)) h) (u + 1) ⌝ }
 {
-    let settled = settle_marks(m, u, h, ks);
-    remove_over(m, u, h, r, ks, settled)
+    let updated = update_marks(m, u, h, ks);
+    remove_over(m, u, h, r, ks, updated)
 }
 
 // A marked sort at h, with the record r: it goes, unless it has a fetch.
@@ -138,10 +138,10 @@ fn remove_sort(m: &mut [u8], u: usize, h: usize, r: &[u8], single: bool) -> At
     ensures { λ a. ⌜ Grown (now (m .entry)) u (now (m .exit)) a (removeOne single (treeOf (now (m .entry)) h)) (u + 2 * sizeT (treeOf (now (m .entry)) h)) ⌝ }
 {
     if some_fetch(fetch_field(r)) {
-        return gather(m, u, h, single);
+        return with_single_stream(m, u, h, single);
     }
     let k = child(m, h / 2, 0);
-    gather(m, u, k, single)
+    with_single_stream(m, u, k, single)
 }
 
 // The tree at h: where it is marked, its connected children first. Single: one stream is required of it.
@@ -170,5 +170,5 @@ pub fn remove_corresponding_sort_from_sub_plan(m: &mut [u8], u: usize, h: usize,
         j += 1;
     }
     let x = remove_by(m, w, h, &r, &mut kids[..n]);
-    gather(m, x.used, x.root, single)
+    with_single_stream(m, x.used, x.root, single)
 }

@@ -20,7 +20,7 @@ ghost use Rattle.walks.specs.Marks.{opT, known, anyMark};
 ghost use Rattle.walks.specs.EnsureSorting.{connected};
 ghost use Rattle.plan_context.specs.View.{treeOf, Arena};
 ghost use Rattle.sort_removal.specs.Standing.{Standing};
-ghost use Rattle.sort_removal.specs.Connection.{freed, anyFreed, Connected};
+ghost use Rattle.sort_removal.specs.Connection.{maintainsUnasked, anyMaintainsUnasked, Connected};
 
 // Whether the node maintains the order of its child j.
 pub fn maintains_child(m: &[u8], u: usize, h: usize, j: usize) -> bool
@@ -35,7 +35,7 @@ pub fn maintains_child(m: &[u8], u: usize, h: usize, j: usize) -> bool
 // and wants no order of it.
 fn maintains_unasked(m: &[u8], u: usize, h: usize, j: usize) -> bool
     requires { ⌜ Standing (now m) u h × (j < length (slot (now m) (index h) .kids)) ⌝ }
-    ensures { λ b. ⌜ b ≡ freed (treeOf (now (m .entry)) h) j ⌝ }
+    ensures { λ b. ⌜ b ≡ maintainsUnasked (treeOf (now (m .entry)) h) j ⌝ }
 {
     let o = wanted_order(record_at(m, h / 2), j);
     if let Order::By(_) = o {
@@ -47,7 +47,7 @@ fn maintains_unasked(m: &[u8], u: usize, h: usize, j: usize) -> bool
 // Whether there is such a child.
 fn any_maintained(m: &[u8], u: usize, h: usize) -> bool
     requires { ⌜ Standing (now m) u h ⌝ }
-    ensures { λ b. ⌜ b ≡ anyFreed (treeOf (now (m .entry)) h) ⌝ }
+    ensures { λ b. ⌜ b ≡ anyMaintainsUnasked (treeOf (now (m .entry)) h) ⌝ }
 {
     let n = child_count(m, h / 2);
     let mut j = 0;

@@ -36,13 +36,13 @@ updateSortCtxChildrenData b t = node (opT t) b (connectedEach (t .kids))
 
 -- "If there is existing ordering .. use SortPreservingMergeExec instead of a CoalescePartitionsExec": the known order, in normal
 -- form (reading 7), with the plan's fetch
-abbrev pub gatherOp : List Key → Fetch → Op
-gatherOp [] f = coalesce Unlimited
-gatherOp (k ∷ ks) f = mergeOp (k ∷ ks) f
+abbrev pub singleStreamOp : List Key → Fetch → Op
+singleStreamOp [] f = coalesce Unlimited
+singleStreamOp (k ∷ ks) f = mergeOp (k ∷ ks) f
 
 -- s: a single stream is required
-abbrev pub gather : Bool → Tree → Tree
-gather s t = cond (s && ltb 1 (fact t .streams)) (updateSortCtxChildrenData false (over (gatherOp (knownOrder (fact t)) (fetchT t)) false t)) t
+abbrev pub withSingleStream : Bool → Tree → Tree
+withSingleStream s t = cond (s && ltb 1 (fact t .streams)) (updateSortCtxChildrenData false (over (singleStreamOp (knownOrder (fact t)) (fetchT t)) false t)) t
 
 -- "Replace with variants that do not preserve order."
 abbrev pub loosen : Shape → Tree → Tree
@@ -53,8 +53,8 @@ loosen (aCoalesce f) t = t
 loosen another t = t
 
 -- A node m over c, whose connected children became d: rebuilt, its children's marks put right "if any_connection || children.is_empty()"
-abbrev pub resettle : Marked → Forest Marked → Forest Marked → Tree
-resettle m c d =
+abbrev pub updatedAfterRemoval : Marked → Forest Marked → Forest Marked → Tree
+updatedAfterRemoval m c d =
     cond (anyMark c || isNil (roots c)) (updateSortCtxChildrenData false (rebuild (m .op) (m .mark) d)) (rebuild (m .op) (m .mark) d)
 
 -- "Do not remove sorts with fetch"
@@ -64,13 +64,13 @@ dropSort (AtMost n) t = t
 
 abbrev pub removeBy : Shape → Marked → Forest Marked → Forest Marked → Tree
 removeBy (aSort p ks f) m c d = dropSort f (at m c)
-removeBy (aMerge ks f) m c d = loosen (aMerge ks f) (resettle m c d)
-removeBy (aRepartition p n h ks) m c d = loosen (aRepartition p n h ks) (resettle m c d)
-removeBy (aCoalesce f) m c d = loosen (aCoalesce f) (resettle m c d)
-removeBy another m c d = loosen another (resettle m c d)
+removeBy (aMerge ks f) m c d = loosen (aMerge ks f) (updatedAfterRemoval m c d)
+removeBy (aRepartition p n h ks) m c d = loosen (aRepartition p n h ks) (updatedAfterRemoval m c d)
+removeBy (aCoalesce f) m c d = loosen (aCoalesce f) (updatedAfterRemoval m c d)
+removeBy another m c d = loosen another (updatedAfterRemoval m c d)
 
 abbrev pub removeTop : Bool → Marked → Forest Marked → Forest Marked → Tree
-removeTop s m c d = gather s (removeBy (shape (m .op)) m c d)
+removeTop s m c d = withSingleStream s (removeBy (shape (m .op)) m c d)
 
 -- Each connected root; q n: a single stream is required of root n
 abbrev pub removeKids : (ℕ → Bool) → Forest Marked → Forest Marked
@@ -99,8 +99,8 @@ limited (AtMost n) t c =
     over (cond (eqb (fact t .streams) 1) (globalLimit 0 (AtMost n) (limitNote t)) (localLimit (AtMost n) (limitNote t))) false (setMark false c)
 
 -- "Replace the sort with a sort-preserving merge": 01's trap, of the sort's own keys and not of the known order
-abbrev pub immediate : Bool → List Key → Fetch → Tree → Tree → Tree
-immediate p ks f t c = cond (not p && ltb 1 (fact c .streams)) (over (mergeOp ks f) false (setMark false c)) (limited f t c)
+abbrev pub analyzeImmediateSortRemoval : Bool → List Key → Fetch → Tree → Tree → Tree
+analyzeImmediateSortRemoval p ks f t c = cond (not p && ltb 1 (fact c .streams)) (over (mergeOp ks f) false (setMark false c)) (limited f t c)
 
 -- ---- the loop of ensure_sorting over the children
 
@@ -139,7 +139,7 @@ finish (aCoalesce f) t = updateSortCtxChildrenData false t
 finish another t = updateSortCtxChildrenData false t
 
 abbrev pub ensureBy : Shape → Tree → Tree
-ensureBy (aSort p ks f) t = cond (met (at0 (known (t .kids))) (knownOrder (fact t))) (immediate p ks f t (kid0 t (t .kids))) (finish (aSort p ks f) (afterLoop t))
+ensureBy (aSort p ks f) t = cond (met (at0 (known (t .kids))) (knownOrder (fact t))) (analyzeImmediateSortRemoval p ks f t (kid0 t (t .kids))) (finish (aSort p ks f) (afterLoop t))
 ensureBy (aMerge ks f) t = finish (aMerge ks f) (afterLoop t)
 ensureBy (aRepartition p n h ks) t = finish (aRepartition p n h ks) (afterLoop t)
 ensureBy (aCoalesce f) t = finish (aCoalesce f) (afterLoop t)

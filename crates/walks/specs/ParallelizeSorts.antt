@@ -72,8 +72,8 @@ liftFirst o none = none
 liftFirst o (tree m c r) = plant (skipSame o (at m c) c) r
 
 -- The children of o, which were c, their connected ones being rewritten to d; b: the first child is removable
-abbrev pub opened : Bool → Op → Forest Marked → Forest Marked → Forest Marked
-opened b o c d = cond (firstIs bottleneck c && b) (liftFirst o c) d
+abbrev pub firstBottleneckRemoved : Bool → Op → Forest Marked → Forest Marked → Forest Marked
+firstBottleneckRemoved b o c d = cond (firstIs bottleneck c && b) (liftFirst o c) d
 
 -- "We can remove this repartitioning operator if it is now a no-op .. also .. if we ended up with an ineffective RR": round robin
 -- goes by the number of streams alone (reading 5)
@@ -84,39 +84,39 @@ idle (aRepartition p n h ks) o d = (not h && eqb n (at0 (known d) .streams)) || 
 idle (aCoalesce f) o d = false
 idle another o d = false
 
-abbrev pub settle : Marked → Forest Marked → Tree
-settle m d = cond (idle (shape (m .op)) (m .op) d) (kid0 (rebuild (m .op) (m .mark) d) d) (rebuild (m .op) (m .mark) d)
+abbrev pub withoutIdle : Marked → Forest Marked → Tree
+withoutIdle m d = cond (idle (shape (m .op)) (m .op) d) (kid0 (rebuild (m .op) (m .mark) d) d) (rebuild (m .op) (m .mark) d)
 
 -- remove_bottleneck_in_subplan_impl on each connected root; q n: root n is removable, its parent requires no single stream of it
-abbrev pub openEach : (ℕ → Bool) → Forest Marked → Forest Marked
-openEach q none = none
-openEach q (tree m c r) =
-    plant (cond (m .mark && q 0) (settle m (opened (not (singles (m .op) 0)) (m .op) c (openEach (λ i. not (singles (m .op) i)) c))) (at m c)) (openEach (λ i. q (suc i)) r)
+abbrev pub removeBottleneckInSubplanImpl : (ℕ → Bool) → Forest Marked → Forest Marked
+removeBottleneckInSubplanImpl q none = none
+removeBottleneckInSubplanImpl q (tree m c r) =
+    plant (cond (m .mark && q 0) (withoutIdle m (firstBottleneckRemoved (not (singles (m .op) 0)) (m .op) c (removeBottleneckInSubplanImpl (λ i. not (singles (m .op) i)) c))) (at m c)) (removeBottleneckInSubplanImpl (λ i. q (suc i)) r)
 
 -- is_root: "Its own distribution requirement does not constrain the removal". The root is a sort, a merge or a coalesce, so the
 -- test for idle repartitions has no place here
-abbrev pub openRoot : Tree → Forest Marked
-openRoot t = opened true (opT t) (t .kids) (openEach (λ i. true) (t .kids))
+abbrev pub bottlenecksRemoved : Tree → Forest Marked
+bottlenecksRemoved t = firstBottleneckRemoved true (opT t) (t .kids) (removeBottleneckInSubplanImpl (λ i. true) (t .kids))
 
 abbrev pub removeBottleneckInSubplan : Tree → Tree
-removeBottleneckInSubplan t = rebuild (opT t) (t .top .mark) (openRoot t)
+removeBottleneckInSubplan t = rebuild (opT t) (t .top .mark) (bottlenecksRemoved t)
 
 -- "We also need to remove the self node"
-abbrev pub freed : Tree → Tree
-freed t = kid0 (removeBottleneckInSubplan t) (openRoot t)
+abbrev pub withoutSelf : Tree → Tree
+withoutSelf t = kid0 (removeBottleneckInSubplan t) (bottlenecksRemoved t)
 
 -- ---- parallelize_sorts: the step at one node
 
 -- "replace the CoalescePartitionsExec + SortExec cascade with a SortExec + SortPreservingMergeExec cascade"; keys and fetch are
 -- get_sort_exprs, as written (reading 7)
 abbrev pub cascade : List Key → Fetch → Tree → Tree
-cascade ks f t = cond (leb (fact t .streams) 1) (over (mergeOp ks f) false (addSortAboveWithCheck ks f (freed t))) t
+cascade ks f t = cond (leb (fact t .streams) 1) (over (mergeOp ks f) false (addSortAboveWithCheck ks f (withoutSelf t))) t
 
 abbrev pub parallelBy : Shape → Tree → Tree
 parallelBy (aSort p ks f) t = cascade ks f t
 parallelBy (aMerge ks f) t = cascade ks f t
 parallelBy (aRepartition p n h ks) t = t
-parallelBy (aCoalesce f) t = over (coalesce f) false (freed t)
+parallelBy (aCoalesce f) t = over (coalesce f) false (withoutSelf t)
 parallelBy another t = t
 
 -- "if the first child has no connection, we can return immediately"

@@ -129,13 +129,13 @@ tryPushdownRequirementsToJoin o t F L R parent ks s =
     (sideOrder s (dropRepeats [] ks) (wanted o))
 
 -- 01: "isize offsets for the right side": every column of the right side is at or above the offset
-abbrev pub backBy : ℕ → List Key → List Key
-backBy off ks = map (atColumn (λ c. c - off)) ks
+abbrev pub addOffsetToPhysicalSortExprs : ℕ → List Key → List Key
+addOffsetToPhysicalSortExprs off ks = map (atColumn (λ c. c - off)) ks
 
 abbrev pub pushToSide : Op → JoinType → Facts → Facts → Facts → List Key → JoinSide → Pushed
 pushToSide o t F L R parent noSide = stop
 pushToSide o t F L R parent (leftSide ks) = tryPushdownRequirementsToJoin o t F L R parent ks 0
-pushToSide o t F L R parent (rightSide ks) = tryPushdownRequirementsToJoin o t F L R parent (backBy (F .width - R .width) ks) 1
+pushToSide o t F L R parent (rightSide ks) = tryPushdownRequirementsToJoin o t F L R parent (addOffsetToPhysicalSortExprs (F .width - R .width) ks) 1
 
 -- ---- pushdown_would_violate_requirements
 
@@ -158,7 +158,7 @@ onRight ks (suc i) = ks
 abbrev pub handleHashJoin : Op → Facts → List Facts → List Key → Pushed
 handleHashJoin o F fs parent =
     let off : ℕ = F .width - at1 fs .width in
-    goIf (maintains o fs 1 && every (λ k. leb off (k .col)) parent) (onRight (backBy off parent))
+    goIf (maintains o fs 1 && every (λ k. leb off (k .col)) parent) (onRight (addOffsetToPhysicalSortExprs off parent))
 
 -- ---- handle_custom_pushdown: limits and kind 13 are left, whose one child is maintained and has the same columns
 

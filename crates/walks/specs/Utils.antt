@@ -11,14 +11,11 @@ use Rattle.semantics.specs.Facts.{Facts, met}
 use Rattle.semantics.specs.Properties.{isSingle, freshKeys}
 use Rattle.walks.specs.Marks.{cover, coverWith, fact, PlanContext, Tree}
 
--- ---- is_sort, is_union, is_sort_preserving_merge, is_coalesce_partitions, is_repartition; is_limit is isLimit of Properties.
--- is_window is not kept: 01 has no windows
+-- ---- is_sort, is_sort_preserving_merge, is_coalesce_partitions, is_repartition; is_limit is isLimit of Properties.
+-- is_window is not kept: 01 has no windows; nor is is_union, which nothing here asks
 
 abbrev pub isSort : Op → Bool
 isSort o = eqb (code o) 7
-
-abbrev pub isUnion : Op → Bool
-isUnion o = eqb (code o) 4
 
 abbrev pub isSortPreservingMerge : Op → Bool
 isSortPreservingMerge o = eqb (code o) 8

@@ -3,7 +3,7 @@
 use libc::STDOUT_FILENO;
 
 // What the export answers, and what it leaves in the lent number.
-struct Answer {
+struct Checked {
     number: u32,
     passes: u32,
 }
@@ -12,23 +12,23 @@ fn put(text: &[u8]) {
     io::write_all(STDOUT_FILENO, text);
 }
 
-fn check(plan: &[u8]) -> Answer {
+fn check(plan: &[u8]) -> Checked {
     let mut passes = 0;
     let number = sort_placement::check_order(plan, &mut passes);
-    Answer {
+    Checked {
         number: number,
         passes: passes,
     }
 }
 
 // The answer for the open file. There is room for more than a plan file may have: so one that is too long is read whole.
-fn check_file(fd: i32) -> Answer {
+fn check_file(fd: i32) -> Checked {
     let mut file = [0u8; 10240];
     let n = io::read_full(fd, &mut file);
     check(&file[..n])
 }
 
-fn put_refusal(answer: Answer) {
+fn put_refusal(answer: Checked) {
     if answer.number == 0 {
         put(b"accepted");
     } else {
@@ -36,7 +36,7 @@ fn put_refusal(answer: Answer) {
     }
 }
 
-fn put_met(answer: Answer) {
+fn put_met(answer: Checked) {
     if answer.passes == 1 {
         put(b", met");
     } else {

@@ -1,12 +1,12 @@
 use native.Mathlib.Omega.{arith}
 use Prim.Native.Nat.{_-_}
 use lib.ListN.{length}
-use Rattle.ensure_sorting.specs.Step.{Copied, copied-none, copied-more, copied-all}
+use Rattle.ensure_sorting.specs.Step.{KeysCopied, copied-none, copied-more, copied-all}
 use Rattle.ensure_sorting.proofs.copied.Statement.{statement}
 use Rattle.ensure_sorting.proofs.copied.Tie as tie
 
 abbrev Inv-loop : tie.InvT-loop
-Inv-loop ks out₀ j₀ out j = Copied ks j out
+Inv-loop ks out₀ j₀ out j = KeysCopied ks j out
 
 abbrev μ-loop : tie.MeasureT-loop
 μ-loop ks out₀ j₀ out j = length ks - j

@@ -1,7 +1,7 @@
 use borrow.Author.Needs.{needs}
 use mathlib.Core.Path.{refl, sym, ap, _∙_}
 use Rattle.plan.specs.Numbers.{numberOf}
-use Rattle.plan_arena.specs.Answers.{refusedWith, few-blocks, fillable, is-accepted}
+use Rattle.plan_arena.specs.ReadFile.{refusedWith, few-blocks, fillable, is-accepted}
 use Rattle.plan_arena.proofs.read.Statement.{statement}
 use Rattle.plan_arena.proofs.read.Tie as tie
 

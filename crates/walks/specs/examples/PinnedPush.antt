@@ -142,12 +142,12 @@ opened c = record { col = c; desc = false; first = true }
 abbrev asking : Plan → Plan
 asking f = on (outputRequirement (opened 0 ∷ opened 1 ∷ opened 2 ∷ []) Single (AtMost 3)) f
 
-abbrev keyed : Plan
-keyed = on (outputRequirement (up 0 ∷ opened 2 ∷ []) (Keyed 1) Unlimited) (tree (sourceOf 3 2 5 [] false) none none)
+abbrev keyedRequirement : Plan
+keyedRequirement = on (outputRequirement (up 0 ∷ opened 2 ∷ []) (Keyed 1) Unlimited) (tree (sourceOf 3 2 5 [] false) none none)
 
 pub push-options-compared :
-    pushed (asking keyed)
-    ≡ answered (asking (stack (mergeOp (opened 1 ∷ []) Unlimited ∷ sortOp true (opened 1 ∷ []) Unlimited ∷ []) keyed))
+    pushed (asking keyedRequirement)
+    ≡ answered (asking (stack (mergeOp (opened 1 ∷ []) Unlimited ∷ sortOp true (opened 1 ∷ []) Unlimited ∷ []) keyedRequirement))
 push-options-compared = refl
 
 -- ---- sorts that go

@@ -24,7 +24,7 @@ use Rattle.arena.proofs.record_at.Reads as record-at-reads
 use Rattle.node_properties.proofs.wants_single.Reads as wants-single-reads
 use Rattle.parallelize_sorts.proofs.bottlenecks.lift_first.Reads as lift-first-reads
 use Rattle.parallelize_sorts.proofs.bottlenecks.removes_first.Reads as removes-first-reads
-use Rattle.parallelize_sorts.proofs.bottlenecks.settle.Reads as settle-reads
+use Rattle.parallelize_sorts.proofs.bottlenecks.without_idle.Reads as without-idle-reads
 use Rattle.plan_context.proofs.handles.is_marked.Reads as is-marked-reads
 use Rattle.parallelize_sorts.proofs.bottlenecks.+remove_bottleneck_in_subplan_impl.{statement}
 use Rattle.parallelize_sorts.proofs.bottlenecks.+remove_bottleneck_in_subplan_impl.Tie.{close}
@@ -47,7 +47,7 @@ abbrev μ-loop : lts.MeasureT-loop
 -- what the calls ask and give
 abbrev calls : ℕ → lts.Claims
 calls t =
-    (is-marked-reads.Asked, is-marked-reads.Learnt, record-at-reads.Asked, record-at-reads.Learnt, read64-reads.Asked, read64-reads.Learnt, removes-first-reads.Asked, removes-first-reads.Learnt, lift-first-reads.Asked, lift-first-reads.Learnt, child-count-reads.Asked, child-count-reads.Learnt, child-reads.Asked, child-reads.Learnt, wants-single-reads.Asked, wants-single-reads.Learnt, below t, reads.Post, settle-reads.Asked, settle-reads.Learnt)
+    (is-marked-reads.Asked, is-marked-reads.Learnt, record-at-reads.Asked, record-at-reads.Learnt, read64-reads.Asked, read64-reads.Learnt, removes-first-reads.Asked, removes-first-reads.Learnt, lift-first-reads.Asked, lift-first-reads.Learnt, child-count-reads.Asked, child-count-reads.Learnt, child-reads.Asked, child-reads.Learnt, wants-single-reads.Asked, wants-single-reads.Learnt, below t, reads.Post, without-idle-reads.Asked, without-idle-reads.Learnt)
 
 is-marked-requires : (t : ℕ) → lts.Need-is-marked-requires (calls t) (given t) reads.Post Inv-loop μ-loop
 is-marked-requires t c κs = search needs
@@ -112,23 +112,23 @@ loop-less t c = let x = (c .before .before .before .before .before .before .befo
 loop-again : (t : ℕ) → lts.Need-loop-again (calls t) (given t) reads.Post Inv-loop μ-loop
 loop-again t c = let i₀ = (c .before .before .before .before .before .before .before .before .before .loop) .inv .0 in let i₁ = (c .before .before .before .before .before .before .before .before .before .loop) .inv .1 in let x = (c .before .before .before .before .before .before .before .before .loop-test) .taken in (i₀, omega arith, going-more ((c .before .before .before .before .before .before .before .before .before .before .before .before .before .before .before .before .before .before .before .before .before .before) .args .m .now) ((c .before .before .before .before .before .before .before .before .before .before .before .before .before .before .before .before .before .before .before .before .before .before) .args .u) ((c .before .before .before .before .before .before .before .before .before .before .before .before .before .before .before .before .before .before .before .before .before .before) .args .h) ((c .before .before .before .before .before .before .before .before .before .before .before .before .before .before .before .before .before .before .before .before .before .before) .pre .1) ((c .before .before .before .before .before .before .before .before .before .loop) .j) ((c .before .before .before .before .before .before .before .before .before .loop) .w) ((c .before .before .before .before .before .before .before .before .before .loop) .kids) ((c .before .before .before .before .before .before .before .before .before .loop) .m) ((c .before .before .before .before .before .before .before .before .before .loop) .inv .2) (omega arith) ((c .before .before .before .before .before .before .child) .result) ((c .before .before .before .before .before .before .child) .ensures) _ ((c .before .before .before .before .before .before .before .before .before .before .before .before .before .before .before .before .read64) .ensures ∙ (c .before .before .before .before .before .before .before .before .before .before .before .before .before .before .before .before .before .record-at) .ensures) ((c .before .before .before .before .wants-single) .result) ((c .before .before .before .before .wants-single) .ensures) _ ((c .before .before .remove-bottleneck-in-subplan-impl) .kept .0) ((c .before .before .remove-bottleneck-in-subplan-impl) .result) ((c .before .before .remove-bottleneck-in-subplan-impl) .ensures))
 
-slice-aggregate-settle : (t : ℕ) → lts.Need-slice-aggregate-settle (calls t) (given t) reads.Post Inv-loop μ-loop
-slice-aggregate-settle t c = search needs
+slice-aggregate-without-idle : (t : ℕ) → lts.Need-slice-aggregate-without-idle (calls t) (given t) reads.Post Inv-loop μ-loop
+slice-aggregate-without-idle t c = search needs
 
 array-share-prefix-kids : (t : ℕ) → lts.Need-array-share-prefix-kids (calls t) (given t) reads.Post Inv-loop μ-loop
 array-share-prefix-kids t c = let i₀ = (c .before .before .before .loop) .inv .0 in let i₁ = (c .before .before .before .loop) .inv .1 in let f = few-kids ((c .before .before .before .before .before .before .before .before .before .before .before .before .before .before .before .before) .args .m .now) ((c .before .before .before .before .before .before .before .before .before .before .before .before .before .before .before .before) .args .u) ((c .before .before .before .before .before .before .before .before .before .before .before .before .before .before .before .before) .args .h) ((c .before .before .before .before .before .before .before .before .before .before .before .before .before .before .before .before) .pre .1) ((c .before .before .before .loop) .j) ((c .before .before .before .loop) .w) ((c .before .before .before .loop) .kids) ((c .before .before .before .loop) .m) ((c .before .before .before .loop) .inv .2) in let f₀ = f .0 in let f₁ = f .1 in let wd = (c .before .before .before .loop) .inv .2 .made .wide in let x = (c .before .before .loop-test) .left in omega arith
 
-slice-aggregate-settle-2 : (t : ℕ) → lts.Need-slice-aggregate-settle-2 (calls t) (given t) reads.Post Inv-loop μ-loop
-slice-aggregate-settle-2 t c = let i₀ = (c .before .before .before .before .loop) .inv .0 in let i₁ = (c .before .before .before .before .loop) .inv .1 in let f = few-kids ((c .before .before .before .before .before .before .before .before .before .before .before .before .before .before .before .before .before) .args .m .now) ((c .before .before .before .before .before .before .before .before .before .before .before .before .before .before .before .before .before) .args .u) ((c .before .before .before .before .before .before .before .before .before .before .before .before .before .before .before .before .before) .args .h) ((c .before .before .before .before .before .before .before .before .before .before .before .before .before .before .before .before .before) .pre .1) ((c .before .before .before .before .loop) .j) ((c .before .before .before .before .loop) .w) ((c .before .before .before .before .loop) .kids) ((c .before .before .before .before .loop) .m) ((c .before .before .before .before .loop) .inv .2) in let f₀ = f .0 in let f₁ = f .1 in let wd = (c .before .before .before .before .loop) .inv .2 .made .wide in let x = (c .before .before .before .loop-test) .left in sym (length-take-le _ ((c .before .before .before .before .loop) .kids) (omega arith))
+slice-aggregate-without-idle-2 : (t : ℕ) → lts.Need-slice-aggregate-without-idle-2 (calls t) (given t) reads.Post Inv-loop μ-loop
+slice-aggregate-without-idle-2 t c = let i₀ = (c .before .before .before .before .loop) .inv .0 in let i₁ = (c .before .before .before .before .loop) .inv .1 in let f = few-kids ((c .before .before .before .before .before .before .before .before .before .before .before .before .before .before .before .before .before) .args .m .now) ((c .before .before .before .before .before .before .before .before .before .before .before .before .before .before .before .before .before) .args .u) ((c .before .before .before .before .before .before .before .before .before .before .before .before .before .before .before .before .before) .args .h) ((c .before .before .before .before .before .before .before .before .before .before .before .before .before .before .before .before .before) .pre .1) ((c .before .before .before .before .loop) .j) ((c .before .before .before .before .loop) .w) ((c .before .before .before .before .loop) .kids) ((c .before .before .before .before .loop) .m) ((c .before .before .before .before .loop) .inv .2) in let f₀ = f .0 in let f₁ = f .1 in let wd = (c .before .before .before .before .loop) .inv .2 .made .wide in let x = (c .before .before .before .loop-test) .left in sym (length-take-le _ ((c .before .before .before .before .loop) .kids) (omega arith))
 
-settle-requires : (t : ℕ) → lts.Need-settle-requires (calls t) (given t) reads.Post Inv-loop μ-loop
-settle-requires t c κs = let i₀ = (c .before .before .before .before .loop) .inv .0 in let i₁ = (c .before .before .before .before .loop) .inv .1 in let x = (c .before .before .before .loop-test) .left in end-puts ((c .before .before .before .before .before .before .before .before .before .before .before .before .before .before .before .before .before) .args .m .now) ((c .before .before .before .before .before .before .before .before .before .before .before .before .before .before .before .before .before) .args .u) ((c .before .before .before .before .before .before .before .before .before .before .before .before .before .before .before .before .before) .args .h) ((c .before .before .before .before .before .before .before .before .before .before .before .before .before .before .before .before .before) .pre .1) ((c .before .before .before .before .loop) .j) ((c .before .before .before .before .loop) .w) ((c .before .before .before .before .loop) .kids) ((c .before .before .before .before .loop) .m) ((c .before .before .before .before .loop) .inv .2) _ (omega arith) i₀ _ ((c .before .before .before .before .before .before .before .before .before .before .before .read64) .ensures ∙ (c .before .before .before .before .before .before .before .before .before .before .before .before .record-at) .ensures)
+without-idle-requires : (t : ℕ) → lts.Need-without-idle-requires (calls t) (given t) reads.Post Inv-loop μ-loop
+without-idle-requires t c κs = let i₀ = (c .before .before .before .before .loop) .inv .0 in let i₁ = (c .before .before .before .before .loop) .inv .1 in let x = (c .before .before .before .loop-test) .left in end-puts ((c .before .before .before .before .before .before .before .before .before .before .before .before .before .before .before .before .before) .args .m .now) ((c .before .before .before .before .before .before .before .before .before .before .before .before .before .before .before .before .before) .args .u) ((c .before .before .before .before .before .before .before .before .before .before .before .before .before .before .before .before .before) .args .h) ((c .before .before .before .before .before .before .before .before .before .before .before .before .before .before .before .before .before) .pre .1) ((c .before .before .before .before .loop) .j) ((c .before .before .before .before .loop) .w) ((c .before .before .before .before .loop) .kids) ((c .before .before .before .before .loop) .m) ((c .before .before .before .before .loop) .inv .2) _ (omega arith) i₀ _ ((c .before .before .before .before .before .before .before .before .before .before .before .read64) .ensures ∙ (c .before .before .before .before .before .before .before .before .before .before .before .before .record-at) .ensures)
 
 same-length-2 : (t : ℕ) → lts.Need-same-length-2 (calls t) (given t) reads.Post Inv-loop μ-loop
-same-length-2 t c = (c .before .before .settle) .kept .0 ∙ (c .before .before .before .before .before .before .before .loop) .inv .2 .made .long
+same-length-2 t c = (c .before .before .without-idle) .kept .0 ∙ (c .before .before .before .before .before .before .before .loop) .inv .2 .made .long
 
 returns-3 : (t : ℕ) → lts.Need-returns-3 (calls t) (given t) reads.Post Inv-loop μ-loop
-returns-3 t c = let i₀ = (c .before .before .before .before .before .before .before .loop) .inv .0 in let i₁ = (c .before .before .before .before .before .before .before .loop) .inv .1 in let x = (c .before .before .before .before .before .before .loop-test) .left in end-grown ((c .before .before .before .before .before .before .before .before .before .before .before .before .before .before .before .before .before .before .before .before) .args .m .now) ((c .before .before .before .before .before .before .before .before .before .before .before .before .before .before .before .before .before .before .before .before) .args .u) ((c .before .before .before .before .before .before .before .before .before .before .before .before .before .before .before .before .before .before .before .before) .args .h) ((c .before .before .before .before .before .before .before .before .before .before .before .before .before .before .before .before .before .before .before .before) .pre .1) ((c .before .before .before .before .before .before .before .loop) .j) ((c .before .before .before .before .before .before .before .loop) .w) ((c .before .before .before .before .before .before .before .loop) .kids) ((c .before .before .before .before .before .before .before .loop) .m) ((c .before .before .before .before .before .before .before .loop) .inv .2) _ (omega arith) i₀ _ ((c .before .before .before .before .before .before .before .before .before .before .before .before .before .before .read64) .ensures ∙ (c .before .before .before .before .before .before .before .before .before .before .before .before .before .before .before .record-at) .ensures) ((c .before .before .before .before .before .before .before .before .before .before .before .before .before .before .before .before .before .before .before .before) .args .removable) (others ((c .before .before .before .before .before .before .before .before .before .before .before .before .before .before .before .before .before .before .before .before) .args .m .now) ((c .before .before .before .before .before .before .before .before .before .before .before .before .before .before .before .before .before .before .before .before) .args .u) ((c .before .before .before .before .before .before .before .before .before .before .before .before .before .before .before .before .before .before .before .before) .args .h) ((c .before .before .before .before .before .before .before .before .before .before .before .before .before .before .before .before .before .before .before .before) .pre .1) ((c .before .before .before .before .before .before .before .before .before .before .before .before .before .before .before .before .before .before .before .before) .args .removable) (sym (ap (λ b. b && (c .before .before .before .before .before .before .before .before .before .before .before .before .before .before .before .before .before .before .before .before) .args .removable) ((c .before .before .before .before .before .before .before .before .before .before .before .before .before .before .before .before .before .before .is-marked) .ensures)) ∙ not-false _ ((c .before .before .before .before .before .before .before .before .before .before .before .before .before .before .before .before .before .if1) .left)) ((c .before .before .before .before .before .before .before .before .before .before .before .removes-first) .result) ((c .before .before .before .before .before .before .before .before .before .before .before .removes-first) .ensures) ((c .before .before .before .before .before .before .before .before .before .before .if2) .left)) _ ((c .before .before .settle) .result) ((c .before .before .settle) .ensures)
+returns-3 t c = let i₀ = (c .before .before .before .before .before .before .before .loop) .inv .0 in let i₁ = (c .before .before .before .before .before .before .before .loop) .inv .1 in let x = (c .before .before .before .before .before .before .loop-test) .left in end-grown ((c .before .before .before .before .before .before .before .before .before .before .before .before .before .before .before .before .before .before .before .before) .args .m .now) ((c .before .before .before .before .before .before .before .before .before .before .before .before .before .before .before .before .before .before .before .before) .args .u) ((c .before .before .before .before .before .before .before .before .before .before .before .before .before .before .before .before .before .before .before .before) .args .h) ((c .before .before .before .before .before .before .before .before .before .before .before .before .before .before .before .before .before .before .before .before) .pre .1) ((c .before .before .before .before .before .before .before .loop) .j) ((c .before .before .before .before .before .before .before .loop) .w) ((c .before .before .before .before .before .before .before .loop) .kids) ((c .before .before .before .before .before .before .before .loop) .m) ((c .before .before .before .before .before .before .before .loop) .inv .2) _ (omega arith) i₀ _ ((c .before .before .before .before .before .before .before .before .before .before .before .before .before .before .read64) .ensures ∙ (c .before .before .before .before .before .before .before .before .before .before .before .before .before .before .before .record-at) .ensures) ((c .before .before .before .before .before .before .before .before .before .before .before .before .before .before .before .before .before .before .before .before) .args .removable) (others ((c .before .before .before .before .before .before .before .before .before .before .before .before .before .before .before .before .before .before .before .before) .args .m .now) ((c .before .before .before .before .before .before .before .before .before .before .before .before .before .before .before .before .before .before .before .before) .args .u) ((c .before .before .before .before .before .before .before .before .before .before .before .before .before .before .before .before .before .before .before .before) .args .h) ((c .before .before .before .before .before .before .before .before .before .before .before .before .before .before .before .before .before .before .before .before) .pre .1) ((c .before .before .before .before .before .before .before .before .before .before .before .before .before .before .before .before .before .before .before .before) .args .removable) (sym (ap (λ b. b && (c .before .before .before .before .before .before .before .before .before .before .before .before .before .before .before .before .before .before .before .before) .args .removable) ((c .before .before .before .before .before .before .before .before .before .before .before .before .before .before .before .before .before .before .is-marked) .ensures)) ∙ not-false _ ((c .before .before .before .before .before .before .before .before .before .before .before .before .before .before .before .before .before .if1) .left)) ((c .before .before .before .before .before .before .before .before .before .before .before .removes-first) .result) ((c .before .before .before .before .before .before .before .before .before .before .before .removes-first) .ensures) ((c .before .before .before .before .before .before .before .before .before .before .if2) .left)) _ ((c .before .before .without-idle) .result) ((c .before .before .without-idle) .ensures)
 
 pub +remove-bottleneck-in-subplan-impl-spec : {M : Type 1} → statement M
 +remove-bottleneck-in-subplan-impl-spec =
@@ -159,9 +159,9 @@ pub +remove-bottleneck-in-subplan-impl-spec : {M : Type 1} → statement M
     (add-j t)
     (loop-less t)
     (loop-again t)
-    (slice-aggregate-settle t)
+    (slice-aggregate-without-idle t)
     (array-share-prefix-kids t)
-    (slice-aggregate-settle-2 t)
-    (settle-requires t)
+    (slice-aggregate-without-idle-2 t)
+    (without-idle-requires t)
     (same-length-2 t)
     (returns-3 t)

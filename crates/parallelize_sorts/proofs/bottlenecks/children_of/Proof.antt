@@ -5,7 +5,7 @@ use lib.ListN.{length, take, length-set}
 use lib.Seq.{take-length}
 use Rattle.arena.specs.Arena.{slot}
 use Rattle.parallelize_sorts.specs.Shown.{view, room, kid-asks}
-use Rattle.parallelize_sorts.specs.Settling.{copied-more}
+use Rattle.parallelize_sorts.specs.IdleNodes.{copied-more}
 use Rattle.parallelize_sorts.proofs.bottlenecks.children_of.Statement.{statement}
 use Rattle.parallelize_sorts.proofs.bottlenecks.children_of.Tie as tie
 

@@ -1,7 +1,7 @@
 use borrow.Author.Needs.{needs}
 use mathlib.Core.Path.{sym}
 use lib.Seq.{length-take-le}
-use Rattle.parallelize_sorts.specs.Settling.{node-older, lift-asks, lift-proper, lift-skips, few-wide, lift-puts, lift-grown}
+use Rattle.parallelize_sorts.specs.IdleNodes.{node-older, lift-asks, lift-proper, lift-skips, few-wide, lift-puts, lift-grown}
 use Rattle.parallelize_sorts.proofs.bottlenecks.lift_first.Statement.{statement}
 use Rattle.parallelize_sorts.proofs.bottlenecks.lift_first.Tie as tie
 
@@ -23,17 +23,17 @@ array-write-kids c = search needs
 array-share-prefix-kids : tie.Need-array-share-prefix-kids
 array-share-prefix-kids c = few-wide ((c .before .before .before .before .before .before .before .before .before .before .before) .args .m .now) ((c .before .before .before .before .before .before .before .before .before .before .before) .args .u) ((c .before .before .before .before .before .before .before .before .before .before .before) .args .i) ((c .before .before .before .before .before .before .before .before .before .before .before) .args .r .now) ((c .before .before .before .before .before .before .before .before .before .before .before) .pre) ((c .before .before .before .children-of) .result) ((c .before .before .before .children-of) .ensures .0) ((c .before .before .before .children-of) .ensures .1) ((c .before .before .before .before .before .child) .result) ((c .before .before .before .before .before .child) .ensures) ((c .before .skip-same) .result) ((c .before .skip-same) .ensures) ((c .before .before .before .before .before .before .before .child-count) .result) ((c .before .before .before .before .before .before .before .child-count) .ensures)
 
-slice-aggregate-settle : tie.Need-slice-aggregate-settle
-slice-aggregate-settle c = sym (length-take-le _ _ (few-wide ((c .before .before .before .before .before .before .before .before .before .before .before .before) .args .m .now) ((c .before .before .before .before .before .before .before .before .before .before .before .before) .args .u) ((c .before .before .before .before .before .before .before .before .before .before .before .before) .args .i) ((c .before .before .before .before .before .before .before .before .before .before .before .before) .args .r .now) ((c .before .before .before .before .before .before .before .before .before .before .before .before) .pre) ((c .before .before .before .before .children-of) .result) ((c .before .before .before .before .children-of) .ensures .0) ((c .before .before .before .before .children-of) .ensures .1) ((c .before .before .before .before .before .before .child) .result) ((c .before .before .before .before .before .before .child) .ensures) ((c .before .before .skip-same) .result) ((c .before .before .skip-same) .ensures) ((c .before .before .before .before .before .before .before .before .child-count) .result) ((c .before .before .before .before .before .before .before .before .child-count) .ensures)))
+slice-aggregate-without-idle : tie.Need-slice-aggregate-without-idle
+slice-aggregate-without-idle c = sym (length-take-le _ _ (few-wide ((c .before .before .before .before .before .before .before .before .before .before .before .before) .args .m .now) ((c .before .before .before .before .before .before .before .before .before .before .before .before) .args .u) ((c .before .before .before .before .before .before .before .before .before .before .before .before) .args .i) ((c .before .before .before .before .before .before .before .before .before .before .before .before) .args .r .now) ((c .before .before .before .before .before .before .before .before .before .before .before .before) .pre) ((c .before .before .before .before .children-of) .result) ((c .before .before .before .before .children-of) .ensures .0) ((c .before .before .before .before .children-of) .ensures .1) ((c .before .before .before .before .before .before .child) .result) ((c .before .before .before .before .before .before .child) .ensures) ((c .before .before .skip-same) .result) ((c .before .before .skip-same) .ensures) ((c .before .before .before .before .before .before .before .before .child-count) .result) ((c .before .before .before .before .before .before .before .before .child-count) .ensures)))
 
-settle-requires : tie.Need-settle-requires
-settle-requires c κs = (lift-puts ((c .before .before .before .before .before .before .before .before .before .before .before .before) .args .m .now) ((c .before .before .before .before .before .before .before .before .before .before .before .before) .args .u) ((c .before .before .before .before .before .before .before .before .before .before .before .before) .args .i) ((c .before .before .before .before .before .before .before .before .before .before .before .before) .args .r .now) ((c .before .before .before .before .before .before .before .before .before .before .before .before) .pre) ((c .before .before .before .before .children-of) .result) ((c .before .before .before .before .children-of) .ensures .0) ((c .before .before .before .before .children-of) .ensures .1) ((c .before .before .before .before .before .before .child) .result) ((c .before .before .before .before .before .before .child) .ensures) ((c .before .before .skip-same) .result) ((c .before .before .skip-same) .ensures) ((c .before .before .before .before .before .before .before .before .child-count) .result) ((c .before .before .before .before .before .before .before .before .child-count) .ensures), (c .before .before .before .before .before .before .before .before .before .before .before .before) .pre .low)
+without-idle-requires : tie.Need-without-idle-requires
+without-idle-requires c κs = (lift-puts ((c .before .before .before .before .before .before .before .before .before .before .before .before) .args .m .now) ((c .before .before .before .before .before .before .before .before .before .before .before .before) .args .u) ((c .before .before .before .before .before .before .before .before .before .before .before .before) .args .i) ((c .before .before .before .before .before .before .before .before .before .before .before .before) .args .r .now) ((c .before .before .before .before .before .before .before .before .before .before .before .before) .pre) ((c .before .before .before .before .children-of) .result) ((c .before .before .before .before .children-of) .ensures .0) ((c .before .before .before .before .children-of) .ensures .1) ((c .before .before .before .before .before .before .child) .result) ((c .before .before .before .before .before .before .child) .ensures) ((c .before .before .skip-same) .result) ((c .before .before .skip-same) .ensures) ((c .before .before .before .before .before .before .before .before .child-count) .result) ((c .before .before .before .before .before .before .before .before .child-count) .ensures), (c .before .before .before .before .before .before .before .before .before .before .before .before) .pre .low)
 
 same-length : tie.Need-same-length
 same-length c = search needs
 
 returns : tie.Need-returns
-returns c = lift-grown ((c .before .before .before .before .before .before .before .before .before .before .before .before .before .before .before) .args .m .now) ((c .before .before .before .before .before .before .before .before .before .before .before .before .before .before .before) .args .u) ((c .before .before .before .before .before .before .before .before .before .before .before .before .before .before .before) .args .i) ((c .before .before .before .before .before .before .before .before .before .before .before .before .before .before .before) .args .r .now) ((c .before .before .before .before .before .before .before .before .before .before .before .before .before .before .before) .pre) ((c .before .before .before .before .before .before .before .children-of) .result) ((c .before .before .before .before .before .before .before .children-of) .ensures .0) ((c .before .before .before .before .before .before .before .children-of) .ensures .1) ((c .before .before .before .before .before .before .before .before .before .child) .result) ((c .before .before .before .before .before .before .before .before .before .child) .ensures) ((c .before .before .before .before .before .skip-same) .result) ((c .before .before .before .before .before .skip-same) .ensures) ((c .before .before .before .before .before .before .before .before .before .before .before .child-count) .result) ((c .before .before .before .before .before .before .before .before .before .before .before .child-count) .ensures) _ ((c .before .before .settle) .result) ((c .before .before .settle) .ensures)
+returns c = lift-grown ((c .before .before .before .before .before .before .before .before .before .before .before .before .before .before .before) .args .m .now) ((c .before .before .before .before .before .before .before .before .before .before .before .before .before .before .before) .args .u) ((c .before .before .before .before .before .before .before .before .before .before .before .before .before .before .before) .args .i) ((c .before .before .before .before .before .before .before .before .before .before .before .before .before .before .before) .args .r .now) ((c .before .before .before .before .before .before .before .before .before .before .before .before .before .before .before) .pre) ((c .before .before .before .before .before .before .before .children-of) .result) ((c .before .before .before .before .before .before .before .children-of) .ensures .0) ((c .before .before .before .before .before .before .before .children-of) .ensures .1) ((c .before .before .before .before .before .before .before .before .before .child) .result) ((c .before .before .before .before .before .before .before .before .before .child) .ensures) ((c .before .before .before .before .before .skip-same) .result) ((c .before .before .before .before .before .skip-same) .ensures) ((c .before .before .before .before .before .before .before .before .before .before .before .child-count) .result) ((c .before .before .before .before .before .before .before .before .before .before .before .child-count) .ensures) _ ((c .before .before .without-idle) .result) ((c .before .before .without-idle) .ensures)
 
 pub lift-first-spec : {M : Type 1} → statement M
 lift-first-spec =
@@ -45,7 +45,7 @@ lift-first-spec =
     skip-same-requires
     array-write-kids
     array-share-prefix-kids
-    slice-aggregate-settle
-    settle-requires
+    slice-aggregate-without-idle
+    without-idle-requires
     same-length
     returns)

@@ -5,7 +5,7 @@ use Rattle.semantics.specs.Properties.{singles}
 use Rattle.record_fields.specs.Proper.{Proper}
 use Rattle.walks.specs.ParallelizeSorts.{bottleneck}
 use Rattle.parallelize_sorts.specs.Shown.{room, node-proper, kid-asks, kid-older}
-use Rattle.parallelize_sorts.specs.Settling.{no-first, single-first, some-kid, looks-first}
+use Rattle.parallelize_sorts.specs.IdleNodes.{no-first, single-first, some-kid, looks-first}
 use Rattle.parallelize_sorts.proofs.bottlenecks.removes_first.Statement.{statement}
 use Rattle.parallelize_sorts.proofs.bottlenecks.removes_first.Tie as tie
 

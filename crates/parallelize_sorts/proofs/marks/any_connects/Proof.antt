@@ -5,12 +5,12 @@ use Prim.Native.Nat.{_≤_, _-_}
 use lib.ListN.{length}
 use Rattle.semantics.specs.Properties.{singles}
 use Rattle.plan_codec.specs.Decode.{decode}
-use Rattle.parallelize_sorts.specs.Connecting.{Passed, passed-none, passed-more, passed-found, passed-all}
+use Rattle.parallelize_sorts.specs.Connecting.{UnmarkedBefore, passed-none, passed-more, passed-found, passed-all}
 use Rattle.parallelize_sorts.proofs.marks.any_connects.Statement.{statement}
 use Rattle.parallelize_sorts.proofs.marks.any_connects.Tie as tie
 
 abbrev Inv-loop : tie.InvT-loop
-Inv-loop r ks j₀ j = (j ≤ length ks) × Passed (λ i. not (singles (decode r) i)) ks j
+Inv-loop r ks j₀ j = (j ≤ length ks) × UnmarkedBefore (λ i. not (singles (decode r) i)) ks j
 
 abbrev μ-loop : tie.MeasureT-loop
 μ-loop r ks j₀ j = length ks - j

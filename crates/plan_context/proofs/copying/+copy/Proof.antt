@@ -8,7 +8,7 @@ use Rattle.arena.specs.Arena.{slot}
 use Rattle.arena.specs.Keeping.{kept-long}
 use Rattle.walks.specs.Marks.{sizeT}
 use Rattle.plan_context.specs.View.{treeOf}
-use Rattle.plan_context.specs.Copy.{Copied, shown, copied-none, copied-next, copied-more, copied-puts, copied-says, copied-sums, copied-end}
+use Rattle.plan_context.specs.Copy.{ChildrenCopied, shown, copied-none, copied-next, copied-more, copied-puts, copied-says, copied-sums, copied-end}
 use Prim.Native.Nat.{ℕ, _<_}
 use borrow.Fn.Kinds.{In}
 use borrow.Fn.PlainCycle.{Measures, is, falls, and}
@@ -33,7 +33,7 @@ abbrev copy-below : ℕ → In 2 copy-kinds.ps
 copy-below t = and 2 copy-kinds.ps (falls 2 copy-kinds.ps _<_ μ-copy t) copy.Pre
 
 abbrev copy-Inv-loop : copy-lts.InvT-loop
-copy-Inv-loop a ua b₀ v h i n kids₀ w₀ j₀ b kids w j = (n ≡ children (slot a (h / 2) .rec)) × (j ≤ n) × Copied a h b₀ v j w kids b
+copy-Inv-loop a ua b₀ v h i n kids₀ w₀ j₀ b kids w j = (n ≡ children (slot a (h / 2) .rec)) × (j ≤ n) × ChildrenCopied a h b₀ v j w kids b
 
 abbrev copy-μ-loop : copy-lts.MeasureT-loop
 copy-μ-loop a ua b₀ v h i n kids₀ w₀ j₀ b kids w j = n - j

@@ -1,7 +1,7 @@
 use borrow.Author.Needs.{needs}
 use native.Mathlib.Omega.{arith}
 use mathlib.Core.Path.{sym, ap, _∙_, subst}
-use Rattle.semantics.specs.Check.{wants}
+use Rattle.semantics.specs.Check.{wantsMet}
 use Rattle.fact_slots.specs.Slots.{loaded}
 use Rattle.node_facts.specs.Ready.{kidsOf, Ready}
 use Rattle.row_facts.specs.Over.{Over as Rows}
@@ -85,7 +85,7 @@ same-length c = search needs
 returns : tie.Need-returns
 returns c = let s = c .before .before .before .before .before .before .before .before .before .before .before .before .before .before .before .before .before .before .before .before .before in let m = s .args .m .now in let i = s .args .i in let a = s .pre .0 in let e = c .before .before .before .before .before .before .before .before .before .before .before .before .before .before .before .before .before .read64 .ensures ∙ c .before .before .before .before .before .before .before .before .before .before .before .before .before .before .before .before .before .before .record-at .ensures in let r₁ = c .before .before .before .before .before .before .before .before .before .before .before .before .before .before .before .child-row in let r₂ = c .before .before .before .before .before .before .before .before .before .before .before .before .before .second-row in let k = c .before .before .keep-node in let w = c .before .before .before .before .before .before .before .before .before .wants-met in
     let f = subst (λ r. Says (sem.factsOp (decode r) (kidsOf r (loaded (r₁ .result)) (loaded (r₂ .result)))) (loaded (k .last .0))) e (k .ensures .0) in
-    settled-with m i a (s .args .s) (s .pre .3) _ e _ (inner-wants m (slot m i .rec) (slot m i .kids) (over-kids m i a) (s .pre .1) (r₁ .result) (r₂ .result) (r₁ .ensures .0) (r₂ .ensures .0) (r₁ .ensures .1) (r₂ .ensures .1) _ (w .ensures ∙ ap (λ r. wants (decode r) (kidsOf r (loaded (r₁ .result)) (loaded (r₂ .result)))) e)) _ (c .before .before .before .before .before .before .before .summed .ensures) (k .last .0) (k .kept .0 ∙ ap length (cut m (i * slotSize + keptFrom) keptSize) ∙ kept-long m i (a .room)) (inner-says m (slot m i .rec) (slot m i .kids) (over-kids m i a) (s .pre .1) (r₁ .result) (r₂ .result) (r₁ .ensures .0) (r₂ .ensures .0) (r₁ .ensures .1) (r₂ .ensures .1) _ f) (k .ensures .1)
+    settled-with m i a (s .args .s) (s .pre .3) _ e _ (inner-wants m (slot m i .rec) (slot m i .kids) (over-kids m i a) (s .pre .1) (r₁ .result) (r₂ .result) (r₁ .ensures .0) (r₂ .ensures .0) (r₁ .ensures .1) (r₂ .ensures .1) _ (w .ensures ∙ ap (λ r. wantsMet (decode r) (kidsOf r (loaded (r₁ .result)) (loaded (r₂ .result)))) e)) _ (c .before .before .before .before .before .before .before .summed .ensures) (k .last .0) (k .kept .0 ∙ ap length (cut m (i * slotSize + keptFrom) keptSize) ∙ kept-long m i (a .room)) (inner-says m (slot m i .rec) (slot m i .kids) (over-kids m i a) (s .pre .1) (r₁ .result) (r₂ .result) (r₁ .ensures .0) (r₂ .ensures .0) (r₁ .ensures .1) (r₂ .ensures .1) _ f) (k .ensures .1)
 
 pub settle-inner-spec : {M : Type 1} → statement M
 settle-inner-spec =

@@ -51,7 +51,3 @@ nf-all {Q = Q} cs low f seen (all-cons {x = k} {l = ks} p ps) = go (cs c || memb
     go : (b : Bool) → All Q (nfBy cs low seen ks) → All Q (nfBy cs low (c ∷ seen) ks) → All Q (cond b (nfBy cs low seen ks) (withColumn c k ∷ nfBy cs low (c ∷ seen) ks))
     go true ih _ = ih
     go false _ ih = all-cons (f k p) ih
-
--- a normal form stays in the list's columns: each of its keys is a key of the list, at its class's lowest
-pub nf-from : (cs : ℕ → Bool) (low : ℕ → ℕ) (seen : List ℕ) (ks : List Key) → All (λ k. (l : Key) × Mem l ks × (k ≡ withColumn (low (l .col)) l)) (nfBy cs low seen ks)
-nf-from cs low seen ks = nf-all cs low (λ l m. (l, m, refl)) seen (tabulate ks (λ l m. m))

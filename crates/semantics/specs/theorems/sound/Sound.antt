@@ -16,7 +16,7 @@ use Rattle.plan.specs.declared.JoinType.{JoinType}
 use Rattle.plan.specs.declared.JoinType.the-variants.{Inner, Left, Right, Full, LeftSemi, LeftAnti, RightSemi, RightAnti}
 use Rattle.semantics.specs.Facts.{Facts, cl, nf, ordered, nothing, sourceFacts, unionFacts, projFacts, keepsOrder, Kept, kLeft, kRight, kNone, smjKept, hashKept, byRight, joinBase, joinOrder, joinFacts, at0, at1, factsOp, facts}
 use Rattle.semantics.specs.Properties.{wanted, cuts}
-use Rattle.semantics.specs.Check.{wants, check}
+use Rattle.semantics.specs.Check.{wantsMet, check}
 use Rattle.semantics.specs.Joins.{Joined}
 use Rattle.semantics.specs.Runs.{Streams, Env, Each, each-nil, each-cons, Pair, zipLeft, zipRight, likeNumbered, withAll, in0, in1, Made, Run, run-none, run-tree, SourceOK, Sources}
 use Rattle.semantics.specs.Holds.{RowOK, Holds, AsMany, Wanted, nowhere, node, Good}
@@ -108,7 +108,7 @@ module _ (F G : Facts) {ls rs : Streams} (sl : All (Sorted (F .order)) ls) (sr :
   hash-kept l RightAnti = hash-right l
 
 -- ---- wanted orders
-met-wanted : (fs : List Facts) (css : List Streams) → Each Holds fs css → (o : Op) → wants o fs ≡ true → Wanted o css
+met-wanted : (fs : List Facts) (css : List Streams) → Each Holds fs css → (o : Op) → wantsMet o fs ≡ true → Wanted o css
 met-wanted fs css hs o e i = met-sorted (getD fs i nothing) (wanted o i) (child-holds hs i) (wants-met o fs e i)
 
 made-holds : (E : Env) (i j : ℕ) (o : Op) (fs : List Facts) (css : List Streams) (out : Streams) → SourceOK E i o → All Canon fs → Each AsMany fs css → Each Holds fs css → Wanted o css → Made E i j o fs css out → Holds (factsOp o fs) out

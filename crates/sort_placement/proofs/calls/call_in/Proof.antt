@@ -7,7 +7,7 @@ use Rattle.sort_placement.specs.Calls.{resultOf, CalledAs}
 use Rattle.plan.specs.Numbers.{numberOf}
 use lib.ListN.{length}
 use Rattle.plan_roundtrip.specs.Back.{AllBytes}
-use Rattle.plan_arena.specs.Answers.{is-accepted}
+use Rattle.plan_arena.specs.ReadFile.{is-accepted}
 use Rattle.sort_placement.specs.Calling.{file-refused, file-loads, file-called}
 use Rattle.sort_placement.proofs.calls.call_in.Statement.{statement}
 use Rattle.sort_placement.proofs.calls.call_in.Tie as tie

@@ -21,7 +21,7 @@ use Rattle.arena.proofs.child.Reads as child-reads
 use Rattle.arena.proofs.child_count.Reads as child-count-reads
 use Rattle.arena.proofs.read64.Reads as read64-reads
 use Rattle.arena.proofs.record_at.Reads as record-at-reads
-use Rattle.sort_removal.proofs.remove_corresponding_sort_from_sub_plan.gather.Reads as gather-reads
+use Rattle.sort_removal.proofs.remove_corresponding_sort_from_sub_plan.with_single_stream.Reads as with-single-stream-reads
 use Rattle.sort_removal.proofs.remove_corresponding_sort_from_sub_plan.remove_by.Reads as remove-by-reads
 use Rattle.sort_removal.proofs.remove_corresponding_sort_from_sub_plan.remove_sort.Reads as remove-sort-reads
 use Rattle.node_properties.proofs.is_sort.Reads as is-sort-reads
@@ -64,7 +64,7 @@ remove-corresponding-sort-from-sub-plan-below t =
 -- what the calls ask and give
 abbrev calls : ℕ → remove-corresponding-sort-from-sub-plan-lts.Claims
 calls t =
-    (is-marked-reads.Asked, is-marked-reads.Learnt, record-at-reads.Asked, record-at-reads.Learnt, read64-reads.Asked, read64-reads.Learnt, is-sort-reads.Asked, is-sort-reads.Learnt, remove-sort-reads.Asked, remove-sort-reads.Learnt, child-count-reads.Asked, child-count-reads.Learnt, child-reads.Asked, child-reads.Learnt, wants-single-reads.Asked, wants-single-reads.Learnt, remove-corresponding-sort-from-sub-plan-below t, remove-corresponding-sort-from-sub-plan.Post, remove-by-reads.Asked, remove-by-reads.Learnt, gather-reads.Asked, gather-reads.Learnt)
+    (is-marked-reads.Asked, is-marked-reads.Learnt, record-at-reads.Asked, record-at-reads.Learnt, read64-reads.Asked, read64-reads.Learnt, is-sort-reads.Asked, is-sort-reads.Learnt, remove-sort-reads.Asked, remove-sort-reads.Learnt, child-count-reads.Asked, child-count-reads.Learnt, child-reads.Asked, child-reads.Learnt, wants-single-reads.Asked, wants-single-reads.Learnt, remove-corresponding-sort-from-sub-plan-below t, remove-corresponding-sort-from-sub-plan.Post, remove-by-reads.Asked, remove-by-reads.Learnt, with-single-stream-reads.Asked, with-single-stream-reads.Learnt)
 
 abbrev remove-corresponding-sort-from-sub-plan-Inv-loop :
     remove-corresponding-sort-from-sub-plan-lts.InvT-loop
@@ -275,13 +275,13 @@ remove-corresponding-sort-from-sub-plan-remove-by-requires :
     remove-corresponding-sort-from-sub-plan-μ-loop
 remove-corresponding-sort-from-sub-plan-remove-by-requires t c κs = let s = c .before .before .before .before .before .before .before .before .before .before .before .before .before .before .before .before in let l = c .before .before .before .before .loop in let i₀ = l .inv .0 in let i₁ = l .inv .1 in let x = c .before .before .before .loop-test .left in (going-rems (s .args .m .now) (s .args .u) (s .args .h) (s .pre .1) (l .j) (l .w) (l .kids) (l .m) (l .inv .2) _ (omega arith) i₀, (c .before .before .before .before .before .before .before .before .before .before .read64 .ensures ∙ c .before .before .before .before .before .before .before .before .before .before .before .record-at .ensures) ∙ ap (λ k. k .rec) (sym (same-slot (s .args .m .now) (s .args .u) (s .args .h) (s .pre .1) (l .j) (l .w) (l .kids) (l .m) (l .inv .2))), not-code (decode (c .before .before .before .before .before .before .before .before .before .before .read64 .result)) 7 _ (c .before .before .before .before .before .before .before .before .is-sort .ensures) (c .before .before .before .before .before .before .before .if2 .left))
 
-remove-corresponding-sort-from-sub-plan-gather-requires :
-    (t : ℕ) → remove-corresponding-sort-from-sub-plan-lts.Need-gather-requires (calls t)
+remove-corresponding-sort-from-sub-plan-with-single-stream-requires :
+    (t : ℕ) → remove-corresponding-sort-from-sub-plan-lts.Need-with-single-stream-requires (calls t)
     (remove-corresponding-sort-from-sub-plan-at t)
     remove-corresponding-sort-from-sub-plan.Post
     remove-corresponding-sort-from-sub-plan-Inv-loop
     remove-corresponding-sort-from-sub-plan-μ-loop
-remove-corresponding-sort-from-sub-plan-gather-requires t c κs = let s = c .before .before .before .before .before .before .before .before .before .before .before .before .before .before .before .before .before .before .before .before .before in let l = c .before .before .before .before .before .before .before .before .before .loop in let i₀ = l .inv .0 in let i₁ = l .inv .1 in let x = c .before .before .before .before .before .before .before .before .loop-test .left in end-asks (s .args .m .now) (s .args .u) (s .args .h) (s .pre .1) (l .j) (l .w) (l .kids) (l .m) (l .inv .2) _ (omega arith) i₀ (s .args .single) (sym (c .before .before .before .before .before .before .before .before .before .before .before .before .before .before .before .before .before .before .before .is-marked .ensures) ∙ not-false _ (c .before .before .before .before .before .before .before .before .before .before .before .before .before .before .before .before .before .before .if1 .left)) _ (c .before .before .before .before .remove-by .kept .0) (c .before .before .before .before .remove-by .result) (c .before .before .before .before .remove-by .ensures)
+remove-corresponding-sort-from-sub-plan-with-single-stream-requires t c κs = let s = c .before .before .before .before .before .before .before .before .before .before .before .before .before .before .before .before .before .before .before .before .before in let l = c .before .before .before .before .before .before .before .before .before .loop in let i₀ = l .inv .0 in let i₁ = l .inv .1 in let x = c .before .before .before .before .before .before .before .before .loop-test .left in end-asks (s .args .m .now) (s .args .u) (s .args .h) (s .pre .1) (l .j) (l .w) (l .kids) (l .m) (l .inv .2) _ (omega arith) i₀ (s .args .single) (sym (c .before .before .before .before .before .before .before .before .before .before .before .before .before .before .before .before .before .before .before .is-marked .ensures) ∙ not-false _ (c .before .before .before .before .before .before .before .before .before .before .before .before .before .before .before .before .before .before .if1 .left)) _ (c .before .before .before .before .remove-by .kept .0) (c .before .before .before .before .remove-by .result) (c .before .before .before .before .remove-by .ensures)
 
 remove-corresponding-sort-from-sub-plan-same-length-2 :
     (t : ℕ) → remove-corresponding-sort-from-sub-plan-lts.Need-same-length-2 (calls t)
@@ -289,7 +289,7 @@ remove-corresponding-sort-from-sub-plan-same-length-2 :
     remove-corresponding-sort-from-sub-plan.Post
     remove-corresponding-sort-from-sub-plan-Inv-loop
     remove-corresponding-sort-from-sub-plan-μ-loop
-remove-corresponding-sort-from-sub-plan-same-length-2 t c = c .before .before .gather .kept .0 ∙ c .before .before .before .before .before .before .before .remove-by .kept .0 ∙ c .before .before .before .before .before .before .before .before .before .before .before .before .loop .inv .2 .made .long
+remove-corresponding-sort-from-sub-plan-same-length-2 t c = c .before .before .with-single-stream .kept .0 ∙ c .before .before .before .before .before .before .before .remove-by .kept .0 ∙ c .before .before .before .before .before .before .before .before .before .before .before .before .loop .inv .2 .made .long
 
 remove-corresponding-sort-from-sub-plan-returns-3 :
     (t : ℕ) → remove-corresponding-sort-from-sub-plan-lts.Need-returns-3 (calls t)
@@ -297,7 +297,7 @@ remove-corresponding-sort-from-sub-plan-returns-3 :
     remove-corresponding-sort-from-sub-plan.Post
     remove-corresponding-sort-from-sub-plan-Inv-loop
     remove-corresponding-sort-from-sub-plan-μ-loop
-remove-corresponding-sort-from-sub-plan-returns-3 t c = let s = c .before .before .before .before .before .before .before .before .before .before .before .before .before .before .before .before .before .before .before .before .before .before .before .before in let l = c .before .before .before .before .before .before .before .before .before .before .before .before .loop in let i₀ = l .inv .0 in let i₁ = l .inv .1 in let x = c .before .before .before .before .before .before .before .before .before .before .before .loop-test .left in going-end (s .args .m .now) (s .args .u) (s .args .h) (s .pre .1) (l .j) (l .w) (l .kids) (l .m) (l .inv .2) _ (omega arith) i₀ (s .args .single) (sym (c .before .before .before .before .before .before .before .before .before .before .before .before .before .before .before .before .before .before .before .before .before .before .is-marked .ensures) ∙ not-false _ (c .before .before .before .before .before .before .before .before .before .before .before .before .before .before .before .before .before .before .before .before .before .if1 .left)) _ (c .before .before .before .before .before .before .before .remove-by .kept .0) (c .before .before .before .before .before .before .before .remove-by .result) (c .before .before .before .before .before .before .before .remove-by .ensures) _ _ (c .before .before .gather .ensures)
+remove-corresponding-sort-from-sub-plan-returns-3 t c = let s = c .before .before .before .before .before .before .before .before .before .before .before .before .before .before .before .before .before .before .before .before .before .before .before .before in let l = c .before .before .before .before .before .before .before .before .before .before .before .before .loop in let i₀ = l .inv .0 in let i₁ = l .inv .1 in let x = c .before .before .before .before .before .before .before .before .before .before .before .loop-test .left in going-end (s .args .m .now) (s .args .u) (s .args .h) (s .pre .1) (l .j) (l .w) (l .kids) (l .m) (l .inv .2) _ (omega arith) i₀ (s .args .single) (sym (c .before .before .before .before .before .before .before .before .before .before .before .before .before .before .before .before .before .before .before .before .before .before .is-marked .ensures) ∙ not-false _ (c .before .before .before .before .before .before .before .before .before .before .before .before .before .before .before .before .before .before .before .before .before .if1 .left)) _ (c .before .before .before .before .before .before .before .remove-by .kept .0) (c .before .before .before .before .before .before .before .remove-by .result) (c .before .before .before .before .before .before .before .remove-by .ensures) _ _ (c .before .before .with-single-stream .ensures)
 
 pub +remove-corresponding-sort-from-sub-plan-spec : {M : Type 1} → statement M
 +remove-corresponding-sort-from-sub-plan-spec =
@@ -333,6 +333,6 @@ pub +remove-corresponding-sort-from-sub-plan-spec : {M : Type 1} → statement M
     (remove-corresponding-sort-from-sub-plan-array-borrow-prefix-kids t)
     (remove-corresponding-sort-from-sub-plan-slice-aggregate-remove-by-2 t)
     (remove-corresponding-sort-from-sub-plan-remove-by-requires t)
-    (remove-corresponding-sort-from-sub-plan-gather-requires t)
+    (remove-corresponding-sort-from-sub-plan-with-single-stream-requires t)
     (remove-corresponding-sort-from-sub-plan-same-length-2 t)
     (remove-corresponding-sort-from-sub-plan-returns-3 t)

@@ -7,12 +7,12 @@ use Rattle.arena.specs.Arena.{index, slot}
 use Rattle.walks.specs.Marks.{anyBelow}
 use Rattle.plan_context.specs.View.{treeOf}
 use Rattle.sort_removal.specs.Standing.{view, slot-room}
-use Rattle.sort_removal.specs.Connection.{freed, any-next, free-found, free-none}
+use Rattle.sort_removal.specs.Connection.{maintainsUnasked, any-next, free-found, free-none}
 use Rattle.sort_removal.proofs.update_sort_ctx_children_data.any_maintained.Statement.{statement}
 use Rattle.sort_removal.proofs.update_sort_ctx_children_data.any_maintained.Tie as tie
 
 abbrev Inv-loop : tie.InvT-loop
-Inv-loop m u h n j₀ j = (n ≡ length (slot m (index h) .kids)) × (j ≤ n) × (anyBelow j (freed (treeOf m h)) ≡ false)
+Inv-loop m u h n j₀ j = (n ≡ length (slot m (index h) .kids)) × (j ≤ n) × (anyBelow j (maintainsUnasked (treeOf m h)) ≡ false)
 
 abbrev μ-loop : tie.MeasureT-loop
 μ-loop m u h n j₀ j = n - j

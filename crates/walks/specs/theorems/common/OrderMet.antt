@@ -13,8 +13,8 @@ use Rattle.row_order.specs.Order.{no-bool}
 use Rattle.plan.specs.Op.{coalesce, filter, globalLimit, hashJoin, localLimit, mergeOp, On, Op, outputRequirement, partialSort, projection, repartition, sortMergeJoin, sortOp, source, union}
 use Rattle.plan.specs.WellFormed.{every, member}
 use Rattle.semantics.specs.Facts.{cl, Facts, isC, isNil, met, nf, nothing, prefixb, withColumn}
-use Rattle.semantics.specs.Properties.{freshKeys, noWish, pairs, remark, rightKey, same, wanted, wantedOf, Wish, wish}
-use Rattle.semantics.specs.Check.{asksOf, wants}
+use Rattle.semantics.specs.Properties.{freshKeys, noOrders, pairs, remark, rightKey, same, wanted, wantedOf, WantedOrders, wantedOrders}
+use Rattle.semantics.specs.Check.{eachWantedOf, wantsMet}
 use Rattle.semantics.specs.Canonical.{Canon}
 use Rattle.semantics.specs.theorems.common.Bools.{or-cases, or-false, or-right}
 use Rattle.semantics.specs.theorems.orders.NormalForms.{nf-idem, normal-nf}
@@ -104,13 +104,13 @@ fresh-some F h ks e = go (freshKeys F [] ks) (fresh-same F h ks)
     go [] q = ap isNil q ∙ e
     go (k ∷ l) q = refl
 
--- ---- wishes
-pub nowish-met : (w : Wish) (fs : List Facts) → isNil (wantedOf w 0) ≡ true → every (λ a. met (getD fs (a .child) nothing) (a .keys)) (asksOf w) ≡ true
-nowish-met noWish fs e = refl
-nowish-met (same []) fs e = refl
-nowish-met (same (k ∷ ks)) fs e = no-bool e
-nowish-met (pairs []) fs e = refl
-nowish-met (pairs (k ∷ on)) fs e = no-bool e
+-- ---- wanted orders
+pub no-orders-met : (w : WantedOrders) (fs : List Facts) → isNil (wantedOf w 0) ≡ true → every (λ a. met (getD fs (a .child) nothing) (a .keys)) (eachWantedOf w) ≡ true
+no-orders-met noOrders fs e = refl
+no-orders-met (same []) fs e = refl
+no-orders-met (same (k ∷ ks)) fs e = no-bool e
+no-orders-met (pairs []) fs e = refl
+no-orders-met (pairs (k ∷ on)) fs e = no-bool e
 
 -- of the number of its children that a node can have, what is wanted of some child is nothing only if nothing is wanted of the first
 keys-nil : (on : List On) → isNil (map rightKey on) ≡ true → isNil (map (λ k. k .key) on) ≡ true
@@ -141,7 +141,7 @@ nil-zero (partialSort p ks m g) n (suc i) f l e = absurd (omega arith)
 abbrev pub Granted : Op → List Facts → Type 0
 Granted o fs = (i : ℕ) → i < length fs → met (getD fs i nothing) (wanted o i) ≡ true
 
-pub wants-in : (o : Op) (fs : List Facts) → FitsA (arity o) (length fs) → Granted o fs → wants o fs ≡ true
+pub wants-in : (o : Op) (fs : List Facts) → FitsA (arity o) (length fs) → Granted o fs → wantsMet o fs ≡ true
 wants-in (source s) fs f h = refl
 wants-in filter fs f h = refl
 wants-in (projection cols) fs f h = refl
@@ -157,5 +157,5 @@ wants-in (hashJoin t on) fs f h = refl
 wants-in (outputRequirement ks dist most) fs f h = ap₂ _&&_ (h 0 (omega arith)) refl
 wants-in (partialSort p ks n g) fs f h = ap₂ _&&_ (h 0 (omega arith)) refl
 
-pub wants-remark : (g : Bool → Bool) (o : Op) (fs : List Facts) → wants (remark g o) fs ≡ wants o fs
-wants-remark g o fs = ap (λ (w : Wish). every (λ a. met (getD fs (a .child) nothing) (a .keys)) (asksOf w)) (remark-same wish g (λ p q n h ks. refl) o)
+pub wants-remark : (g : Bool → Bool) (o : Op) (fs : List Facts) → wantsMet (remark g o) fs ≡ wantsMet o fs
+wants-remark g o fs = ap (λ (w : WantedOrders). every (λ a. met (getD fs (a .child) nothing) (a .keys)) (eachWantedOf w)) (remark-same wantedOrders g (λ p q n h ks. refl) o)

@@ -20,7 +20,7 @@ use Rattle.plan.specs.declared.Fetch.{Fetch}
 use Rattle.plan.specs.declared.JoinType.{JoinType}
 use Rattle.plan.specs.declared.JoinType.the-variants.{Full, Inner, Left, LeftAnti, LeftSemi, Right, RightAnti, RightSemi}
 use Rattle.semantics.specs.Facts.{at0, at1, both, byRight, carried, cl, common, counts, eqKey, Facts, factsOp, hashKept, isC, isNil, joinBase, joinFacts, joinOrder, keepsOrder, Kept, kLeft, kNone, kRight, leftOrder, met, moved, nf, nfBy, nothing, ordered, prefixb, projFacts, projOrder, rightOrder, smjKept, sortStreams, unionFacts, withColumn, within}
-use Rattle.semantics.specs.Check.{asks, isMet, wants}
+use Rattle.semantics.specs.Check.{eachWanted, metBy, wantsMet}
 use Rattle.semantics.specs.Runs.{Each, each-cons, each-nil}
 use Rattle.semantics.specs.theorems.common.Bools.{and-left, and-right, or-right}
 use Rattle.semantics.specs.theorems.common.Streams.{each-at}
@@ -316,5 +316,5 @@ every-map : {A : Type 0} (p q : A → Bool) (l : List A) → ((x : A) → p x �
 every-map p q [] h e = refl
 every-map p q (x ∷ l) h e = ap₂ _&&_ (h x (and-left (p x) (every p l) e)) (every-map p q l h (and-right (p x) (every p l) e))
 
-pub wants-wider : (o : Op) {fs gs : List Facts} → Each Wider fs gs → wants o fs ≡ true → wants o gs ≡ true
-wants-wider o {fs} {gs} ws e = every-map (isMet fs) (isMet gs) (asks o) (λ a h. wider-met (getD fs (a .child) nothing) (getD gs (a .child) nothing) (a .keys) (nth-wider ws (a .child)) h) e
+pub wants-wider : (o : Op) {fs gs : List Facts} → Each Wider fs gs → wantsMet o fs ≡ true → wantsMet o gs ≡ true
+wants-wider o {fs} {gs} ws e = every-map (metBy fs) (metBy gs) (eachWanted o) (λ a h. wider-met (getD fs (a .child) nothing) (getD gs (a .child) nothing) (a .keys) (nth-wider ws (a .child)) h) e

@@ -19,7 +19,7 @@ use Rattle.semantics.specs.theorems.common.Bools.{and-left, and-right}
 use Rattle.semantics.specs.Bags.{isAll}
 use Rattle.walks.specs.Marks.{anyMark, at, bare, fact, fetchT, kid0, known, Marked, node, opT, over, rebuild, setMark, Shape, shape, strip, transformUp, Tree, unmark}
 use Rattle.walks.specs.OutputRequirements.{outputFetch}
-use Rattle.walks.specs.EnsureSorting.{afterLoop, connectedEach, dropSort, ensureBy, ensureChild, ensureEach, ensureSorting, gather, gatherOp, immediate, limited, removeBy, removeKids, removeTop, resettle, unmerged, updateChildToRemoveUnnecessarySort, updateSortCtxChildrenData}
+use Rattle.walks.specs.EnsureSorting.{afterLoop, connectedEach, dropSort, ensureBy, ensureChild, ensureEach, ensureSorting, withSingleStream, singleStreamOp, analyzeImmediateSortRemoval, limited, removeBy, removeKids, removeTop, updatedAfterRemoval, unmerged, updateChildToRemoveUnnecessarySort, updateSortCtxChildrenData}
 use Rattle.walks.specs.Terms.{clearOp, passing, skel}
 use Rattle.walks.specs.theorems.common.Skeleton.{added-over, added-refl}
 use Rattle.walks.specs.theorems.common.Trees.{arity, count, Fit, FitsA, FitT, OkT, PureT}
@@ -40,8 +40,8 @@ strip-unmark (tree m c r) = ap (λ (g : Plan). tree (m .op) (strip c) g) (strip-
 pub remarked : {a b h : Bool} (t : Tree) (x : Bool) (d : Forest Marked) → strip d ≡ strip (t .kids) → FitT t → Keeps a b h t (node (opT t) x d)
 remarked t x d e f = kept-node (opT t) (opT t) (t .top .mark) x (t .kids) d (like-refl (opT t)) (f .0) (all-kept-strip (t .kids) d e (f .1))
 
-pub resettle-op : (m : Marked) (c d : Forest Marked) → opT (resettle m c d) ≡ rebuilt (m .op) (known d)
-resettle-op m c d = go (anyMark c || isNil (roots c))
+pub updated-op : (m : Marked) (c d : Forest Marked) → opT (updatedAfterRemoval m c d) ≡ rebuilt (m .op) (known d)
+updated-op m c d = go (anyMark c || isNil (roots c))
   where
     go : (x : Bool) → opT (cond x (updateSortCtxChildrenData false (rebuild (m .op) (m .mark) d)) (rebuild (m .op) (m .mark) d)) ≡ rebuilt (m .op) (known d)
     go true = refl
@@ -58,17 +58,17 @@ module _ {b h : Bool} where
   kept-connected {u = u} x k = kept-trans k (remarked u x (connectedEach (u .kids)) (strip-connected (u .kids)) (k .fit))
 
   -- ---- removing
-  gather-over : (ks : List Key) (f : Fetch) (t : Tree) → FitT t → (PureT t → isAll f ≡ true) → (OkT t → KeysFit (fact t .width) ks × (fetchOk f ≡ true)) → Keeps true b h t (over (gatherOp ks f) false t)
-  gather-over [] f t g q r = kept-over (coalesce Unlimited) false refl (λ i p. refl) (λ i v w. coalesce-ok Unlimited (fact t .width ∷ []) refl (refl, narrowT t w)) refl (kept-refl t g)
-  gather-over (k ∷ ks) f t g q r =
+  single-stream-over : (ks : List Key) (f : Fetch) (t : Tree) → FitT t → (PureT t → isAll f ≡ true) → (OkT t → KeysFit (fact t .width) ks × (fetchOk f ≡ true)) → Keeps true b h t (over (singleStreamOp ks f) false t)
+  single-stream-over [] f t g q r = kept-over (coalesce Unlimited) false refl (λ i p. refl) (λ i v w. coalesce-ok Unlimited (fact t .width ∷ []) refl (refl, narrowT t w)) refl (kept-refl t g)
+  single-stream-over (k ∷ ks) f t g q r =
       kept-over (mergeOp (k ∷ ks) f) false refl (λ i p. uncut-fetch f (q p)) (λ i v w. let s = r w in merge-ok k ks f (fact t .width ∷ []) (s .0) (s .1) (refl, narrowT t w)) refl (kept-refl t g)
 
-  gather-kept : {t u : Tree} (s : Bool) → Keeps true b h t u → Keeps true b h t (gather s u)
-  gather-kept {u = u} s k =
-      kept-trans k (kept-cond (s && ltb 1 (fact u .streams)) (kept-connected false (gather-over (fact u .order) (fetchT u) u (k .fit) (pure-fetch u) (λ w. (order-fits u w, fetch-ok u w)))) (kept-refl u (k .fit)))
+  single-stream-kept : {t u : Tree} (s : Bool) → Keeps true b h t u → Keeps true b h t (withSingleStream s u)
+  single-stream-kept {u = u} s k =
+      kept-trans k (kept-cond (s && ltb 1 (fact u .streams)) (kept-connected false (single-stream-over (fact u .order) (fetchT u) u (k .fit) (pure-fetch u) (λ w. (order-fits u w, fetch-ok u w)))) (kept-refl u (k .fit)))
 
-  resettle-kept : (m : Marked) (c d : Forest Marked) → FitsA (arity (m .op)) (count (strip c)) → KeepsAll true b h c d → Keeps true b h (at m c) (resettle m c d)
-  resettle-kept m c d f k =
+  updated-kept : (m : Marked) (c d : Forest Marked) → FitsA (arity (m .op)) (count (strip c)) → KeepsAll true b h c d → Keeps true b h (at m c) (updatedAfterRemoval m c d)
+  updated-kept m c d f k =
       let r : Keeps true b h (at m c) (rebuild (m .op) (m .mark) d) = kept-rebuild (m .op) (m .mark) (m .mark) c d f k in
       kept-cond (anyMark c || isNil (roots c)) (kept-connected false r) r
 
@@ -82,17 +82,17 @@ module _ {b h : Bool} where
       (λ p ks f i g k. dropSort-kept f (node (sortOp p ks f) x c) refl (i, g))
       (λ ks f i g k.
       let m : Marked = record { op = mergeOp ks f; mark = x } in
-      let r : Keeps true b h (at m c) (resettle m c d) = resettle-kept m c d i k in
-      kept-mark (resettle m c d .top .mark) (kept-trans r (kept-first (resettle m c d) (ap passing (resettle-op m c d)) (r .fit))))
+      let r : Keeps true b h (at m c) (updatedAfterRemoval m c d) = updated-kept m c d i k in
+      kept-mark (updatedAfterRemoval m c d .top .mark) (kept-trans r (kept-first (updatedAfterRemoval m c d) (ap passing (updated-op m c d)) (r .fit))))
       (λ p n q ks i g k.
       let m : Marked = record { op = repartition p n q ks; mark = x } in
-      let r : Keeps true b h (at m c) (resettle m c d) = resettle-kept m c d i k in
-      kept-trans r (kept-node (opT (resettle m c d)) _ (resettle m c d .top .mark) _ (resettle m c d .kids) _ (remark-like (λ z. false) (opT (resettle m c d))) (r .fit .0) (all-kept-refl (resettle m c d .kids) (r .fit .1))))
-      (λ f i g k. resettle-kept _ c d i k)
-      (λ o e i g k. subst (λ (s : Shape). Keeps true b h (node o x c) (removeBy s (record { op = o; mark = x }) c d)) (sym e) (resettle-kept _ c d i k))
+      let r : Keeps true b h (at m c) (updatedAfterRemoval m c d) = updated-kept m c d i k in
+      kept-trans r (kept-node (opT (updatedAfterRemoval m c d)) _ (updatedAfterRemoval m c d .top .mark) _ (updatedAfterRemoval m c d .kids) _ (remark-like (λ z. false) (opT (updatedAfterRemoval m c d))) (r .fit .0) (all-kept-refl (updatedAfterRemoval m c d .kids) (r .fit .1))))
+      (λ f i g k. updated-kept _ c d i k)
+      (λ o e i g k. subst (λ (s : Shape). Keeps true b h (node o x c) (removeBy s (record { op = o; mark = x }) c d)) (sym e) (updated-kept _ c d i k))
 
   removeTop-kept : (s : Bool) (m : Marked) (c d : Forest Marked) → FitsA (arity (m .op)) (count (strip c)) → Fit (strip c) → KeepsAll true b h c d → Keeps true b h (at m c) (removeTop s m c d)
-  removeTop-kept s m c d i g k = gather-kept s (removeBy-kept (m .mark) c d (m .op) i g k)
+  removeTop-kept s m c d i g k = single-stream-kept s (removeBy-kept (m .mark) c d (m .op) i g k)
 
   pub removeKids-kept : (q : ℕ → Bool) (c : Forest Marked) → Fit (strip c) → KeepsAll true b h c (removeKids q c)
   removeKids-kept q none f = all-kept-none
@@ -129,7 +129,7 @@ module _ {b h : Bool} where
       go true = kept-limit _ false refl refl (λ i q. q .0) (λ i v w. global-ok n (fact t .order) (fact u .width ∷ []) (note v) (node-fetch (sortOp p ks (AtMost n)) (map (λ F. F .width) (known c)) (v .0)) (refl, narrowT u w)) refl k
       go false = kept-limit _ false refl refl (λ i q. q .0) (λ i v w. local-ok n (fact t .order) (fact u .width ∷ []) (note v) (node-fetch (sortOp p ks (AtMost n)) (map (λ F. F .width) (known c)) (v .0)) (refl, narrowT u w)) refl k
 
-  immediate-kept : (p : Bool) (ks : List Key) (f : Fetch) (x : Bool) (c : Forest Marked) → FitT (node (sortOp p ks f) x c) → Keeps true b h (node (sortOp p ks f) x c) (immediate p ks f (node (sortOp p ks f) x c) (kid0 (node (sortOp p ks f) x c) c))
+  immediate-kept : (p : Bool) (ks : List Key) (f : Fetch) (x : Bool) (c : Forest Marked) → FitT (node (sortOp p ks f) x c) → Keeps true b h (node (sortOp p ks f) x c) (analyzeImmediateSortRemoval p ks f (node (sortOp p ks f) x c) (kid0 (node (sortOp p ks f) x c) c))
   immediate-kept p ks f x c g =
       let t : Tree = node (sortOp p ks f) x c in
       let u : Tree = setMark false (kid0 t c) in

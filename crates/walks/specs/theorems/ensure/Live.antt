@@ -13,7 +13,7 @@ use Rattle.plan.specs.declared.Fetch.{Fetch}
 use Rattle.plan.specs.declared.Fetch.the-variants.{AtMost, Unlimited}
 use Rattle.semantics.specs.Facts.{Facts, isNil, met, nf}
 use Rattle.walks.specs.Marks.{at, bare, fact, known, Marked, node, opT, over, rebuild, setMark, strip, transformUp, Tree}
-use Rattle.walks.specs.EnsureSorting.{afterLoop, connectedEach, ensure, ensureMarked, ensureSorting, immediate, limited, updateSortCtxChildrenData}
+use Rattle.walks.specs.EnsureSorting.{afterLoop, connectedEach, ensure, ensureMarked, ensureSorting, analyzeImmediateSortRemoval, limited, updateSortCtxChildrenData}
 use Rattle.walks.specs.Counted.{constantSort}
 use Rattle.walks.specs.Terms.{Live}
 use Rattle.walks.specs.theorems.common.ConstantSorts.{no-sort}
@@ -31,7 +31,7 @@ limited-live (AtMost n) t c h = go (eqb (fact t .streams) 1)
     go true = (refl, (h .0, h .1, tt))
     go false = (refl, (h .0, h .1, tt))
 
-immediate-live : (p : Bool) (ks : List Key) (f : Fetch) (t c : Tree) → LiveT c → LiveT (immediate p ks f t c)
+immediate-live : (p : Bool) (ks : List Key) (f : Fetch) (t c : Tree) → LiveT c → LiveT (analyzeImmediateSortRemoval p ks f t c)
 immediate-live p ks f t c h = go (not p && ltb 1 (fact c .streams))
   where
     go : (b : Bool) → LiveT (cond b (over (mergeOp ks f) false (setMark false c)) (limited f t c))
@@ -58,7 +58,7 @@ constant-goes x c =
     sort-goes none p ks f n e h = absurd (omega arith)
     sort-goes (tree m d r) p ks f n e h =
         let t : Tree = node (sortOp p ks f) x (tree m d r) in
-        subst (λ (b : Bool). LiveT (cond b (immediate p ks f t (at m d)) (updateSortCtxChildrenData false (afterLoop t))))
+        subst (λ (b : Bool). LiveT (cond b (analyzeImmediateSortRemoval p ks f t (at m d)) (updateSortCtxChildrenData false (afterLoop t))))
         (sym (nil-met (fact (at m d)) (nf (fact (at m d)) [] ks) e)) (immediate-live p ks f t (at m d) (h .0, h .1))
 
 -- ---- the walk

@@ -14,11 +14,11 @@ use Rattle.plan.specs.declared.Fetch.{Fetch}
 use Rattle.plan.specs.declared.Fetch.the-variants.{AtMost, Unlimited}
 use Rattle.semantics.specs.Facts.{at0, Facts, facts, factsOp, isNil, met, nf, nothing, prefixb}
 use Rattle.semantics.specs.Properties.{freshKeys, maintains, rebuilt, singles, wanted}
-use Rattle.semantics.specs.Check.{check, wants}
+use Rattle.semantics.specs.Check.{check, wantsMet}
 use Rattle.walks.specs.Marks.{at, cover, fact, kid0, known, Marked, node, opT, over, rebuild, setMark, Shape, shape, strip, transformUp, Tree}
 use Rattle.walks.specs.Utils.{addSortAbove, newSort}
 use Rattle.walks.specs.OutputRequirements.{outputFetch}
-use Rattle.walks.specs.EnsureSorting.{afterLoop, connectedEach, ensure, ensureBy, ensureChild, ensuredKids, ensureEach, ensureSorting, immediate, limited, unmerged, updateChildToRemoveUnnecessarySort, updateSortCtxChildrenData}
+use Rattle.walks.specs.EnsureSorting.{afterLoop, connectedEach, ensure, ensureBy, ensureChild, ensuredKids, ensureEach, ensureSorting, analyzeImmediateSortRemoval, limited, unmerged, updateChildToRemoveUnnecessarySort, updateSortCtxChildrenData}
 use Rattle.walks.specs.theorems.common.Trees.{Arity, arity, count, Fit, FitsA, FitT}
 use Rattle.walks.specs.theorems.common.Keeps.{remark-same, shape-ind}
 use Rattle.walks.specs.theorems.ensure.Kept.{ensure-kept, strip-connected, strip-unmark}
@@ -26,7 +26,7 @@ use Rattle.walks.specs.theorems.common.OrderMet.{fresh-same, met-nf, pre
 use Rattle.walks.specs.theorems.common.ConstantSorts.{fact-canon}
 use Rattle.walks.specs.theorems.ensure.Removal.{BareT, Checked, CheckedT, connected-good, connected-kids, connected-marks, good-plant, kid-good, known-connected, known-count, MarkOK, MarksOK, unmark-kids, unmark-marks, updateChild-good}
 
--- ---- a sort on top meets the wish
+-- ---- a sort on top meets the wanted order
 newSort-bare : (p : Bool) (ks : List Key) (f : Fetch) (t : Tree) → CheckedT t → BareT (cover (newSort p ks f) t)
 newSort-bare p [] f t h = (h .0, h .2)
 newSort-bare p (k ∷ ks) f t h = (refl, (h .0, h .1, h .2, tt))
@@ -106,14 +106,14 @@ unmerged-good Unlimited t n h = kid-good t (t .kids) n h
 unmerged-good (AtMost m) t n h = (refl, λ e. no-bool (sym e), h)
 
 limited-good : (f : Fetch) (t c : Tree) → CheckedT c → CheckedT (limited f t c)
-limited-good Unlimited t c h = (ap (wants (opT c)) (ap facts (strip-unmark (c .kids))) ∙ h .0, λ e. unmark-marks (c .kids), unmark-kids (c .kids) (h .2))
+limited-good Unlimited t c h = (ap (wantsMet (opT c)) (ap facts (strip-unmark (c .kids))) ∙ h .0, λ e. unmark-marks (c .kids), unmark-kids (c .kids) (h .2))
 limited-good (AtMost n) t c h = go (eqb (fact t .streams) 1)
   where
     go : (b : Bool) → CheckedT (over (cond b (globalLimit 0 (AtMost n) (fact t .order)) (localLimit (AtMost n) (fact t .order))) false (setMark false c))
     go true = (refl, λ e. (λ i. no-bool i, tt), (h .0, h .1, h .2, tt))
     go false = (refl, λ e. (λ i. no-bool i, tt), (h .0, h .1, h .2, tt))
 
-immediate-good : (p : Bool) (ks : List Key) (f : Fetch) (x : Bool) (c : Forest Marked) → count c ≡ 1 → Checked c → met (at0 (known c)) (nf (at0 (known c)) [] ks) ≡ true → CheckedT (immediate p ks f (node (sortOp p ks f) x c) (kid0 (node (sortOp p ks f) x c) c))
+immediate-good : (p : Bool) (ks : List Key) (f : Fetch) (x : Bool) (c : Forest Marked) → count c ≡ 1 → Checked c → met (at0 (known c)) (nf (at0 (known c)) [] ks) ≡ true → CheckedT (analyzeImmediateSortRemoval p ks f (node (sortOp p ks f) x c) (kid0 (node (sortOp p ks f) x c) c))
 immediate-good p ks f x none n h e = absurd (omega arith)
 immediate-good p ks f x (tree m c r) n h e = go (not p && ltb 1 (fact (at m c) .streams))
   where
@@ -133,7 +133,7 @@ ensureBy-good x c =
     (λ f n a h k. connected-good false (afterLoop (node (coalesce f) x c)) (afterLoop-bare x (coalesce f) c n a h k))
     (λ o e n a h k. subst (λ (s : Shape). CheckedT (ensureBy s (node o x c))) (sym e) (connected-good false (afterLoop (node o x c)) (afterLoop-bare x o c n a h k)))
   where
-    sorted : (p : Bool) (ks : List Key) (f : Fetch) → count c ≡ 1 → Fit (strip c) → Checked c → MarksOK c → (b : Bool) → met (at0 (known c)) (nf (at0 (known c)) [] ks) ≡ b → CheckedT (cond b (immediate p ks f (node (sortOp p ks f) x c) (kid0 (node (sortOp p ks f) x c) c)) (updateSortCtxChildrenData false (afterLoop (node (sortOp p ks f) x c))))
+    sorted : (p : Bool) (ks : List Key) (f : Fetch) → count c ≡ 1 → Fit (strip c) → Checked c → MarksOK c → (b : Bool) → met (at0 (known c)) (nf (at0 (known c)) [] ks) ≡ b → CheckedT (cond b (analyzeImmediateSortRemoval p ks f (node (sortOp p ks f) x c) (kid0 (node (sortOp p ks f) x c) c)) (updateSortCtxChildrenData false (afterLoop (node (sortOp p ks f) x c))))
     sorted p ks f n a h k true e = immediate-good p ks f x c n h e
     sorted p ks f n a h k false e = connected-good false (afterLoop (node (sortOp p ks f) x c)) (afterLoop-bare x (sortOp p ks f) c n a h k)
 

@@ -17,17 +17,17 @@ use Rattle.plan.specs.Numbers.{code}
 use Rattle.plan.specs.declared.Fetch.{Fetch}
 use Rattle.plan.specs.declared.Fetch.the-variants.{AtMost, Unlimited}
 use Rattle.semantics.specs.Facts.{Facts, facts, isNil, met}
-use Rattle.semantics.specs.Properties.{isLimit, maintains, singles, wanted, wish}
-use Rattle.semantics.specs.Check.{wants}
+use Rattle.semantics.specs.Properties.{isLimit, maintains, singles, wanted, wantedOrders}
+use Rattle.semantics.specs.Check.{wantsMet}
 use Rattle.semantics.specs.Canonical.{Canon}
 use Rattle.semantics.specs.theorems.common.Bools.{and-left, and-right, or-cases}
 use Rattle.walks.specs.Marks.{aCoalesce, aMerge, another, anyBelow, anyMark, aRepartition, aSort, at, fact, fetchT, kid0, known, Marked, node, opT, over, plant, rebuild, setMark, Shape, shape, strip, Tree, unmark}
-use Rattle.walks.specs.EnsureSorting.{connected, connectedEach, dropSort, gather, gatherOp, loosen, removeBy, removeCorrespondingSortFromSubPlan, removeKids, removeTop, resettle, updateChildToRemoveUnnecessarySort, updateSortCtxChildrenData}
+use Rattle.walks.specs.EnsureSorting.{connected, connectedEach, dropSort, withSingleStream, singleStreamOp, loosen, removeBy, removeCorrespondingSortFromSubPlan, removeKids, removeTop, updatedAfterRemoval, updateChildToRemoveUnnecessarySort, updateSortCtxChildrenData}
 use Rattle.walks.specs.theorems.common.ConstantSorts.{fact-canon}
 use Rattle.walks.specs.theorems.common.Trees.{arity, count, facts-count, Fit, FitsA, FitT}
 use Rattle.walks.specs.theorems.common.Keeps.{shape-ind}
 use Rattle.walks.specs.theorems.ensure.Kept.{strip-connected}
-use Rattle.walks.specs.theorems.common.OrderMet.{met-own, nil-zero, nowish-met, wants-remark}
+use Rattle.walks.specs.theorems.common.OrderMet.{met-own, nil-zero, no-orders-met, wants-remark}
 
 -- ---- the marks: what a connected node is
 pub record Link (o : Op) (c : Forest Marked) : Type 0 where
@@ -42,17 +42,17 @@ abbrev pub MarksOK : Forest Marked → Type 0
 MarksOK none = Unit {0}
 MarksOK (tree m c r) = (m .mark ≡ true → MarkOK (m .op) c) × MarksOK r
 
--- wishes met, and marks right where no limit stands above
+-- wanted orders met, and marks right where no limit stands above
 abbrev pub Checked : Forest Marked → Type 0
 Checked none = Unit {0}
-Checked (tree m c r) = (wants (m .op) (known c) ≡ true) × (isLimit (m .op) ≡ false → MarksOK c) × Checked c × Checked r
+Checked (tree m c r) = (wantsMet (m .op) (known c) ≡ true) × (isLimit (m .op) ≡ false → MarksOK c) × Checked c × Checked r
 
 abbrev pub CheckedT : Tree → Type 0
-CheckedT t = (wants (opT t) (known (t .kids)) ≡ true) × (isLimit (opT t) ≡ false → MarksOK (t .kids)) × Checked (t .kids)
+CheckedT t = (wantsMet (opT t) (known (t .kids)) ≡ true) × (isLimit (opT t) ≡ false → MarksOK (t .kids)) × Checked (t .kids)
 
 -- before its children's marks are put right
 abbrev pub BareT : Tree → Type 0
-BareT t = (wants (opT t) (known (t .kids)) ≡ true) × Checked (t .kids)
+BareT t = (wantsMet (opT t) (known (t .kids)) ≡ true) × Checked (t .kids)
 
 pub good-plant : (t : Tree) (r : Forest Marked) → CheckedT t → Checked r → Checked (plant t r)
 good-plant t r h k = (h .0, h .1, h .2, k)
@@ -94,7 +94,7 @@ pub known-connected : (c : Forest Marked) → known (connectedEach c) ≡ known 
 known-connected c = ap facts (strip-connected c)
 
 pub connected-good : (b : Bool) (t : Tree) → BareT t → CheckedT (updateSortCtxChildrenData b t)
-connected-good b t h = (ap (wants (opT t)) (known-connected (t .kids)) ∙ h .0, λ e. connected-marks (t .kids), connected-kids (t .kids) (h .1))
+connected-good b t h = (ap (wantsMet (opT t)) (known-connected (t .kids)) ∙ h .0, λ e. connected-marks (t .kids), connected-kids (t .kids) (h .1))
 
 pub unmark-marks : (c : Forest Marked) → MarksOK (unmark c)
 unmark-marks none = tt
@@ -125,22 +125,22 @@ remove-count q none = refl
 remove-count q (tree m c r) = ap suc (remove-count (λ i. q (suc i)) r)
 
 -- ---- removing
-gather-wants : (F : Facts) (f : Fetch) → Canon F → wants (gatherOp (F .order) f) (F ∷ []) ≡ true
-gather-wants F f h = go (F .order) refl
+single-stream-wants : (F : Facts) (f : Fetch) → Canon F → wantsMet (singleStreamOp (F .order) f) (F ∷ []) ≡ true
+single-stream-wants F f h = go (F .order) refl
   where
-    go : (ks : List Key) → F .order ≡ ks → wants (gatherOp ks f) (F ∷ []) ≡ true
+    go : (ks : List Key) → F .order ≡ ks → wantsMet (singleStreamOp ks f) (F ∷ []) ≡ true
     go [] e = refl
     go (k ∷ ks) e = ap₂ _&&_ (ap (met F) (sym e) ∙ met-own F h) refl
 
-gather-good : (s : Bool) (t : Tree) → CheckedT t → CheckedT (gather s t)
-gather-good s t h = go (s && ltb 1 (fact t .streams))
+single-stream-good : (s : Bool) (t : Tree) → CheckedT t → CheckedT (withSingleStream s t)
+single-stream-good s t h = go (s && ltb 1 (fact t .streams))
   where
-    go : (b : Bool) → CheckedT (cond b (updateSortCtxChildrenData false (over (gatherOp (fact t .order) (fetchT t)) false t)) t)
-    go true = connected-good false (over (gatherOp (fact t .order) (fetchT t)) false t) (gather-wants (fact t) (fetchT t) (fact-canon t), (h .0, h .1, h .2, tt))
+    go : (b : Bool) → CheckedT (cond b (updateSortCtxChildrenData false (over (singleStreamOp (fact t .order) (fetchT t)) false t)) t)
+    go true = connected-good false (over (singleStreamOp (fact t .order) (fetchT t)) false t) (single-stream-wants (fact t) (fetchT t) (fact-canon t), (h .0, h .1, h .2, tt))
     go false = h
 
-resettle-is : (m : Marked) (c d : Forest Marked) → anyMark c ≡ true → resettle m c d ≡ updateSortCtxChildrenData false (rebuild (m .op) (m .mark) d)
-resettle-is m c d e = ap (λ (x : Bool). cond (x || isNil (roots c)) (updateSortCtxChildrenData false (rebuild (m .op) (m .mark) d)) (rebuild (m .op) (m .mark) d)) e
+updated-is : (m : Marked) (c d : Forest Marked) → anyMark c ≡ true → updatedAfterRemoval m c d ≡ updateSortCtxChildrenData false (rebuild (m .op) (m .mark) d)
+updated-is m c d e = ap (λ (x : Bool). cond (x || isNil (roots c)) (updateSortCtxChildrenData false (rebuild (m .op) (m .mark) d)) (rebuild (m .op) (m .mark) d)) e
 
 -- a connected node that is no sort has children
 some-kid : (c : Forest Marked) → anyMark c ≡ true → 1 ≤ count c
@@ -180,7 +180,7 @@ other-code = shape-ind (λ o. isOther (shape o) ≡ true → (eqb (code o) 7 ≡
 
 -- a node that wants nothing, over any children
 free-good : (b : Bool) (o : Op) (x : Bool) (d : Forest Marked) → isNil (wanted o 0) ≡ true → Checked d → CheckedT (updateSortCtxChildrenData b (rebuild o x d))
-free-good b o x d e h = connected-good b (rebuild o x d) (wants-remark _ o (known d) ∙ nowish-met (wish o) (known d) e, h)
+free-good b o x d e h = connected-good b (rebuild o x d) (wants-remark _ o (known d) ∙ no-orders-met (wantedOrders o) (known d) e, h)
 
 abbrev Removal : Bool → Forest Marked → Forest Marked → Op → Type 0
 Removal x c d o = FitsA (arity o) (count c) → CheckedT (node o x c) → MarkOK o c → count d ≡ count c → Checked d → CheckedT (removeBy (shape o) (record { op = o; mark = x }) c d)
@@ -200,20 +200,20 @@ removeBy-good x c d =
     (λ p ks f a h k n g. drop-good f (node (sortOp p ks f) x c) h)
     (λ ks f a h k n g.
     let l : Link (mergeOp ks f) c = link-of (mergeOp ks f) c refl k in
-    subst (λ (t : Tree). CheckedT (loosen (aMerge ks f) t)) (sym (resettle-is (record { op = mergeOp ks f; mark = x }) c d (l .below)))
+    subst (λ (t : Tree). CheckedT (loosen (aMerge ks f) t)) (sym (updated-is (record { op = mergeOp ks f; mark = x }) c d (l .below)))
     (first-good false (updateSortCtxChildrenData false (rebuild (mergeOp ks f) x d)) d (omega (arith, some-kid c (l .below))) g))
     (λ p m q ks a h k n g.
     let l : Link (repartition p m q ks) c = link-of (repartition p m q ks) c refl k in
-    subst (λ (t : Tree). CheckedT (loosen (aRepartition p m q ks) t)) (sym (resettle-is (record { op = repartition p m q ks; mark = x }) c d (l .below)))
+    subst (λ (t : Tree). CheckedT (loosen (aRepartition p m q ks) t)) (sym (updated-is (record { op = repartition p m q ks; mark = x }) c d (l .below)))
     (refl, λ e. connected-marks d, connected-kids d g))
     (λ f a h k n g.
     let l : Link (coalesce f) c = link-of (coalesce f) c refl k in
-    subst (λ (t : Tree). CheckedT t) (sym (resettle-is (record { op = coalesce f; mark = x }) c d (l .below))) (free-good false (coalesce f) x d refl g))
+    subst (λ (t : Tree). CheckedT t) (sym (updated-is (record { op = coalesce f; mark = x }) c d (l .below))) (free-good false (coalesce f) x d refl g))
     (λ o e a h k n g.
     let codes = other-code o (ap isOther e) in
     let l : Link o c = link-of o c (codes .0) k in
     subst (λ (s : Shape). CheckedT (removeBy s (record { op = o; mark = x }) c d)) (sym e)
-    (subst (λ (t : Tree). CheckedT t) (sym (resettle-is (record { op = o; mark = x }) c d (l .below))) (free-good false o x d (nil-of o c a (codes .1) (l .free)) g)))
+    (subst (λ (t : Tree). CheckedT t) (sym (updated-is (record { op = o; mark = x }) c d (l .below))) (free-good false o x d (nil-of o c a (codes .1) (l .free)) g)))
   where
     nil-of : (o : Op) (c : Forest Marked) → FitsA (arity o) (count c) → eqb (code o) 8 ≡ false → (eqb (code o) 8 ≡ true) ⊎ ((i : ℕ) × (i < count c) × (isNil (wanted o i) ≡ true)) → isNil (wanted o 0) ≡ true
     nil-of o c a e (inl h) = no-bool (sym e ∙ h)
@@ -221,7 +221,7 @@ removeBy-good x c d =
 
 -- marks of the children of a node that is removed: a sort's are not looked at
 removeTop-good : (s : Bool) (m : Marked) (c d : Forest Marked) → FitsA (arity (m .op)) (count c) → CheckedT (at m c) → MarkOK (m .op) c → count d ≡ count c → Checked d → CheckedT (removeTop s m c d)
-removeTop-good s m c d a h k n g = gather-good s (removeBy (shape (m .op)) m c d) (removeBy-good (m .mark) c d (m .op) a h k n g)
+removeTop-good s m c d a h k n g = single-stream-good s (removeBy (shape (m .op)) m c d) (removeBy-good (m .mark) c d (m .op) a h k n g)
 
 open-of : (o : Op) (c : Forest Marked) → MarkOK o c → isLimit o ≡ false
 open-of o c (inl h) = ap (λ (n : ℕ). eqb n 9 || eqb n 10) (eqb-true (code o) 7 h)

@@ -15,21 +15,21 @@ use Rattle.plan.specs.Op.{coalesce, filter, globalLimit, hashJoin, localLimit, 
 use Rattle.plan.specs.Numbers.{code}
 use Rattle.semantics.specs.Facts.{at0, Facts, factsOp, isNil, keepsOrder, ordered}
 use Rattle.semantics.specs.Properties.{rebuilt, singles}
-use Rattle.semantics.specs.Check.{check, wants}
+use Rattle.semantics.specs.Check.{check, wantsMet}
 use Rattle.semantics.specs.Runs.{Each, each-cons, each-nil}
 use Rattle.semantics.specs.theorems.common.Bools.{and-left, and-right, or-cases}
 use Rattle.semantics.specs.theorems.facts.StreamCounts.{streams-some}
 use Rattle.walks.specs.Marks.{aRepartition, at, fact, kid0, known, Marked, opT, plant, rebuild, Shape, shape, strip, Tree}
-use Rattle.walks.specs.ParallelizeSorts.{bottleneck, eqPartitioning, firstIs, idle, liftFirst, openEach, opened, parted, partitioning, samePartitioning, settle, skipSame}
+use Rattle.walks.specs.ParallelizeSorts.{bottleneck, eqPartitioning, firstIs, idle, liftFirst, removeBottleneckInSubplanImpl, firstBottleneckRemoved, parted, partitioning, samePartitioning, withoutIdle, skipSame}
 use Rattle.walks.specs.theorems.common.Trees.{arity, count, Fit, FitsA, Ok, ok-to}
 use Rattle.walks.specs.theorems.common.Keeps.{Keeps, KeepsAll, shape-ind}
-use Rattle.walks.specs.theorems.parallelize.Kept.{bottleneck-pass, openEach-kept, opened-kept, skip-kept}
+use Rattle.walks.specs.theorems.parallelize.Kept.{bottleneck-pass, removeBottleneckInSubplanImpl-kept, first-removed-kept, skip-kept}
 use Rattle.walks.specs.theorems.common.OrderMet.{wants-remark}
 use Rattle.walks.specs.theorems.common.Wider.{Front, front-nil, nth-wider, op-wider, Some, Stays, wants-wider, Wider, wider-refl}
 
 -- ---- one tree passes
 abbrev pub PassT : Tree → Type 0
-PassT t = (wants (opT t) (known (t .kids)) ≡ true) × (check (strip (t .kids)) ≡ true)
+PassT t = (wantsMet (opT t) (known (t .kids)) ≡ true) × (check (strip (t .kids)) ≡ true)
 
 pub pass-plant : (t : Tree) (r : Forest Marked) → PassT t → check (strip r) ≡ true → check (strip (plant t r)) ≡ true
 pass-plant t r h e = ap₂ _&&_ (h .0) (ap₂ _&&_ (h .1) e)
@@ -45,12 +45,12 @@ kid-pass d none n e = absurd (omega arith)
 kid-pass d (tree m c r) n e = first-pass m c r e
 
 -- ---- the marks: a connected node is no sort of one stream, and no partial sort
-abbrev pub Fine : Forest Marked → Type 0
-Fine none = Unit {0}
-Fine (tree m c r) = (m .mark ≡ true → Stays (m .op) (known c) × Fine c) × Fine r
+abbrev pub MarksStay : Forest Marked → Type 0
+MarksStay none = Unit {0}
+MarksStay (tree m c r) = (m .mark ≡ true → Stays (m .op) (known c) × MarksStay c) × MarksStay r
 
 abbrev pub FineT : Tree → Type 0
-FineT t = t .top .mark ≡ true → Stays (opT t) (known (t .kids)) × Fine (t .kids)
+FineT t = t .top .mark ≡ true → Stays (opT t) (known (t .kids)) × MarksStay (t .kids)
 
 -- ---- rebuilding changes no facts
 pub rebuilt-facts : (o : Op) (fs : List Facts) → factsOp (rebuilt o fs) fs ≡ factsOp o fs
@@ -147,8 +147,8 @@ lift-opens o (tree m c r) b f e =
       passes = pass-plant x r (skip-pass o (at m c) c h (h .1)) (rest-pass m c r e);
     }
 
-pub opened-opens : (x : Bool) (o : Op) (c d : Forest Marked) → Fit (strip c) → check (strip c) ≡ true → Opened c d → Opened c (opened x o c d)
-opened-opens x o c d f e k = go (firstIs bottleneck c) refl x
+pub first-removed-opens : (x : Bool) (o : Op) (c d : Forest Marked) → Fit (strip c) → check (strip c) ≡ true → Opened c d → Opened c (firstBottleneckRemoved x o c d)
+first-removed-opens x o c d f e k = go (firstIs bottleneck c) refl x
   where
     go : (y : Bool) → firstIs bottleneck c ≡ y → (z : Bool) → Opened c (cond (y && z) (liftFirst o c) d)
     go true q true = lift-opens o c q f e
@@ -192,8 +192,8 @@ first-fact d (tree m c r) n = refl
 abbrev Gone : Forest Marked → Forest Marked → Op → Type 0
 Gone c d o = FitsA (arity o) (count (strip c)) → idle (shape o) o d ≡ true → Wider (factsOp o (known c)) (at0 (known d)) × (count (strip d) ≡ 1)
 
-settle-opens : (m : Marked) (c d : Forest Marked) → FitsA (arity (m .op)) (count (strip c)) → KeepsAll false true true c d → All Some (known c) → All Some (known d) → Stays (m .op) (known c) → wants (m .op) (known c) ≡ true → Opened c d → OpenedT (at m c) (settle m d)
-settle-opens m c d f k hs ks st e op = go (idle (shape (m .op)) (m .op) d) refl
+idle-opens : (m : Marked) (c d : Forest Marked) → FitsA (arity (m .op)) (count (strip c)) → KeepsAll false true true c d → All Some (known c) → All Some (known d) → Stays (m .op) (known c) → wantsMet (m .op) (known c) ≡ true → Opened c d → OpenedT (at m c) (withoutIdle m d)
+idle-opens m c d f k hs ks st e op = go (idle (shape (m .op)) (m .op) d) refl
   where
     t : Tree
     t = rebuild (m .op) (m .mark) d
@@ -217,25 +217,25 @@ settle-opens m c d f k hs ks st e op = go (idle (shape (m .op)) (m .op) d) refl
 some-known : (c : Forest Marked) → Ok (strip c) → All Some (known c)
 some-known c h = streams-some (strip c) (ok-to (strip c) h)
 
-open-node : (m : Marked) (c d : Forest Marked) (b : Bool) → FitsA (arity (m .op)) (count (strip c)) → Ok (strip c) → KeepsAll false true true c d → (m .mark ≡ true → Stays (m .op) (known c) × Opened c d) → PassT (at m c) → OpenedT (at m c) (cond (m .mark && b) (settle m d) (at m c))
+open-node : (m : Marked) (c d : Forest Marked) (b : Bool) → FitsA (arity (m .op)) (count (strip c)) → Ok (strip c) → KeepsAll false true true c d → (m .mark ≡ true → Stays (m .op) (known c) × Opened c d) → PassT (at m c) → OpenedT (at m c) (cond (m .mark && b) (withoutIdle m d) (at m c))
 open-node m c d b f h k s p = go (m .mark) refl b
   where
     as-it-was : OpenedT (at m c) (at m c)
     as-it-was = record { wider = wider-refl (fact (at m c)); passes = p }
 
-    go : (x : Bool) → m .mark ≡ x → (y : Bool) → OpenedT (at m c) (cond (x && y) (settle m d) (at m c))
-    go true e true = let v = s e in settle-opens m c d f k (some-known c h) (some-known d (k .ok refl h)) (v .0) (p .0) (v .1)
+    go : (x : Bool) → m .mark ≡ x → (y : Bool) → OpenedT (at m c) (cond (x && y) (withoutIdle m d) (at m c))
+    go true e true = let v = s e in idle-opens m c d f k (some-known c h) (some-known d (k .ok refl h)) (v .0) (p .0) (v .1)
     go true e false = as-it-was
     go false e y = as-it-was
 
-pub openEach-opens : (q : ℕ → Bool) (c : Forest Marked) → Fit (strip c) → Ok (strip c) → Fine c → check (strip c) ≡ true → Opened c (openEach q c)
+pub openEach-opens : (q : ℕ → Bool) (c : Forest Marked) → Fit (strip c) → Ok (strip c) → MarksStay c → check (strip c) ≡ true → Opened c (removeBottleneckInSubplanImpl q c)
 openEach-opens q none f h n e = record { wider = each-nil; passes = refl }
 openEach-opens q (tree m c r) f h n e =
     let x : Bool = not (singles (m .op) 0) in
-    let o : Forest Marked = openEach (λ i. not (singles (m .op) i)) c in
-    let d : Forest Marked = opened x (m .op) c o in
-    let k : KeepsAll false true true c d = opened-kept x (m .op) c o (f .1) (openEach-kept (λ i. not (singles (m .op) i)) c (f .1)) in
+    let o : Forest Marked = removeBottleneckInSubplanImpl (λ i. not (singles (m .op) i)) c in
+    let d : Forest Marked = firstBottleneckRemoved x (m .op) c o in
+    let k : KeepsAll false true true c d = first-removed-kept x (m .op) c o (f .1) (removeBottleneckInSubplanImpl-kept (λ i. not (singles (m .op) i)) c (f .1)) in
     let p : PassT (at m c) = first-pass m c r e in
-    let here : OpenedT (at m c) (cond (m .mark && q 0) (settle m d) (at m c)) = open-node m c d (q 0) (f .0) (h .1) k (λ i. let y = n .0 i in (y .0, opened-opens x (m .op) c o (f .1) (p .1) (openEach-opens (λ i. not (singles (m .op) i)) c (f .1) (h .1) (y .1) (p .1)))) p in
-    let rest : Opened r (openEach (λ i. q (suc i)) r) = openEach-opens (λ i. q (suc i)) r (f .2) (h .2) (n .1) (rest-pass m c r e) in
-    record { wider = each-cons (here .wider) (rest .wider); passes = pass-plant (cond (m .mark && q 0) (settle m d) (at m c)) (openEach (λ i. q (suc i)) r) (here .passes) (rest .passes) }
+    let here : OpenedT (at m c) (cond (m .mark && q 0) (withoutIdle m d) (at m c)) = open-node m c d (q 0) (f .0) (h .1) k (λ i. let y = n .0 i in (y .0, first-removed-opens x (m .op) c o (f .1) (p .1) (openEach-opens (λ i. not (singles (m .op) i)) c (f .1) (h .1) (y .1) (p .1)))) p in
+    let rest : Opened r (removeBottleneckInSubplanImpl (λ i. q (suc i)) r) = openEach-opens (λ i. q (suc i)) r (f .2) (h .2) (n .1) (rest-pass m c r e) in
+    record { wider = each-cons (here .wider) (rest .wider); passes = pass-plant (cond (m .mark && q 0) (withoutIdle m d) (at m c)) (removeBottleneckInSubplanImpl (λ i. q (suc i)) r) (here .passes) (rest .passes) }

@@ -21,7 +21,7 @@ use Rattle.semantics.specs.theorems.common.Bools.{and-left, and-right}
 use Rattle.semantics.specs.Bags.{isAll, SameRows}
 use Rattle.walks.specs.Marks.{at, fact, headMark, kid0, known, Marked, node, opT, rebuild, setMark, Shape, shape, strip, transformUp, Tree}
 use Rattle.walks.specs.Utils.{addSortAboveWithCheck}
-use Rattle.walks.specs.ParallelizeSorts.{bottleneck, cascade, eqPartitioning, firstIs, freed, idle, liftFirst, openEach, opened, openRoot, parallelBy, parallelize, parallelizeSorts, parted, Partitioning, partitioning, removeBottleneckInSubplan, samePartitioning, settle, skipSame, unequal, updateCoalesceCtxChildren}
+use Rattle.walks.specs.ParallelizeSorts.{bottleneck, cascade, eqPartitioning, firstIs, withoutSelf, idle, liftFirst, removeBottleneckInSubplanImpl, firstBottleneckRemoved, bottlenecksRemoved, parallelBy, parallelize, parallelizeSorts, parted, Partitioning, partitioning, removeBottleneckInSubplan, samePartitioning, withoutIdle, skipSame, unequal, updateCoalesceCtxChildren}
 use Rattle.walks.specs.Terms.{clear, passing}
 use Rattle.walks.specs.theorems.common.Skeleton.{pass-ease}
 use Rattle.walks.specs.theorems.common.Base.{ease-blank}
@@ -73,8 +73,8 @@ lift-kept : {b h : Bool} (o : Op) (c : Forest Marked) → firstIs bottleneck c �
 lift-kept o none e g = all-kept-none
 lift-kept o (tree m c r) e g = kept-plant (skip-kept o (m .op) (m .mark) c (bottleneck-pass (m .op) e) (g .0) (g .1)) (all-kept-refl r (g .2))
 
-pub opened-kept : {b h : Bool} (x : Bool) (o : Op) (c d : Forest Marked) → Fit (strip c) → KeepsAll false b h c d → KeepsAll false b h c (opened x o c d)
-opened-kept {b} {h} x o c d g k = go (firstIs bottleneck c) refl x
+pub first-removed-kept : {b h : Bool} (x : Bool) (o : Op) (c d : Forest Marked) → Fit (strip c) → KeepsAll false b h c d → KeepsAll false b h c (firstBottleneckRemoved x o c d)
+first-removed-kept {b} {h} x o c d g k = go (firstIs bottleneck c) refl x
   where
     go : (y : Bool) → firstIs bottleneck c ≡ y → (z : Bool) → KeepsAll false b h c (cond (y && z) (liftFirst o c) d)
     go true e true = lift-kept o c e g
@@ -88,8 +88,8 @@ idle-pass o d = shape-ind (λ p. idle (shape p) p d ≡ true → passing p ≡ t
 pass-remark : (g : Bool → Bool) (o : Op) → passing (remark g o) ≡ passing o
 pass-remark g o = remark-same passing g (λ p q n h ks. refl) o
 
-pub settle-kept : {b h : Bool} (m : Marked) (c d : Forest Marked) → FitsA (arity (m .op)) (count (strip c)) → KeepsAll false b h c d → Keeps false b h (at m c) (settle m d)
-settle-kept {b} {h} m c d f k = go (idle (shape (m .op)) (m .op) d) refl
+pub idle-kept : {b h : Bool} (m : Marked) (c d : Forest Marked) → FitsA (arity (m .op)) (count (strip c)) → KeepsAll false b h c d → Keeps false b h (at m c) (withoutIdle m d)
+idle-kept {b} {h} m c d f k = go (idle (shape (m .op)) (m .op) d) refl
   where
     t : Tree
     t = rebuild (m .op) (m .mark) d
@@ -101,17 +101,17 @@ settle-kept {b} {h} m c d f k = go (idle (shape (m .op)) (m .op) d) refl
     go true e = kept-trans i (kept-first t (pass-remark _ (m .op) ∙ idle-pass (m .op) d e) (i .fit))
     go false e = i
 
-pub openEach-kept : {b h : Bool} (q : ℕ → Bool) (c : Forest Marked) → Fit (strip c) → KeepsAll false b h c (openEach q c)
-openEach-kept q none g = all-kept-none
-openEach-kept q (tree m c r) g =
-    kept-plant (kept-cond (m .mark && q 0) (settle-kept m c _ (g .0) (opened-kept (not (singles (m .op) 0)) (m .op) c _ (g .1) (openEach-kept (λ i. not (singles (m .op) i)) c (g .1)))) (kept-refl (at m c) (g .0, g .1)))
-    (openEach-kept (λ i. q (suc i)) r (g .2))
+pub removeBottleneckInSubplanImpl-kept : {b h : Bool} (q : ℕ → Bool) (c : Forest Marked) → Fit (strip c) → KeepsAll false b h c (removeBottleneckInSubplanImpl q c)
+removeBottleneckInSubplanImpl-kept q none g = all-kept-none
+removeBottleneckInSubplanImpl-kept q (tree m c r) g =
+    kept-plant (kept-cond (m .mark && q 0) (idle-kept m c _ (g .0) (first-removed-kept (not (singles (m .op) 0)) (m .op) c _ (g .1) (removeBottleneckInSubplanImpl-kept (λ i. not (singles (m .op) i)) c (g .1)))) (kept-refl (at m c) (g .0, g .1)))
+    (removeBottleneckInSubplanImpl-kept (λ i. q (suc i)) r (g .2))
 
-pub freed-kept : {b h : Bool} (t : Tree) → passing (opT t) ≡ true → FitT t → Keeps false b h t (freed t)
-freed-kept {b} {h} t e g =
-    let k : KeepsAll false b h (t .kids) (openRoot t) = opened-kept true (opT t) (t .kids) _ (g .1) (openEach-kept (λ i. true) (t .kids) (g .1)) in
+pub without-self-kept : {b h : Bool} (t : Tree) → passing (opT t) ≡ true → FitT t → Keeps false b h t (withoutSelf t)
+without-self-kept {b} {h} t e g =
+    let k : KeepsAll false b h (t .kids) (bottlenecksRemoved t) = first-removed-kept true (opT t) (t .kids) _ (g .1) (removeBottleneckInSubplanImpl-kept (λ i. true) (t .kids) (g .1)) in
     let u : Tree = removeBottleneckInSubplan t in
-    let i : Keeps false b h t u = kept-rebuild (opT t) (t .top .mark) (t .top .mark) (t .kids) (openRoot t) (g .0) k in
+    let i : Keeps false b h t u = kept-rebuild (opT t) (t .top .mark) (t .top .mark) (t .kids) (bottlenecksRemoved t) (g .0) k in
     kept-trans i (kept-first u (pass-remark _ (opT t) ∙ e) (i .fit))
 
 -- ---- the step
@@ -133,8 +133,8 @@ own-width t e g = go (t .kids) (subst (λ (z : Arity). FitsA z (count (strip (t 
 cascade-kept : {b h : Bool} (ks : List Key) (f : Fetch) (t : Tree) → Sorts ks f t → FitT t → Keeps false b h t (cascade ks f t)
 cascade-kept {b} {h} ks f t s g = kept-cond (leb (fact t .streams) 1) (kept-over (mergeOp ks f) false refl (λ i q. uncut-fetch f (s .uncut q)) (λ i v w. subst (λ (x : ℕ). nodeOk (mergeOp ks f) (x ∷ []) ≡ true) (sym (ap (λ (F : Facts). F .width) (sorted .base))) (own v)) refl sorted) (kept-refl t g)
   where
-    k : Keeps false b h t (freed t)
-    k = freed-kept t (s .pass) g
+    k : Keeps false b h t (withoutSelf t)
+    k = without-self-kept t (s .pass) g
 
     own : OkT t → nodeOk (mergeOp ks f) (fact t .width ∷ []) ≡ true
     own v = subst (λ (ws : List ℕ). nodeOk (mergeOp ks f) ws ≡ true) (own-width t (s .pass) g) (s .fits v)
@@ -145,11 +145,11 @@ cascade-kept {b} {h} ks f t s g = kept-cond (leb (fact t .streams) 1) (kept-over
         let m : keysFit w ks ≡ true = search (and-left, and-right) in
         (keys-of w ks (ap₂ _&&_ (ap₂ _&&_ (le-leb 0 (length ks) (omega arith)) n) m), search (and-left, and-right))
 
-    new : OkT t → KeysFit (fact (freed t) .width) (freshKeys (fact (freed t)) [] ks) × (fetchOk f ≡ true)
-    new v = let p = given (fact t .width) (own v) in (fresh-keys (fact (freed t)) (fact (freed t) .width) ks (subst (λ (F : Facts). KeysFit (F .width) ks) (sym (k .base)) (p .0)), p .1)
+    new : OkT t → KeysFit (fact (withoutSelf t) .width) (freshKeys (fact (withoutSelf t)) [] ks) × (fetchOk f ≡ true)
+    new v = let p = given (fact t .width) (own v) in (fresh-keys (fact (withoutSelf t)) (fact (withoutSelf t) .width) ks (subst (λ (F : Facts). KeysFit (F .width) ks) (sym (k .base)) (p .0)), p .1)
 
-    sorted : Keeps false b h t (addSortAboveWithCheck ks f (freed t))
-    sorted = kept-cond (met (fact (freed t)) ks) k (kept-sortAbove ks f (λ i q. s .uncut q) (λ i v w. new v) k)
+    sorted : Keeps false b h t (addSortAboveWithCheck ks f (withoutSelf t))
+    sorted = kept-cond (met (fact (withoutSelf t)) ks) k (kept-sortAbove ks f (λ i q. s .uncut q) (λ i v w. new v) k)
 
 abbrev Parallel : Bool → Bool → Bool → Forest Marked → Op → Type 0
 Parallel b h x c o = FitT (node o x c) → Keeps false b h (node o x c) (parallelBy (shape o) (node o x c))
@@ -160,7 +160,7 @@ parallelBy-kept {b} {h} x c =
     (λ p ks f g. cascade-kept ks f (node (sortOp p ks f) x c) (record { pass = refl; uncut = λ q. op-fetch (sortOp p ks f) (q .0); fits = λ v. v .0 }) g)
     (λ ks f g. cascade-kept ks f (node (mergeOp ks f) x c) (record { pass = refl; uncut = λ q. op-fetch (mergeOp ks f) (q .0); fits = λ v. v .0 }) g)
     (λ p n q ks g. kept-refl (node (repartition p n q ks) x c) g)
-    (λ f g. kept-over (coalesce f) false refl (λ i q. q .0) (λ i v w. coalesce-ok f (fact (freed (node (coalesce f) x c)) .width ∷ []) (node-fetch (coalesce f) (map (λ F. F .width) (known c)) (v .0)) (refl, narrowT (freed (node (coalesce f) x c)) w)) refl (freed-kept (node (coalesce f) x c) refl g))
+    (λ f g. kept-over (coalesce f) false refl (λ i q. q .0) (λ i v w. coalesce-ok f (fact (withoutSelf (node (coalesce f) x c)) .width ∷ []) (node-fetch (coalesce f) (map (λ F. F .width) (known c)) (v .0)) (refl, narrowT (withoutSelf (node (coalesce f) x c)) w)) refl (without-self-kept (node (coalesce f) x c) refl g))
     (λ o e g. subst (λ (z : Shape). Keeps false b h (node o x c) (parallelBy z (node o x c))) (sym e) (kept-refl (node o x c) g))
 
 pub parallelizeSorts-kept : {b h : Bool} (t : Tree) → FitT t → Keeps false b h t (parallelizeSorts t)

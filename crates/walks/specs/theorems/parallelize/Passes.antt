@@ -16,21 +16,21 @@ use Rattle.plan.specs.WellFormed.{nodeOk}
 use Rattle.plan.specs.declared.Fetch.{Fetch}
 use Rattle.semantics.specs.Facts.{Facts, facts, factsOp, met, nf, ordered}
 use Rattle.semantics.specs.Properties.{freshKeys, singles}
-use Rattle.semantics.specs.Check.{check, wants}
+use Rattle.semantics.specs.Check.{check, wantsMet}
 use Rattle.semantics.specs.theorems.common.Bools.{and-left, and-right, or-false}
 use Rattle.semantics.specs.theorems.facts.StreamCounts.{streams-some}
 use Rattle.walks.specs.Marks.{bare, cover, fact, headMark, known, Marked, node, opT, over, rebuild, setMark, Shape, strip, transformUp, Tree}
 use Rattle.walks.specs.Utils.{addSortAbove, addSortAboveWithCheck, isSort, newSort}
-use Rattle.walks.specs.ParallelizeSorts.{anyMarkAt, cascade, freed, openEach, openRoot, parallelBy, parallelize, parallelizeSorts, parallelMarked, removeBottleneckInSubplan, updateCoalesceCtxChildren}
+use Rattle.walks.specs.ParallelizeSorts.{anyMarkAt, cascade, withoutSelf, removeBottleneckInSubplanImpl, bottlenecksRemoved, parallelBy, parallelize, parallelizeSorts, parallelMarked, removeBottleneckInSubplan, updateCoalesceCtxChildren}
 use Rattle.walks.specs.Counted.{hasPartialSort, one}
 use Rattle.walks.specs.Terms.{blank, passing}
 use Rattle.walks.specs.theorems.common.Trees.{Arity, arity, count, FitsA, FitT, Ok, ok-fit, ok-to, OkT}
 use Rattle.walks.specs.theorems.common.Keeps.{Keeps, KeepsAll, kept-rebuild, pass-one, remark-same, shape-ind, strip-bare, walk-kept}
-use Rattle.walks.specs.theorems.parallelize.Kept.{freed-kept, openEach-kept, opened-kept, parallelizeSorts-kept}
+use Rattle.walks.specs.theorems.parallelize.Kept.{without-self-kept, removeBottleneckInSubplanImpl-kept, first-removed-kept, parallelizeSorts-kept}
 use Rattle.walks.specs.theorems.common.OrderMet.{wants-remark}
 use Rattle.walks.specs.theorems.ensure.Removal.{isOther, other-code}
 use Rattle.walks.specs.theorems.ensure.Passes.{addSort-met}
-use Rattle.walks.specs.theorems.parallelize.Bottlenecks.{Fine, FineT, kid-pass, openEach-opens, Opened, opened-opens, pass-plant, PassT, rebuilt-facts}
+use Rattle.walks.specs.theorems.parallelize.Bottlenecks.{MarksStay, FineT, kid-pass, openEach-opens, Opened, first-removed-opens, pass-plant, PassT, rebuilt-facts}
 
 -- ---- the step: the node's facts stay
 facts-are : (F G : Facts) → blank F ≡ blank G → F .streams ≡ G .streams → F .order ≡ G .order → F ≡ G
@@ -45,21 +45,21 @@ record Stepped (t u : Tree) : Type 0 where
 record Ready (t : Tree) : Type 0 where
   fit : FitT t
   ok : OkT t
-  kids : Fine (t .kids)
+  kids : MarksStay (t .kids)
   whole : eqb (code (opT t)) 14 ≡ false
   passes : PassT t
 
 module _ (t : Tree) (h : Ready t) where
-  root-opens : Opened (t .kids) (openRoot t)
-  root-opens = opened-opens true (opT t) (t .kids) (openEach (λ i. true) (t .kids)) (h .fit .1) (h .passes .1) (openEach-opens (λ i. true) (t .kids) (h .fit .1) (h .ok .1) (h .kids) (h .passes .1))
+  root-opens : Opened (t .kids) (bottlenecksRemoved t)
+  root-opens = first-removed-opens true (opT t) (t .kids) (removeBottleneckInSubplanImpl (λ i. true) (t .kids)) (h .fit .1) (h .passes .1) (openEach-opens (λ i. true) (t .kids) (h .fit .1) (h .ok .1) (h .kids) (h .passes .1))
 
-  root-count : passing (opT t) ≡ true → count (strip (openRoot t)) ≡ 1
+  root-count : passing (opT t) ≡ true → count (strip (bottlenecksRemoved t)) ≡ 1
   root-count e =
-      let k : KeepsAll false true true (t .kids) (openRoot t) = opened-kept true (opT t) (t .kids) (openEach (λ i. true) (t .kids)) (h .fit .1) (openEach-kept (λ i. true) (t .kids) (h .fit .1)) in
+      let k : KeepsAll false true true (t .kids) (bottlenecksRemoved t) = first-removed-kept true (opT t) (t .kids) (removeBottleneckInSubplanImpl (λ i. true) (t .kids)) (h .fit .1) (removeBottleneckInSubplanImpl-kept (λ i. true) (t .kids) (h .fit .1)) in
       k .same ∙ subst (λ (a : Arity). FitsA a (count (strip (t .kids)))) (pass-one (opT t) e) (h .fit .0)
 
-  freed-pass : passing (opT t) ≡ true → PassT (freed t)
-  freed-pass e = kid-pass (removeBottleneckInSubplan t) (openRoot t) (root-count e) (root-opens .passes)
+  without-self-pass : passing (opT t) ≡ true → PassT (withoutSelf t)
+  without-self-pass e = kid-pass (removeBottleneckInSubplan t) (bottlenecksRemoved t) (root-count e) (root-opens .passes)
 
   -- a node that stays, with its mark
   unchanged : (t .top .mark ≡ true → isSort (opT t) ≡ true → 1 < fact t .streams) → Stepped t t
@@ -93,17 +93,17 @@ cascade-steps : (ks : List Key) (f : Fetch) (t : Tree) → Ready t → passing (
 cascade-steps ks f t h e o = go (leb (fact t .streams) 1) refl
   where
     u : Tree
-    u = addSortAboveWithCheck ks f (freed t)
+    u = addSortAboveWithCheck ks f (withoutSelf t)
 
     base : blank (fact u) ≡ blank (fact t)
-    base = checked-base ks f (freed t) ∙ freed-kept {b = false} {h = false} t e (h .fit) .base
+    base = checked-base ks f (withoutSelf t) ∙ without-self-kept {b = false} {h = false} t e (h .fit) .base
 
     go : (b : Bool) → leb (fact t .streams) 1 ≡ b → Stepped t (cond b (over (mergeOp ks f) false u) t)
     go true l =
         let one : fact t .streams ≡ 1 = omega (arith, leb-true (fact t .streams) 1 l, all-head (streams-some (tree (opT t) (strip (t .kids)) none) (ok-to (tree (opT t) (strip (t .kids)) none) (h .ok .0, h .ok .1, tt)))) in
         record {
           same = facts-are (fact (over (mergeOp ks f) false u)) (fact t) base (sym one) (ap (λ (B : Facts). nf B [] ks) base ∙ sym o);
-          passes = (ap₂ _&&_ (checked-met ks f (freed t)) refl, pass-plant u none (checked-pass ks f (freed t) (freed-pass t h e)) refl);
+          passes = (ap₂ _&&_ (checked-met ks f (withoutSelf t)) refl, pass-plant u none (checked-pass ks f (withoutSelf t) (without-self-pass t h e)) refl);
           fine = λ q. no-bool q;
         }
     go false l = unchanged t h (λ _ _. leb-false (fact t .streams) 1 l)
@@ -135,10 +135,10 @@ marked-steps x c =
         go true e = s
         go false e = unchanged (node o x c) h (λ y z. no-bool (sym e ∙ g y z))
 
-    coalesce-steps : (f : Fetch) → Ready (node (coalesce f) x c) → Stepped (node (coalesce f) x c) (over (coalesce f) false (freed (node (coalesce f) x c)))
+    coalesce-steps : (f : Fetch) → Ready (node (coalesce f) x c) → Stepped (node (coalesce f) x c) (over (coalesce f) false (withoutSelf (node (coalesce f) x c)))
     coalesce-steps f h =
         let t : Tree = node (coalesce f) x c in
-        record { same = ap (λ (B : Facts). ordered B 1 []) (freed-kept {b = false} {h = false} t refl (h .fit) .base); passes = (refl, pass-plant (freed t) none (freed-pass t h refl) refl); fine = λ q. no-bool q }
+        record { same = ap (λ (B : Facts). ordered B 1 []) (without-self-kept {b = false} {h = false} t refl (h .fit) .base); passes = (refl, pass-plant (withoutSelf t) none (without-self-pass t h refl) refl); fine = λ q. no-bool q }
 
 step-steps : (t : Tree) → Ready t → Stepped t (parallelizeSorts t)
 step-steps t h =
@@ -170,7 +170,7 @@ step-steps t h =
 record Walked (f : Plan) (d : Forest Marked) : Type 0 where
   same : known d ≡ facts f
   passes : check (strip d) ≡ true
-  fine : Fine d
+  fine : MarksStay d
 
 parallelize-walks : (f : Plan) → Ok f → hasPartialSort f ≡ false → check f ≡ true → Walked f (transformUp parallelizeSorts f)
 parallelize-walks none h p e = record { same = refl; passes = refl; fine = tt }
@@ -183,14 +183,14 @@ parallelize-walks (tree o c r) h p e =
     let k : KeepsAll false true true (bare c) d = walk-kept parallelizeSorts (λ t g. parallelizeSorts-kept t g) c (ok-fit c (h .1)) in
     let i : Keeps false true true (node o false (bare c)) (rebuild o false d) = kept-rebuild o false false (bare c) d (subst (λ (g : Plan). FitsA (arity o) (count g)) (sym (strip-bare c)) (ok-fit (tree o c r) h .0)) k in
     let t : Tree = rebuild o false d in
-    let q : wants o (facts c) ≡ true = search and-left in
+    let q : wantsMet o (facts c) ≡ true = search and-left in
     let ready : Ready t =
     record {
       fit = i .fit;
       ok = i .ok refl (subst (λ (g : Plan). (nodeOk o (map (λ F. F .width) (facts g)) ≡ true) × Ok g) (sym (strip-bare c)) (h .0, h .1));
       kids = w .fine;
       whole = ap (λ (n : ℕ). eqb n 14) (remark-same code _ (λ a b n s ks. refl) o) ∙ no .0;
-      passes = (wants-remark _ o (known d) ∙ ap (wants o) (w .same) ∙ q, w .passes);
+      passes = (wants-remark _ o (known d) ∙ ap (wantsMet o) (w .same) ∙ q, w .passes);
     }
     in
     let s : Stepped t (parallelizeSorts t) = step-steps t ready in

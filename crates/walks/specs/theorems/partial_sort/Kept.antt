@@ -15,7 +15,7 @@ use Rattle.plan.specs.WellFormed.{fetchOk, keysFit, nodeOk, some, wellFormed}
 use Rattle.plan.specs.declared.Fetch.{Fetch}
 use Rattle.semantics.specs.Facts.{at0, Facts, facts, factsOp, met}
 use Rattle.semantics.specs.Properties.{anyOf, endless}
-use Rattle.semantics.specs.Check.{check, wants}
+use Rattle.semantics.specs.Check.{check, wantsMet}
 use Rattle.semantics.specs.theorems.common.Bools.{and-left, and-right}
 use Rattle.walks.specs.Marks.{Shape}
 use Rattle.walks.specs.PartialSort.{becomes, commonPrefixLength, fromNode, ofPrefix, partialBy, pastTheEnd, Replaced, replaceWithPartialSort, setNode}
@@ -28,7 +28,7 @@ use Rattle.walks.specs.theorems.calls.Answers.{isAnswer, planOr, well-ok
 abbrev InPlace : Plan → Op → Type 0
 InPlace none p = Unit {0}
 InPlace (tree o c r) p =
-    (factsOp p (facts c) ≡ factsOp o (facts c)) × (nodeOk o (map (λ F. F .width) (facts c)) ≡ true → nodeOk p (map (λ F. F .width) (facts c)) ≡ true) × (wants o (facts c) ≡ true → wants p (facts c) ≡ true)
+    (factsOp p (facts c) ≡ factsOp o (facts c)) × (nodeOk o (map (λ F. F .width) (facts c)) ≡ true → nodeOk p (map (λ F. F .width) (facts c)) ≡ true) × (wantsMet o (facts c) ≡ true → wantsMet p (facts c) ≡ true)
 
 pub record SetKept (f g : Plan) : Type 0 where
   pub same : facts g ≡ facts f
@@ -45,7 +45,7 @@ set-kids o c d r k =
     record {
       same = ap (λ (fs : List Facts). factsOp o fs ∷ facts r) (k .same);
       ok = λ h. (ap (λ (fs : List Facts). nodeOk o (map (λ F. F .width) fs)) (k .same) ∙ h .0, k .ok (h .1), h .2);
-      passes = λ e. let w : wants o (facts c) ≡ true = search and-left in ap₂ _&&_ (ap (wants o) (k .same) ∙ w) (ap₂ _&&_ (k .passes (search (and-left, and-right))) (and-right (check c) (check r) (search and-right)));
+      passes = λ e. let w : wantsMet o (facts c) ≡ true = search and-left in ap₂ _&&_ (ap (wantsMet o) (k .same) ∙ w) (ap₂ _&&_ (k .passes (search (and-left, and-right))) (and-right (check c) (check r) (search and-right)));
       long = ap (λ (n : ℕ). suc (n + size r)) (k .long);
       number = refl;
     }
@@ -55,7 +55,7 @@ set-right o c r s k =
     record {
       same = ap (λ (fs : List Facts). factsOp o (facts c) ∷ fs) (k .same);
       ok = λ h. (h .0, h .1, k .ok (h .2));
-      passes = λ e. let w : wants o (facts c) ≡ true = search and-left in let x : check c ≡ true = search (and-left, and-right) in ap₂ _&&_ w (ap₂ _&&_ x (k .passes (search (and-left, and-right))));
+      passes = λ e. let w : wantsMet o (facts c) ≡ true = search and-left in let x : check c ≡ true = search (and-left, and-right) in ap₂ _&&_ w (ap₂ _&&_ x (k .passes (search (and-left, and-right))));
       long = ap (λ (n : ℕ). suc (size c + n)) (k .long);
       number = ap suc (k .number);
     }
@@ -66,7 +66,7 @@ set-kept zero p (tree o c r) h =
     record {
       same = ap (λ (F : Facts). F ∷ facts r) (h .0);
       ok = λ v. (h .1 (v .0), v .1, v .2);
-      passes = λ e. let w : wants o (facts c) ≡ true = search and-left in ap₂ _&&_ (h .2 w) (and-right (wants o (facts c)) (check c && check r) e);
+      passes = λ e. let w : wantsMet o (facts c) ≡ true = search and-left in ap₂ _&&_ (h .2 w) (and-right (wantsMet o (facts c)) (check c && check r) e);
       long = refl;
       number = refl;
     }

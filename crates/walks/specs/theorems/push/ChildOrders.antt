@@ -20,7 +20,7 @@ use Rattle.semantics.specs.Facts.{at0, at1, cl, compatible, dropRepeats, Facts,
 use Rattle.semantics.specs.Properties.{maintains, wanted}
 use Rattle.semantics.specs.theorems.common.Bools.{and-left, and-right, or-false}
 use Rattle.semantics.specs.theorems.facts.Fits.{join-width, op-width}
-use Rattle.walks.specs.SortPushdown.{andKey, atColumn, backBy, childRequired, eitherSide, exprSourceSide, fetchBlocks, goes, goIf, handleCustomPushdown, handleFetch, handleHashJoin, handleMerge, invalid, JoinSide, leftFirst, leftSide, newOutputOrdering, noSide, onRight, onSide, pushByKind, pushdownRequirementToChildren, pushdownWouldViolateRequirements, Pushed, pushToSide, remapRequirementThroughProjection, reorderTo, rightSide, sideOrder, stop, throughFetch, Valid, valid}
+use Rattle.walks.specs.SortPushdown.{andKey, atColumn, addOffsetToPhysicalSortExprs, childRequired, eitherSide, exprSourceSide, fetchBlocks, goes, goIf, handleCustomPushdown, handleFetch, handleHashJoin, handleMerge, invalid, JoinSide, leftFirst, leftSide, newOutputOrdering, noSide, onRight, onSide, pushByKind, pushdownRequirementToChildren, pushdownWouldViolateRequirements, Pushed, pushToSide, remapRequirementThroughProjection, reorderTo, rightSide, sideOrder, stop, throughFetch, Valid, valid}
 use Rattle.walks.specs.theorems.common.Lists.{map-length}
 use Rattle.walks.specs.theorems.common.Trees.{Arity, arity, children-fit, FitsA, oneKid, twoKids}
 use Rattle.walks.specs.theorems.common.Keys.{keys-of, KeysFit, no-keys, repeats-keys}
@@ -28,18 +28,18 @@ use Rattle.walks.specs.theorems.common.NewNodes.{nth-width, one-child, w
 
 -- ---- columns moved back
 module _ (off : ℕ) where
-  back-out : (c : ℕ) (ks : List Key) → off ≤ c → All (λ k. off ≤ k .col) ks → member c (map (λ k. k .col) ks) ≡ false → member (c - off) (map (λ k. k .col) (backBy off ks)) ≡ false
+  back-out : (c : ℕ) (ks : List Key) → off ≤ c → All (λ k. off ≤ k .col) ks → member c (map (λ k. k .col) ks) ≡ false → member (c - off) (map (λ k. k .col) (addOffsetToPhysicalSortExprs off ks)) ≡ false
   back-out c [] l all-nil e = refl
   back-out c (k ∷ ks) l (all-cons h hs) e =
       let f = or-false (eqb c (k .col)) (member c (map (λ k. k .col) ks)) e in
       ap₂ _||_ (ne-eqb (c - off) (k .col - off) (λ q. no-bool (sym (f .0) ∙ eq-eqb c (k .col) (omega arith)))) (back-out c ks l hs (f .1))
 
-  back-apart : (ks : List Key) → All (λ k. off ≤ k .col) ks → distinct (map (λ k. k .col) ks) ≡ true → distinct (map (λ k. k .col) (backBy off ks)) ≡ true
+  back-apart : (ks : List Key) → All (λ k. off ≤ k .col) ks → distinct (map (λ k. k .col) ks) ≡ true → distinct (map (λ k. k .col) (addOffsetToPhysicalSortExprs off ks)) ≡ true
   back-apart [] all-nil e = refl
   back-apart (k ∷ ks) (all-cons h hs) e =
       ap₂ (λ (x y : Bool). not x && y) (back-out (k .col) ks h hs (not-true (member (k .col) (map (λ k. k .col) ks)) (search and-left))) (back-apart ks hs (search and-right))
 
-  pub back-keys : (v w : ℕ) (ks : List Key) → v - off ≤ w → All (λ k. off ≤ k .col) ks → KeysFit v ks → KeysFit w (backBy off ks)
+  pub back-keys : (v w : ℕ) (ks : List Key) → v - off ≤ w → All (λ k. off ≤ k .col) ks → KeysFit v ks → KeysFit w (addOffsetToPhysicalSortExprs off ks)
   back-keys v w ks n h f =
       record {
         short = omega (arith, map-length (atColumn (λ c. c - off)) ks, f .short);
@@ -154,7 +154,7 @@ join-goes o t F fs parent n w (leftSide ks) h =
 join-goes o t F fs parent n w (rightSide ks) h =
     let v : PushedFits fs (goes (wanted o)) = wants-at (wanted o) fs w in
     let off : ℕ = F .width - at1 fs .width in
-    let ls : List Key = backBy off ks in
+    let ls : List Key = addOffsetToPhysicalSortExprs off ks in
     goIf-fits fs (met (reorder (at1 fs) ls) (wanted o 1) && met (reorderTo F (newOutputOrdering t (at0 fs) (at1 fs) ls 1)) parent) (sideOrder 1 (dropRepeats [] ls) (wanted o))
     (λ e. two-go fs (sideOrder 1 (dropRepeats [] ls) (wanted o)) n (v 0 (omega arith)) (repeats-keys (at1 fs .width) ls (omega (arith, map-length (atColumn (λ c. c - off)) ks, h .0)) (all-over (atColumn (λ c. c - off)) (λ k l. l) (h .1))))
 
@@ -166,8 +166,8 @@ every-le off (k ∷ ks) e = all-cons (leb-true off (k .col) (search and-left)) (
 hash-goes : (o : Op) (F : Facts) (fs : List Facts) (parent : List Key) → length fs ≡ 2 → KeysFit (F .width) parent → PushedFits fs (handleHashJoin o F fs parent)
 hash-goes o F fs parent n h =
     let off : ℕ = F .width - at1 fs .width in
-    goIf-fits fs (maintains o fs 1 && every (λ k. leb off (k .col)) parent) (onRight (backBy off parent))
-    (λ e. two-go fs (onRight (backBy off parent)) n no-keys (back-keys off (F .width) (at1 fs .width) parent (omega arith) (every-le off parent (and-right (maintains o fs 1) (every (λ k. leb off (k .col)) parent) e)) h))
+    goIf-fits fs (maintains o fs 1 && every (λ k. leb off (k .col)) parent) (onRight (addOffsetToPhysicalSortExprs off parent))
+    (λ e. two-go fs (onRight (addOffsetToPhysicalSortExprs off parent)) n no-keys (back-keys off (F .width) (at1 fs .width) parent (omega arith) (every-le off parent (and-right (maintains o fs 1) (every (λ k. leb off (k .col)) parent) e)) h))
 
 cond-fits : (fs : List Facts) (b : Bool) (u v : Pushed) → PushedFits fs u → PushedFits fs v → PushedFits fs (cond b u v)
 cond-fits fs true u v h k = h

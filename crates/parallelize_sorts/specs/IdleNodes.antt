@@ -28,8 +28,8 @@ use Rattle.arena.specs.declared.At.{At}
 use Rattle.walks.specs.Marks.{Marked, Tree, strip, known, node, opT, fact, setMark, kid0, rebuild, shape}
 use Rattle.walks.specs.theorems.common.Trees.{OkT, ok-fit, arity, children-fit, FitsA}
 use Rattle.walks.specs.theorems.common.Keeps.{kept-node, like-refl, KeepsAll, all-kept-refl, shape-ind}
-use Rattle.walks.specs.theorems.parallelize.Kept.{opened-kept}
-use Rattle.walks.specs.ParallelizeSorts.{bottleneck, firstIs, idle, liftFirst, opened, samePartitioning, settle, skipSame}
+use Rattle.walks.specs.theorems.parallelize.Kept.{first-removed-kept}
+use Rattle.walks.specs.ParallelizeSorts.{bottleneck, firstIs, idle, liftFirst, firstBottleneckRemoved, samePartitioning, withoutIdle, skipSame}
 use Rattle.plan_context.specs.View.{treeOf, forest, mostNodes, mostSlots, Arena, Grown, Here, Over, Puts}
 use Rattle.plan_context.specs.Facts.{Tells}
 use Rattle.plan_context.specs.Handles.{Marks}
@@ -156,14 +156,14 @@ module _ (m : List ℕ) (u : ℕ) (r ks : List ℕ) (p : Puts m u r ks) (b : Boo
   pub idle-some : b ≡ true → 0 < length ks
   idle-some t = let n = one-child m r ks (put-over m u r ks p) (repartitions t) in omega arith
 
-  pub idle-grown : b ≡ true → (k : ℕ) → k ≡ getD ks 0 0 → Grown m u m (record { used = u; root = k }) (settle (record { op = decode r; mark = true }) (forest m ks)) (u + 1)
+  pub idle-grown : b ≡ true → (k : ℕ) → k ≡ getD ks 0 0 → Grown m u m (record { used = u; root = k }) (withoutIdle (record { op = decode r; mark = true }) (forest m ks)) (u + 1)
   idle-grown t k q =
       let l = below-at (2 * u) ks 0 (p .below) (idle-some t) in
       subst (λ x. Grown m u m (record { used = u; root = k }) x (u + 1))
       (ap (treeOf m) q ∙ first-kid m ks (rebuild (decode r) true (forest m ks)) (idle-some t) ∙ ap (λ x. cond x (kid0 (rebuild (decode r) true (forest m ks)) (forest m ks)) (rebuild (decode r) true (forest m ks))) (sym t ∙ e))
       (grown-none m u k (u + 1) (p .arena) (omega arith) (omega arith))
 
-  pub back-grown : b ≡ false → (m' : List ℕ) (a : At) → Grown m u m' a (rebuild (decode r) false (forest m ks)) (u + 1) → (k : ℕ) → Marks (a .root) true k → Grown m u m' (record { used = a .used; root = k }) (settle (record { op = decode r; mark = true }) (forest m ks)) (u + 1)
+  pub back-grown : b ≡ false → (m' : List ℕ) (a : At) → Grown m u m' a (rebuild (decode r) false (forest m ks)) (u + 1) → (k : ℕ) → Marks (a .root) true k → Grown m u m' (record { used = a .used; root = k }) (withoutIdle (record { op = decode r; mark = true }) (forest m ks)) (u + 1)
   back-grown t m' a g k q =
       subst (λ x. Grown m u m' (record { used = a .used; root = k }) x (u + 1))
       (ap (λ x. cond x (kid0 (rebuild (decode r) true (forest m ks)) (forest m ks)) (rebuild (decode r) true (forest m ks))) (sym t ∙ e))
@@ -241,7 +241,7 @@ module _ (m : List ℕ) (u i : ℕ) (r : List ℕ) (p : Lifts m u i r) where
         rw (p .rec)
         (let v = view m i node-older .ok in
         let f = ok-fit (tree o (strip c) none) (v .0, v .1, tt) in
-        let k₁ : KeepsAll false true true c (liftFirst o c) = subst (λ x. KeepsAll false true true c (cond (x && true) (liftFirst o c) c)) (p .first) (opened-kept true o c c (f .1) (all-kept-refl c (f .1))) in
+        let k₁ : KeepsAll false true true c (liftFirst o c) = subst (λ x. KeepsAll false true true c (cond (x && true) (liftFirst o c) c)) (p .first) (first-removed-kept true o c c (f .1) (all-kept-refl c (f .1))) in
         kept-node o o false false c (liftFirst o c) (like-refl o) (f .0) k₁ .ok refl v)
 
     pub lift-puts : Puts m u r (take n (set kids 0 k))
@@ -258,6 +258,6 @@ module _ (m : List ℕ) (u i : ℕ) (r : List ℕ) (p : Lifts m u i r) where
           few = subst (λ f. suc (size f) ≤ mostNodes) (sym forest-is) (omega arith);
         }
 
-    pub lift-grown : (m' : List ℕ) (a : At) → Grown m u m' a (settle (record { op = decode r; mark = true }) (forest m (take n (set kids 0 k)))) (u + 1)
-        → Grown m u m' a (settle (record { op = decode r; mark = true }) (liftFirst (decode r) (forest m (slot m i .kids)))) (u + 1)
-    lift-grown m' a g = subst (λ f. Grown m u m' a (settle (record { op = decode r; mark = true }) f) (u + 1)) forest-is g
+    pub lift-grown : (m' : List ℕ) (a : At) → Grown m u m' a (withoutIdle (record { op = decode r; mark = true }) (forest m (take n (set kids 0 k)))) (u + 1)
+        → Grown m u m' a (withoutIdle (record { op = decode r; mark = true }) (liftFirst (decode r) (forest m (slot m i .kids)))) (u + 1)
+    lift-grown m' a g = subst (λ f. Grown m u m' a (withoutIdle (record { op = decode r; mark = true }) f) (u + 1)) forest-is g

@@ -2,9 +2,9 @@ use borrow.Author.Needs.{needs}
 use native.Mathlib.Omega.{arith}
 use mathlib.Core.Path.{refl}
 use Rattle.plan_context.specs.Putting.{put-over}
-use Rattle.parallelize_sorts.specs.Settling.{idle-some, idle-grown, back-grown, root-small}
-use Rattle.parallelize_sorts.proofs.bottlenecks.settle.Statement.{statement}
-use Rattle.parallelize_sorts.proofs.bottlenecks.settle.Tie as tie
+use Rattle.parallelize_sorts.specs.IdleNodes.{idle-some, idle-grown, back-grown, root-small}
+use Rattle.parallelize_sorts.proofs.bottlenecks.without_idle.Statement.{statement}
+use Rattle.parallelize_sorts.proofs.bottlenecks.without_idle.Tie as tie
 
 is-idle-requires : tie.Need-is-idle-requires
 is-idle-requires c κs = put-over ((c .before .before .before .before) .args .m .now) ((c .before .before .before .before) .args .u) ((c .before .before .before .before) .args .r .now) ((c .before .before .before .before) .args .ks .now) ((c .before .before .before .before) .pre .0)
@@ -30,8 +30,8 @@ same-length-2 c = search needs
 returns-2 : tie.Need-returns-2
 returns-2 c = back-grown ((c .before .before .before .before .before .before .before .before .before .before .before) .args .m .now) ((c .before .before .before .before .before .before .before .before .before .before .before) .args .u) ((c .before .before .before .before .before .before .before .before .before .before .before) .args .r .now) ((c .before .before .before .before .before .before .before .before .before .before .before) .args .ks .now) ((c .before .before .before .before .before .before .before .before .before .before .before) .pre .0) ((c .before .before .before .before .before .before .is-idle) .result) ((c .before .before .before .before .before .before .is-idle) .ensures) ((c .before .before .before .before .before .if1) .left) _ ((c .before .before .before .update-plan-from-children) .result) ((c .before .before .before .update-plan-from-children) .ensures) ((c .set-mark) .result) ((c .set-mark) .ensures)
 
-pub settle-spec : {M : Type 1} → statement M
-settle-spec =
+pub without-idle-spec : {M : Type 1} → statement M
+without-idle-spec =
     tie.close
     (tie.spec
     is-idle-requires

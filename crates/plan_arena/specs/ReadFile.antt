@@ -13,7 +13,7 @@ use Rattle.plan_format.specs.Reading.{refusalOf}
 use Rattle.plan_passes.specs.Laws.{length-facts, count-le}
 use Rattle.plan_reader.specs.Stack.{accepted}
 use Rattle.plan_roundtrip.specs.Files.{passed}
-use Rattle.plan_arena.specs.declared.Answer.{Answer}
+use Rattle.plan_arena.specs.declared.PlanRead.{PlanRead}
 use Rattle.arena.specs.Arena.{slotSize}
 use Rattle.plan_arena.specs.Fill.{HoldsTree, Fillable}
 
@@ -22,11 +22,11 @@ abbrev pub blockSlots : ℕ
 blockSlots = 7 * slotSize
 
 -- A file is refused with no slot used
-abbrev pub refusedWith : Refusal → Answer
+abbrev pub refusedWith : Refusal → PlanRead
 refusedWith x = record { refusal = x; used = 0; root = 0 }
 
 -- The file s is refused as 01 says, and the memory m stays; or m becomes m', which holds the file's tree
-pub record ReadAs (s m m' : List ℕ) (r : Answer) : Type 0 where
+pub record ReadAs (s m m' : List ℕ) (r : PlanRead) : Type 0 where
   pub refusal : r .refusal ≡ refusalOf s
   pub holds : refusalOf s ≡ Accepted → HoldsTree s m' (r .used) (r .root)
   pub stays : (refusalOf s ≡ Accepted → ⊥) → (m' ≡ m) × (r ≡ refusedWith (refusalOf s))
