@@ -145,12 +145,10 @@ pub fn early_refusal(s: &[u8]) -> Refusal
         return Refusal::Length;
     }
     let n = s.len() / 512;
-    let sums = sums_ok(s, n);
-    let headers = headers_ok(s, n);
-    if !sums {
+    if !sums_ok(s, n) {
         return Refusal::BlockSum;
     }
-    if !headers {
+    if !headers_ok(s, n) {
         return Refusal::Header;
     }
     let m = record_count(s, n);
