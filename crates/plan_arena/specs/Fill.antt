@@ -1,24 +1,23 @@
--- The arena is filled from the file's last record to its first; the numbers of the finished trees stand on a stack that grows down in w, so that the stack is `drop t w`.
-use mathlib.Core.Path.{_≡_, refl, ap, ap₂, sym, _∙_, subst}
+-- The arena is filled from the file's last record to its first; the numbers of the finished trees stand on a stack.
+use mathlib.Core.Path.{_≡_, ap, ap₂, sym, _∙_, subst}
 use mathlib.Core.Bool.{Bool, true, false, _||_}
 use mathlib.Core.List.{List, [], _∷_}
 use Prim.Native.Nat.{ℕ, suc, _+_, _*_, _-_, _≤_, _<_}
 use native.Mathlib.Omega.{arith}
 use native.Mathlib.Decide.{ℕ-discrete}
 use lib.Dec.{leb, eqb}
-use lib.ListN.{length, getD, take, drop, set, length-drop, length-set, drop-of-length-le}
+use lib.ListN.{length, getD, take, drop, set, length-drop, drop-of-length-le}
 use lib.Seq.{drop-cons, drop-length, length-take-le}
 use borrow.Author.Tests.{leb-true, eqb-true}
-use Rattle.scan.specs.Below.{all-at, and-left, and-right}
+use Rattle.scan.specs.Below.{all-at, and-right, or-false}
 use Rattle.scan.specs.Bytes.{cut, length-part}
 use Rattle.plan.specs.Forest.{none, tree}
 use Rattle.plan.specs.WellFormed.{between}
 use Rattle.plan_format.specs.Record.{children, kindByte, either, childrenOk, kindOk}
 use Rattle.plan_format.specs.Blocks.{blockCount, recordCount, recordStart, recordAt, span}
-use Rattle.plan_format.specs.Reading.{finished, enough, childrenAt, kindsOk, treeOk}
+use Rattle.plan_format.specs.Reading.{childrenAt, kindsOk, treeOk}
 use Rattle.plan_format.specs.Tree.{takeF, dropF, build, treeOf}
-use Rattle.plan_passes.specs.Laws.{past, past-back, past-all}
-use Rattle.plan_reader.specs.Stack.{push, rest, rest-back, enough-at, kidByte, kid-byte}
+use Rattle.plan_passes.specs.Stack.{childByte, record-lent, child-byte, rest, rest-back, Stack, stack-start, children-found, pushed, stack-more, stack-end}
 use Rattle.arena.specs.Arena.{Node, slotSize, index, held, leaf, beside, forest, planted, trees, treeAt, at, Below, GoodNode, Good, same, more}
 use Rattle.arena.specs.Laws.{index-even, at-new, length-trees, ext-tree, below-more, below-take, below-drop, forest-new, forest-take, forest-drop}
 use Rattle.arena.specs.Held.{nodeOf, length-held, Appends, Appended, held-more}
@@ -32,15 +31,12 @@ pub record HoldsTree (s m : List ℕ) (u r : ℕ) : Type 0 where
   pub parts : (j : ℕ) → j < u → Part (treeAt (held m u) (2 * j)) (treeOf s)
   pub tree : treeAt (held m u) r ≡ treeOf s
 
--- Before record i of c: u nodes, the stack from t on
+-- Before record i of c: u nodes; the stack holds the numbers of the finished trees
 pub record Filled (s : List ℕ) (c i u t : ℕ) (w m : List ℕ) : Type 0 where
   pub new : u + i ≡ c
-  pub room : i ≤ t
-  pub top : t ≤ 126
-  pub wide : length w ≡ 126
+  pub stack : Stack s c i t w
   pub good : Good (held m u)
   pub below : Below (2 * u) (drop t w)
-  pub count : length (drop t w) ≡ finished (past (childrenAt s) c i)
   pub are : forest (trees (held m u)) (drop t w) ≡ build (rest s c i)
   pub parts : (j : ℕ) → j < u → Part (treeAt (held m u) (2 * j)) (build (rest s c i))
 
@@ -49,7 +45,7 @@ unfolding span held trees forest
 fill-start s c w m h l =
     let z : c - c ≡ 0 = omega arith in
     let e : drop 126 w ≡ [] = ap (λ (n : ℕ). drop n w) (sym l) ∙ drop-length w in
-    record { new = omega arith; room = h; top = omega arith; wide = l; good = tt; below = rw e tt; count = rw (e, z); are = rw (e, z); parts = λ j l. absurd (omega arith) }
+    record { new = omega arith; stack = stack-start s c w h l; good = tt; below = rw e tt; are = rw (e, z); parts = λ j l. absurd (omega arith) }
 
 -- a child count that the kind can have is at most eight
 kind-few : (r : List ℕ) → kindOk r ≡ true → children r ≤ 8
@@ -61,14 +57,10 @@ kind-few r e = go (eqb k 4) (eqb k 11 || eqb k 12) (eqb k 1) (and-right (between
     n : ℕ
     n = children r
 
-    plain : (b : Bool) → (b || false) ≡ true → b ≡ true
-    plain true e = refl
-    plain false e = e
-
     go : (u j s : Bool) → either u (between 2 8 n) (either j (eqb n 2) (either s (eqb n 0) (eqb n 1))) ≡ true → n ≤ 8
-    go true j s e = leb-true n 8 (and-right (leb 2 n) (leb n 8) (plain (between 2 8 n) e))
-    go false true s e = omega (arith, eqb-true n 2 (plain (eqb n 2) e))
-    go false false true e = omega (arith, eqb-true n 0 (plain (eqb n 0) e))
+    go true j s e = leb-true n 8 (and-right (leb 2 n) (leb n 8) (sym (or-false (between 2 8 n)) ∙ e))
+    go false true s e = omega (arith, eqb-true n 2 (sym (or-false (eqb n 2)) ∙ e))
+    go false false true e = omega (arith, eqb-true n 0 (sym (or-false (eqb n 0)) ∙ e))
     go false false false e = omega (arith, eqb-true n 1 e)
 
 -- What `fill` asks
@@ -81,10 +73,6 @@ pub record Fillable (s : List ℕ) (c room : ℕ) : Type 0 where
   pub fits : c * slotSize ≤ room
 
 module _ (s : List ℕ) (c room : ℕ) (a : Fillable s c room) where
-  enough-all : enough (span (childrenAt s) 0 c) ≡ true
-  unfolding treeOk
-  enough-all = rw (a .count) (and-left (enough (span (childrenAt s) 0 (recordCount s))) (eqb (finished (span (childrenAt s) 0 (recordCount s))) 1) (a .shape))
-
   pub few-children : (j : ℕ) → j < c → childrenAt s j ≤ 8
   unfolding kindsOk
   few-children j h = let e = a .count in kind-few (recordAt s j) (all-at (λ i. kindOk (recordAt s i)) (recordCount s) (a .kinds) j (omega arith))
@@ -93,18 +81,9 @@ module _ (s : List ℕ) (c room : ℕ) (a : Fillable s c room) where
   long-record j h = let b = a .blocks in length-part s (recordStart j) 64 (omega arith)
 
   module _ (i u t : ℕ) (w m : List ℕ) (z : 0 < i) (p : Filled s c i u t w m) where
-    g : i - 1 + 1 ≡ i
-    g = omega arith
-
     -- the record finds its children
     found : childrenAt s (i - 1) ≤ length (drop t w)
-    found =
-        let n = p .new in let k = p .count in
-        let x : childrenAt s (i - 1) ≤ finished (past (childrenAt s) c i) = rw g at (enough-at (childrenAt s) c (i - 1) (omega arith) enough-all) in
-        omega arith
-
-    pub fill-fits : t + childrenAt s (i - 1) ≤ 126
-    fill-fits = let f = found in let l = p .wide in let o = p .top in let d = length-drop t w in omega arith
+    found = children-found s c i t w z (p .stack) (a .count) (a .shape)
 
     pub fill-fine : (k : ℕ) → k ≡ childrenAt s (i - 1) → (length (take k (drop t w)) ≡ children (recordAt s (i - 1))) × Below (2 * u) (take k (drop t w))
     fill-fine k e = let f = found in (length-take-le k (drop t w) (omega arith) ∙ e, below-take (2 * u) k (drop t w) (p .below))
@@ -126,65 +105,54 @@ module _ (s : List ℕ) (c room : ℕ) (a : Fillable s c room) where
     pub fill-more : (k : ℕ) (m' : List ℕ) → k ≡ childrenAt s (i - 1) → held m' (u + 1) ≡ nodeOf (recordAt s (i - 1)) (take k (drop t w)) ∷ held m u
         → Filled s c (i - 1) (u + 1) (t + k - 1) (set w (t + k - 1) (2 * u)) m'
     fill-more k m' e h =
-        let n = p .new in let r = p .room in let o = p .top in let l = p .wide in
-        let f = fill-fits in let q = found in
+        let n = p .new in
         let ws : List ℕ = drop t w in
         let ns : List Node = held m u in
         let node : Node = nodeOf (recordAt s (i - 1)) (take k ws) in
         let lu : length ns ≡ u = length-held m u in
-        let st : drop (t + k - 1) (set w (t + k - 1) (2 * u)) ≡ 2 * u ∷ drop k ws = push w t k (2 * u) (omega arith) (omega arith) in
+        let st : drop (t + k - 1) (set w (t + k - 1) (2 * u)) ≡ 2 * u ∷ drop k ws = pushed s c i t w z (p .stack) (a .count) (a .shape) k e (2 * u) in
         let back : rest s c (i - 1) ≡ recordAt s (i - 1) ∷ rest s c i = rest-back s c i z (omega arith) in
-        let pb : past (childrenAt s) c (i - 1) ≡ childrenAt s (i - 1) ∷ past (childrenAt s) c i = past-back (childrenAt s) c (i - 1) (omega arith) ∙ ap (λ (x : ℕ). childrenAt s (i - 1) ∷ past (childrenAt s) c x) g in
-        let cnt : finished (past (childrenAt s) c (i - 1)) ≡ finished (past (childrenAt s) c i) - childrenAt s (i - 1) + 1 = ap finished pb in
-        let ld = length-drop k ws in let pc = p .count in
         let bk : Below (2 * u) (drop k ws) = below-drop (2 * u) k ws (p .below) in
         let fine : GoodNode u node = record { below = fill-fine k e .1; long = long-record (i - 1) (omega arith); count = fill-fine k e .0; few = few-children (i - 1) (omega arith) } in
         let new : forest (trees (node ∷ ns)) (2 * u ∷ drop k ws) ≡ tree (recordAt s (i - 1)) (forest (trees ns) (take k ws)) (forest (trees ns) (drop k ws)) =
         (ap (λ (x : ℕ). forest (trees (node ∷ ns)) (2 * x ∷ drop k ws)) (sym lu) ∙ forest-new ns node (drop k ws) (rw lu bk)) in
         record {
           new = omega arith;
-          room = omega arith;
-          top = omega arith;
-          wide = length-set w (t + k - 1) (2 * u) ∙ l;
+          stack = stack-more s c i t w z (p .stack) (a .count) (a .shape) k e (2 * u);
           good = rw h (p .good, rw lu fine);
           below = rw st (omega arith, below-more (drop k ws) (omega arith) bk);
-          count = ap length st ∙ omega arith;
           are = ap₂ (λ (x : List Node) (y : List ℕ). forest (trees x) y) h st ∙ new
               ∙ ap₂ (tree (recordAt s (i - 1))) (forest-take (trees ns) k ws ∙ ap₂ takeF e (p .are)) (forest-drop (trees ns) k ws ∙ ap₂ dropF e (p .are))
               ∙ sym (ap build back);
           parts = λ j v. rw back (rw h (part-more k j e v (ℕ-discrete j u)));
         }
 
-    -- as the code lends the record and the children
-    pub fill-appends : c * slotSize ≤ length m → Appends m u (take (recordStart (i - 1) + 64 - recordStart (i - 1)) (drop (recordStart (i - 1)) s)) (take (t + kidByte s (i - 1) - t) (drop t w))
-    fill-appends h =
-        let n = p .new in let l = a .most in
-        let e = kid-byte s (i - 1) in
-        let f = fill-fine (kidByte s (i - 1)) e in
-        rw (cut s (recordStart (i - 1)) 64, cut w t (kidByte s (i - 1))) record {
-          room = omega arith;
-          long = long-record (i - 1) (omega arith);
-          count = f .0;
-          few = few-children (i - 1) (omega arith);
-          small = below-more (take (kidByte s (i - 1)) (drop t w)) (omega arith) (f .1);
-        }
+    -- as the code lends the record, which starts at b, and the children
+    module _ (b : ℕ) (g : b ≡ recordStart (i - 1)) where
+      pub fill-appends : c * slotSize ≤ length m → Appends m u (take (b + 64 - b) (drop b s)) (take (t + childByte s b - t) (drop t w))
+      fill-appends h =
+          let n = p .new in let l = a .most in
+          let f = fill-fine (childByte s b) (child-byte s (i - 1) b g) in
+          rw (record-lent s (i - 1) b g, cut w t (childByte s b)) record {
+            room = omega arith;
+            long = long-record (i - 1) (omega arith);
+            count = f .0;
+            few = few-children (i - 1) (omega arith);
+            small = below-more (take (childByte s b) (drop t w)) (omega arith) (f .1);
+          }
 
-    pub fill-next : (m' : List ℕ) → Appended m u (take (recordStart (i - 1) + 64 - recordStart (i - 1)) (drop (recordStart (i - 1)) s)) (take (t + kidByte s (i - 1) - t) (drop t w)) m'
-        → Filled s c (i - 1) (u + 1) (t + kidByte s (i - 1) - 1) (set w (t + kidByte s (i - 1) - 1) (2 * u)) m'
-    fill-next m' h = fill-more (kidByte s (i - 1)) m' (kid-byte s (i - 1)) (rw (cut s (recordStart (i - 1)) 64, cut w t (kidByte s (i - 1))) at (held-more m u _ _ m' h))
-
-    pub fill-room : (t + kidByte s (i - 1) ≤ 126) × (0 < t + kidByte s (i - 1))
-    fill-room = let e = kid-byte s (i - 1) in let f = fill-fits in let r = p .room in (omega arith, omega arith)
+      pub fill-next : (m' : List ℕ) → Appended m u (take (b + 64 - b) (drop b s)) (take (t + childByte s b - t) (drop t w)) m'
+          → Filled s c (i - 1) (u + 1) (t + childByte s b - 1) (set w (t + childByte s b - 1) (2 * u)) m'
+      fill-next m' h =
+          fill-more (childByte s b) m' (child-byte s (i - 1) b g) (rw (record-lent s (i - 1) b g, cut w t (childByte s b)) at (held-more m u _ _ m' h))
 
   pub fill-end : (i u t : ℕ) (w m : List ℕ) → i ≤ 0 → Filled s c i u t w m → (t < 126) × HoldsTree s m u (getD w t 0)
-  unfolding treeOk forest
+  unfolding forest
   fill-end i u t w m z p =
       let i₀ : i ≡ 0 = omega arith in
-      let e₀ = a .count in let n = p .new in let l = p .wide in
-      let f : finished (past (childrenAt s) c i) ≡ 1 =
-      (ap (λ (x : ℕ). finished (past (childrenAt s) c x)) i₀ ∙ ap finished (past-all (childrenAt s) c) ∙ ap (λ (x : ℕ). finished (span (childrenAt s) 0 x)) e₀
-      ∙ eqb-true (finished (span (childrenAt s) 0 (recordCount s))) 1 (and-right (enough (span (childrenAt s) 0 (recordCount s))) (eqb (finished (span (childrenAt s) 0 (recordCount s))) 1) (a .shape))) in
-      let d = length-drop t w in let pc = p .count in
+      let e₀ = a .count in let n = p .new in let l = p .stack .long in
+      let pc = stack-end s c i t w (p .stack) e₀ (a .shape) z in
+      let d = length-drop t w in
       let lt : t < 126 = omega arith in
       let d₁ = length-drop (suc t) w in
       let one : drop t w ≡ getD w t 0 ∷ [] = drop-cons w t 0 (omega arith) ∙ ap (λ (x : List ℕ). getD w t 0 ∷ x) (drop-of-length-le w {i = suc t} (omega arith)) in

@@ -1,18 +1,15 @@
 -- What reading into the arena answers.
-use mathlib.Core.Path.{_≡_, refl, sym, _∙_}
-use mathlib.Core.Bool.{true}
+use mathlib.Core.Path.{_≡_, sym, _∙_}
 use mathlib.Core.List.{List}
 use Prim.Native.Nat.{ℕ, _*_, _≤_}
 use native.Mathlib.Omega.{arith}
-use lib.ListN.{length}
 use Rattle.plan.specs.Numbers.{numberOf}
 use Rattle.plan.specs.declared.Refusal.{Refusal}
 use Rattle.plan.specs.declared.Refusal.the-variants.{Accepted}
 use Rattle.plan_format.specs.Blocks.{blockCount, recordCount}
+use Rattle.plan_format.specs.Passed.{accepted, passed}
 use Rattle.plan_format.specs.Reading.{refusalOf}
-use Rattle.plan_passes.specs.Laws.{length-facts, count-le}
-use Rattle.plan_reader.specs.Stack.{accepted}
-use Rattle.plan_roundtrip.specs.Files.{passed}
+use Rattle.plan_passes.specs.Laws.{few-records}
 use Rattle.plan_arena.specs.declared.PlanRead.{PlanRead}
 use Rattle.arena.specs.Arena.{slotSize}
 use Rattle.plan_arena.specs.Fill.{HoldsTree, Fillable}
@@ -32,14 +29,12 @@ pub record ReadAs (s m m' : List ℕ) (r : PlanRead) : Type 0 where
   pub stays : (refusalOf s ≡ Accepted → ⊥) → (m' ≡ m) × (r ≡ refusedWith (refusalOf s))
 
 pub few-blocks : (s : List ℕ) → refusalOf s ≡ Accepted → (1 ≤ blockCount s) × (blockCount s ≤ 18)
-few-blocks s e = length-facts true (length s) (sym (passed s e .len)) refl
+few-blocks s e = let f = few-records s (passed s e) in (f .0, f .1)
 
 pub fillable : (s : List ℕ) (c room : ℕ) → refusalOf s ≡ Accepted → c ≡ recordCount s → blockSlots * blockCount s ≤ room → Fillable s c room
 fillable s c room e q h =
     let v = passed s e in
-    let b = few-blocks s e in
-    let b₁ = b .1 in
-    let l = count-le s (b .0) (v .heads) in
+    let f = few-records s v in let b = f .1 in let l = f .2 in
     record { count = q; blocks = omega arith; most = omega arith; kinds = v .kinds; shape = v .shape; fits = omega arith }
 
 pub is-accepted : (s : List ℕ) (x : Refusal) → x ≡ refusalOf s → numberOf x ≡ 0 → refusalOf s ≡ Accepted

@@ -27,7 +27,7 @@ fn fill(s: &[u8], c: usize, m: &mut [u8]) -> At
     let mut i = c;
     while 0 < i {
         let j = i - 1;
-        let at = 512 * (j / 7) + (8 + 64 * (j % 7));
+        let at = plan_format::record_start(j);
         let e = at + RECORD;
         let f = t + s[at + 1] as usize;
         arena::append(m, u, &s[at..e], &w[t..f]);

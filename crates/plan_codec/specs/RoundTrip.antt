@@ -17,9 +17,8 @@ use Rattle.plan_format.specs.Blocks.{records}
 use Rattle.plan_format.specs.Reading.{refusalOf}
 use Rattle.plan_format.specs.Writing.{fileOf}
 use Rattle.plan_format.specs.Tree.{treeOf, fileOfTree}
-use Rattle.plan_reader.specs.Stack.{accepted}
 use Rattle.plan_roundtrip.specs.Back.{AllBytes}
-use Rattle.plan_roundtrip.specs.Files.{passed}
+use Rattle.plan_format.specs.Passed.{accepted, passed-last}
 use Rattle.plan_roundtrip.specs.Plans.{FineTree, tree-accepted, tree-back, accepted-tree, file-back}
 use Rattle.plan_codec.specs.Decode.{decode}
 use Rattle.plan_codec.specs.Reading.{PlanOrRefusal, refused, plan, planOf, reading}
@@ -82,7 +81,7 @@ module _ (s : List ℕ) (f : Plan) (by : AllBytes s) (e : reading s ≡ plan f) 
         kinds = v .records .kinds;
         rules = v .records .fields;
         counts = v .counts;
-        last = last-tree (records s) (passed s (read s f e .fine) .last);
+        last = last-tree (records s) (passed-last s (read s f e .fine));
       }
 
   same-tree : recorded f ≡ treeOf s

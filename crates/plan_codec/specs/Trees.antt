@@ -19,7 +19,7 @@ use Rattle.plan_format.specs.LastPass.{nodeRefusal, andThen, lastPass}
 use Rattle.plan_format.specs.LastPass.{widths as stack}
 use Rattle.plan_format.specs.Reading.{finished, enough}
 use Rattle.plan_format.specs.Tree.{takeF, dropF, build}
-use Rattle.plan_reader.specs.Stack.{accepted}
+use Rattle.plan_format.specs.Passed.{accepted}
 use Rattle.plan_roundtrip.specs.Tree.{_⊕_, arity, widthsF, widths-take, build-nodes, roots-build, widths-build}
 use Rattle.plan_codec.specs.Encode.{encode}
 use Rattle.plan_codec.specs.Writing.{recordsOf}

@@ -3,6 +3,7 @@ pub mod Record
 pub mod Blocks
 pub mod LastPass
 pub mod Reading
+pub mod Passed
 pub mod Writing
 pub mod Written
 pub mod Tree

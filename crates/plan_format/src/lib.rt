@@ -1,5 +1,7 @@
-// Which fields a record of each kind has.
+// Which fields a record of each kind has, and where a record starts in its file.
 ghost use mathlib.Core.Path.{_≡_};
+ghost use Prim.Native.Nat.{_<_, _^_};
+ghost use Rattle.plan_format.specs.Blocks.{recordStart};
 ghost use Rattle.plan_format.specs.Fields.{fieldsOf};
 
 // The fields of a record of some kind, as document 01 lists them; a field that is not there is zero.
@@ -50,4 +52,12 @@ pub fn fields_of(k: u8) -> Fields
         constants: k == 1,
         columns: k == 3,
     }
+}
+
+// Where record i starts: seven records to a block of 512 bytes, behind its header of 8.
+pub fn record_start(i: usize) -> usize
+    requires { ⌜ recordStart i < 2 ^ 64 ⌝ }
+    ensures { λ r. ⌜ r ≡ recordStart i ⌝ }
+{
+    512 * (i / 7) + (8 + 64 * (i % 7))
 }

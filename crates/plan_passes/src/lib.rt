@@ -121,7 +121,7 @@ fn records_of(s: &[u8], m: usize) -> Records
     let mut i = m;
     while 0 < i {
         let j = i - 1;
-        let at = 512 * (j / 7) + (8 + 64 * (j % 7));
+        let at = plan_format::record_start(j);
         let e = at + 64;
         let k = s[at + 1] as usize;
         kinds = kinds & plan_rules::kind_ok(&s[at..e]);

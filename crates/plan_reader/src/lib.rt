@@ -8,7 +8,7 @@ ghost use Rattle.plan_format.specs.Blocks.{recordCount, blockCount, records};
 ghost use Rattle.plan_format.specs.Record.{fields};
 ghost use Rattle.plan_format.specs.Reading.{treeOk, recordsOk, refusalOf};
 ghost use Rattle.plan_format.specs.LastPass.{belowOk, freshOk, columnOk, columnsOk, setBelow, keyColumns, sameWidths, columnLimit, unionOk, columnsRule, joinWidth, widthOf, nodeRefusal, lastPass};
-ghost use Rattle.plan_reader.specs.Stack.{Saw};
+ghost use Rattle.plan_reader.specs.Laws.{Saw};
 use plan::Refusal;
 use plan_format::Fields;
 
@@ -253,25 +253,26 @@ fn visit(r: &[u8], ws: &[u8]) -> Seen
     }
 }
 
+// The widths of the finished trees are a stack, its top at t: each record takes its children's and leaves its own.
 fn last_pass(s: &[u8], m: usize) -> Refusal
     requires { ⌜ ((m ≡ recordCount (now s)) × (m ≤ 7 * blockCount (now s)) × (m ≤ 126)) × (treeOk (now s) ≡ true) × (recordsOk (now s) ≡ true) ⌝ }
     ensures { λ x. ⌜ x ≡ lastPass (records (now (s .entry))) ⌝ }
 {
-    let mut w = [0u8; 126];
+    let mut widths = [0u8; 126];
     let mut t = 126;
     let mut i = m;
     while 0 < i {
         let j = i - 1;
-        let at = 512 * (j / 7) + (8 + 64 * (j % 7));
+        let at = plan_format::record_start(j);
         let e = at + 64;
         let u = t + s[at + 1] as usize;
-        let y = visit(&s[at..e], &w[t..u]);
+        let y = visit(&s[at..e], &widths[t..u]);
         let x = y.refusal;
         if plan::number(x) != 0 {
             return x;
         }
         t = u - 1;
-        w[t] = y.width as u8;
+        widths[t] = y.width as u8;
         i = j;
     }
     Refusal::Accepted

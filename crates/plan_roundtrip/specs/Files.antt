@@ -1,6 +1,6 @@
 -- The accepted files are exactly the files of fine lists of records, and each such list has one file.
 use mathlib.Core.Path.{_≡_, refl, sym, ap, ap₂, _∙_}
-use mathlib.Core.Bool.{Bool, true, false, cond, _&&_}
+use mathlib.Core.Bool.{Bool, true, cond, _&&_}
 use mathlib.Core.List.{List, [], _∷_, _++_, append-assoc, map}
 use Prim.Native.Nat.{ℕ, zero, suc, _+_, _*_, _-_, _≤_, _<_}
 use native.Mathlib.Omega.{arith}
@@ -10,7 +10,6 @@ use lib.Seq.{take-add, take-at, drop-drop}
 use borrow.Author.Tests.{eqb-true, eq-eqb, ltb-true, lt-ltb}
 use Rattle.scan.specs.Below.{allBelow, all-at, all-intro, and-left, and-right}
 use Rattle.scan.specs.Bytes.{part, length-part}
-use Rattle.plan.specs.Numbers.{numberOf}
 use Rattle.plan.specs.WellFormed.{every}
 use Rattle.plan.specs.declared.Refusal.{Refusal}
 use Rattle.plan.specs.declared.Refusal.the-variants.{Accepted, Length, BlockSum, Header, KindOrChildren, RecordCount, Field}
@@ -19,6 +18,7 @@ use Rattle.scan.specs.Parts.{at-part, part-part, part-right}
 use Rattle.plan_format.specs.Record.{children, kindOk, recordOk}
 use Rattle.plan_format.specs.Blocks.{lengthOk, block, blockCount, recordCount, recordStart, recordAt, records, span}
 use Rattle.plan_format.specs.LastPass.{andThen, lastPass}
+use Rattle.plan_format.specs.Passed.{passed, passed-last}
 use Rattle.plan_format.specs.Reading.{sumsOk, headersOk, kindsOk, childrenAt, treeOk, oneTree, recordsOk, earlyRefusal, refusalOf}
 use Rattle.plan_format.specs.Writing.{joined, fileOfBytes, fileOf}
 use Rattle.plan_roundtrip.specs.Back.{AllBytes, file-record, file-headers, file-sums, file-length, file-count}
@@ -217,33 +217,6 @@ fine-accepted l v =
     (record-each recordOk s (ap (every recordOk) back ∙ v .fields)) in
     ap₂ andThen early (ap lastPass back ∙ v .last)
 
--- what an accepted file has passed
-pub record Passed (s : List ℕ) : Type 0 where
-  pub len : lengthOk (length s) ≡ true
-  pub sums : sumsOk s ≡ true
-  pub heads : headersOk s ≡ true
-  pub kinds : kindsOk s ≡ true
-  pub shape : treeOk s ≡ true
-  pub fields : recordsOk s ≡ true
-  pub last : lastPass (records s) ≡ Accepted
-
-pub passed : (s : List ℕ) → refusalOf s ≡ Accepted → Passed s
-unfolding refusalOf earlyRefusal
-passed s e = go (lengthOk (length s)) (sumsOk s) (headersOk s) (kindsOk s) (treeOk s) (recordsOk s) refl refl refl refl refl refl e
-  where
-    clash : {P : Type 0} (x : Refusal) → x ≡ Accepted → (numberOf x ≡ 0 → ⊥) → P
-    clash x e f = absurd (f (ap numberOf e))
-
-    go : (a b c d f g : Bool) → lengthOk (length s) ≡ a → sumsOk s ≡ b → headersOk s ≡ c → kindsOk s ≡ d → treeOk s ≡ f → recordsOk s ≡ g
-        → andThen (cond a (cond b (cond c (cond d (cond f (cond g Accepted Field) RecordCount) KindOrChildren) Header) BlockSum) Length) (lastPass (records s)) ≡ Accepted → Passed s
-    go true true true true true true p q r t u v e = record { len = p; sums = q; heads = r; kinds = t; shape = u; fields = v; last = e }
-    go true true true true true false p q r t u v e = clash Field e (λ z. omega arith)
-    go true true true true false g p q r t u v e = clash RecordCount e (λ z. omega arith)
-    go true true true false f g p q r t u v e = clash KindOrChildren e (λ z. omega arith)
-    go true true false d f g p q r t u v e = clash Header e (λ z. omega arith)
-    go true false c d f g p q r t u v e = clash BlockSum e (λ z. omega arith)
-    go false b c d f g p q r t u v e = clash Length e (λ z. omega arith)
-
 -- an accepted file's records are fine; the same bytes are written of them again
 pub accepted-fine : (s : List ℕ) → AllBytes s → refusalOf s ≡ Accepted → Acceptable (records s)
 unfolding kindsOk treeOk recordsOk
@@ -264,7 +237,7 @@ accepted-fine s by e =
       kinds = each-record kindOk s (v .kinds);
       shape = ap oneTree (child-counts s) ∙ v .shape;
       fields = each-record recordOk s (v .fields);
-      last = v .last;
+      last = passed-last s e;
     }
   where
     inside : (j : ℕ) → AllBytes (recordAt s j)

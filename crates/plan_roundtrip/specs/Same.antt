@@ -1,6 +1,6 @@
 -- An accepted file is the file that the writer writes of its records: block by block.
 use mathlib.Core.Path.{_≡_, refl, sym, ap, ap₂, _∙_}
-use mathlib.Core.Bool.{Bool, true, false, _&&_, _||_}
+use mathlib.Core.Bool.{Bool, true, false, _&&_}
 use mathlib.Core.List.{List, [], _∷_, _++_}
 use Prim.Native.Nat.{ℕ, zero, suc, _+_, _*_, _-_, _/_, _%_, _≤_, _<_}
 use native.Mathlib.Omega.{arith}
@@ -11,12 +11,12 @@ use lib.Pow.{shr-shr}
 use lib.ListN.{length, getD, take, drop, replicate, length-append, length-drop, take-append-drop}
 use lib.Seq.{take-add, take-all, getD-drop}
 use borrow.Author.Tests.{leb-true, eqb-true}
-use Rattle.scan.specs.Below.{all-at, and-left, and-right}
+use Rattle.scan.specs.Below.{all-at, and-left, and-right, or-false}
 use Rattle.scan.specs.Bytes.{part, total, zeros, le16, le32, length-part}
 use Rattle.plan_format.specs.Blocks.{lengthOk, blockCount, block, sumOk, countOk, paddingOk, headerOk}
 use Rattle.plan_format.specs.Reading.{sumsOk, headersOk}
-use Rattle.plan_format.specs.Record.{either}
 use Rattle.plan_format.specs.Writing.{header, fourBytes, body, blockOf, blocksFor, sevenAt, blocksTo, fileOfBytes}
+use Rattle.plan_passes.specs.Laws.{count-small}
 use Rattle.scan.specs.Parts.{at-part, part-left, part-right}
 use Rattle.plan_roundtrip.specs.Back.{AllBytes}
 
@@ -67,14 +67,6 @@ fourth a b c d ha hb hc hd x e =
 second : (a b x : ℕ) → a < 256 → b < 256 → a + 256 * b ≡ x → (a ≡ x % 256) × (b ≡ x / 256 % 256)
 second a b x ha hb e = (omega arith, omega arith)
 
-small : (t : Bool) (c : ℕ) → countOk t c ≡ true → c ≤ 7
-small true c e = leb-true c 7 (and-right (leb 1 c) (leb c 7) (plain (leb 1 c && leb c 7) e))
-  where
-    plain : (b : Bool) → either true b (eqb c 7) ≡ true → b ≡ true
-    plain true e = refl
-    plain false e = e
-small false c e = omega (arith, eqb-true c 7 e)
-
 -- one block that passed 2 and 3
 pub block-same : (n k : ℕ) (b : List ℕ) → length b ≡ 512 → AllBytes b → headerOk n k b ≡ true → sumOk b ≡ true → blockOf n k (part 8 (64 * getD b 4 0) b) ≡ b
 unfolding blockOf body
@@ -84,7 +76,7 @@ block-same n k b lb h e s =
     let t : ((eqb (le16 b 0) k && eqb (le16 b 2) n) && countOk (eqb (k + 1) n) c) ≡ true = and-left ((eqb (le16 b 0) k && eqb (le16 b 2) n) && countOk (eqb (k + 1) n) c) (paddingOk b) e in
     let pad : paddingOk b ≡ true = and-right ((eqb (le16 b 0) k && eqb (le16 b 2) n) && countOk (eqb (k + 1) n) c) (paddingOk b) e in
     let nums : (eqb (le16 b 0) k && eqb (le16 b 2) n) ≡ true = and-left (eqb (le16 b 0) k && eqb (le16 b 2) n) (countOk (eqb (k + 1) n) c) t in
-    let hc : c ≤ 7 = small (eqb (k + 1) n) c (and-right (eqb (le16 b 0) k && eqb (le16 b 2) n) (countOk (eqb (k + 1) n) c) t) in
+    let hc : c ≤ 7 = count-small (eqb (k + 1) n) c (and-right (eqb (le16 b 0) k && eqb (le16 b 2) n) (countOk (eqb (k + 1) n) c) t) in
     let ek : le16 b 0 ≡ k = eqb-true (le16 b 0) k (and-left (eqb (le16 b 0) k) (eqb (le16 b 2) n) nums) in
     let en : le16 b 2 ≡ n = eqb-true (le16 b 2) n (and-right (eqb (le16 b 0) k) (eqb (le16 b 2) n) nums) in
     let z₁ : zeros (part 5 3 b) ≡ true = and-left (zeros (part 5 3 b)) (zeros (part (8 + 64 * c) (508 - (8 + 64 * c)) b)) pad in
@@ -156,14 +148,10 @@ module _ (s : List ℕ) (by : AllBytes s) (len : lengthOk (length s) ≡ true) (
   pub few : (k : ℕ) → k < blockCount s → (1 ≤ getD (block s k) 4 0) × (getD (block s k) 4 0 ≤ 7) × (k + 1 < blockCount s → getD (block s k) 4 0 ≡ 7)
   few k h = go (eqb (k + 1) (blockCount s)) refl (counted k h)
     where
-      plain : (b : Bool) → (b || false) ≡ true → b ≡ true
-      plain true e = refl
-      plain false e = e
-
       go : (t : Bool) → eqb (k + 1) (blockCount s) ≡ t → countOk t (getD (block s k) 4 0) ≡ true → (1 ≤ getD (block s k) 4 0) × (getD (block s k) 4 0 ≤ 7) × (k + 1 < blockCount s → getD (block s k) 4 0 ≡ 7)
       go true q e =
           let c : ℕ = getD (block s k) 4 0 in
-          let p = plain (leb 1 c && leb c 7) e in
+          let p = sym (or-false (leb 1 c && leb c 7)) ∙ e in
           let l = eqb-true (k + 1) (blockCount s) q in
           (leb-true 1 c (and-left (leb 1 c) (leb c 7) p), leb-true c 7 (and-right (leb 1 c) (leb c 7) p), λ x. absurd (omega arith))
       go false q e = let l = eqb-true (getD (block s k) 4 0) 7 e in (omega arith, omega arith, λ x. l)

@@ -2,17 +2,15 @@
 use borrow.Author.Needs.{needs}
 use native.Mathlib.Omega.{arith}
 use Prim.Native.Nat.{ℕ, _-_, _+_}
-use mathlib.Core.Path.{_≡_, refl, sym, ap, _∙_}
-use mathlib.Core.Bool.{Bool, _&&_}
+use mathlib.Core.Path.{_≡_, refl, ap, _∙_}
+use mathlib.Core.Bool.{_&&_}
 use mathlib.Core.List.{List}
-use lib.ListN.{getD}
 use Rattle.scan.specs.Below.{allBelow, all-down, all-down-end}
-use Rattle.scan.specs.Bytes.{cut}
-use Rattle.scan.specs.Parts.{at-part}
 use Rattle.plan_format.specs.Blocks.{span, recordAt, recordStart}
 use Rattle.plan_format.specs.Record.{kindOk, recordOk}
 use Rattle.plan_format.specs.Reading.{kindsOk, treeOk, recordsOk, childrenAt, oneTree}
 use Rattle.plan_passes.specs.Laws.{Pass, pass-start, pass-more, pass-end}
+use Rattle.plan_passes.specs.Stack.{childByte, record-lent, child-byte}
 use Rattle.plan_passes.proofs.records_of.Statement.{statement}
 use Rattle.plan_passes.proofs.records_of.Tie as tie
 
@@ -31,17 +29,8 @@ loop-holds c = (pass-start (childrenAt (c .before .args .s .now)) (c .before .ar
 sub-j : tie.Need-sub-j Inv-loop μ-loop
 sub-j c = search needs
 
-mul-at : tie.Need-mul-at Inv-loop μ-loop
-mul-at c = search needs
-
-mul-at-2 : tie.Need-mul-at-2 Inv-loop μ-loop
-mul-at-2 c = search needs
-
-add-at : tie.Need-add-at Inv-loop μ-loop
-add-at c = search needs
-
-add-at-2 : tie.Need-add-at-2 Inv-loop μ-loop
-add-at-2 c = search needs
+record-start-requires : tie.Need-record-start-requires Inv-loop μ-loop
+record-start-requires c κs = search needs
 
 add-e : tie.Need-add-e Inv-loop μ-loop
 add-e c = search needs
@@ -53,7 +42,7 @@ shared-slice-read-k : tie.Need-shared-slice-read-k Inv-loop μ-loop
 shared-slice-read-k c = search needs
 
 cast-k : tie.Need-cast-k Inv-loop μ-loop
-cast-k c = omega (arith, c .shared-slice-known2 .given (recordStart (c .before .before .loop .i - 1) + 1))
+cast-k c = omega (arith, c .shared-slice-known2 .given (c .before .record-start .result + 1))
 
 sub-kind-ok : tie.Need-sub-kind-ok Inv-loop μ-loop
 sub-kind-ok c = search needs
@@ -90,13 +79,15 @@ loop-less c = search needs
 
 loop-again : tie.Need-loop-again Inv-loop μ-loop
 loop-again c =
-    let c₃ = c .before .before .before in let c₆ = c₃ .before .before .before in let c₇ = c₆ .before in let c₉ = c₇ .before .before in
-    let s = c₉ in let b : List ℕ = s .args .s .now in let l = c₇ .loop in let j : ℕ = l .i - 1 in let t = c₆ .loop-test .taken in
-    let k : ℕ = getD b (recordStart j + 1) 0 in (
-      rw (c .minus .ensures) (pass-more (childrenAt b) (s .args .m) (l .i) (l .have) k (l .enough) t (l .inv .0) (sym (at-part b (recordStart j) 64 1 (omega arith)))),
-      ap (λ x. (l .kinds && x) && allBelow (λ i. kindOk (recordAt b i)) j) (c₃ .kind-ok .ensures ∙ ap kindOk (cut b (recordStart j) 64))
+    let c₃ = c .before .before .before in let c₆ = c₃ .before .before .before in let c₇ = c₆ .before in
+    let c₈ = c₇ .before in let s = c₈ .before .before in let b : List ℕ = s .args .s .now in
+    let l = c₈ .loop in let j : ℕ = l .i - 1 in let t = c₇ .loop-test .taken in
+    let a : ℕ = c₆ .record-start .result in let e : a ≡ recordStart j = c₆ .record-start .ensures in
+    let q = record-lent b j a e in (
+      rw (c .minus .ensures) (pass-more (childrenAt b) (s .args .m) (l .i) (l .have) (childByte b a) (l .enough) t (l .inv .0) (child-byte b j a e)),
+      ap (λ x. (l .kinds && x) && allBelow (λ i. kindOk (recordAt b i)) j) (c₃ .kind-ok .ensures ∙ ap kindOk q)
           ∙ all-down (λ i. kindOk (recordAt b i)) (s .args .m) (l .i) (l .kinds) t (l .inv .1),
-      ap (λ x. (l .rules && x) && allBelow (λ i. recordOk (recordAt b i)) j) (c .before .record-ok .ensures ∙ ap recordOk (cut b (recordStart j) 64))
+      ap (λ x. (l .rules && x) && allBelow (λ i. recordOk (recordAt b i)) j) (c .before .record-ok .ensures ∙ ap recordOk q)
           ∙ all-down (λ i. recordOk (recordAt b i)) (s .args .m) (l .i) (l .rules) t (l .inv .2),
     )
 
@@ -119,10 +110,7 @@ records-of-spec =
     μ-loop
     loop-holds
     sub-j
-    mul-at
-    mul-at-2
-    add-at
-    add-at-2
+    record-start-requires
     add-e
     add-k
     shared-slice-read-k

@@ -1,4 +1,4 @@
-use Rattle.plan_reader.specs.Stack.{wide-set}
+use Rattle.plan_reader.specs.Laws.{wide-set}
 use borrow.Author.Needs.{needs}
 use Rattle.plan_reader.proofs.set_below.Statement.{statement}
 use Rattle.plan_reader.proofs.set_below.Tie as tie
