@@ -15,7 +15,7 @@ use Rattle.plan.specs.Numbers.{numberOf}
 use Rattle.plan.specs.WellFormed.{wellFormed}
 use Rattle.plan_format.specs.Reading.{refusalOf}
 use Rattle.plan_roundtrip.specs.Back.{AllBytes}
-use Rattle.plan_codec.specs.Encode.{oneIf}
+use Rattle.scan.specs.Bytes.{oneIf}
 use Rattle.plan_codec.specs.Reading.{plan, planOf, reading, refused}
 use Rattle.plan_codec.specs.RoundTrip.{read-well-formed}
 use Rattle.semantics.specs.Check.{check, EachMet}

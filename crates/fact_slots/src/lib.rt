@@ -4,7 +4,7 @@ use key_lists::Keys;
 ghost use mathlib.Core.Path.{_≡_};
 ghost use Prim.Native.Nat.{_+_, _≤_, _<_};
 ghost use lib.ListN.{length, set};
-ghost use Rattle.plan_codec.specs.Encode.{oneIf};
+ghost use Rattle.scan.specs.Bytes.{oneIf};
 ghost use Rattle.facts.specs.Known.{Coherent};
 ghost use Rattle.fact_slots.specs.Slots.{le64, loaded, head, wordBytes, Stored, passesIn};
 

@@ -16,7 +16,8 @@ use Rattle.plan.specs.Op.{Op, source, filter, projection, union, repartition, c
 use Rattle.plan.specs.Numbers.{kindNumber, code}
 use Rattle.plan.specs.declared.Fetch.{Fetch}
 use Rattle.semantics.specs.Properties.{remark}
-use Rattle.plan_codec.specs.Encode.{fill, oneIf, marksByte, keyBytes, optionsByte, fetchNumber, encode}
+use Rattle.scan.specs.Bytes.{oneIf}
+use Rattle.plan_codec.specs.Encode.{fill, marksByte, keyBytes, optionsByte, fetchNumber, encode}
 use Rattle.plan_codec.specs.Decode.{decode}
 use Rattle.plan_codec.specs.Fill.{length-fill}
 use Rattle.plan_codec.specs.Keys.{length-bytes}

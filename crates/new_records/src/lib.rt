@@ -11,7 +11,8 @@ ghost use Rattle.plan.specs.Op.{sortOp, mergeOp, coalesce, globalLimit, localLi
 ghost use Rattle.semantics.specs.Properties.{remark};
 ghost use Rattle.key_lists.specs.Keys.{keysOf};
 ghost use Rattle.plan_codec.specs.Decode.{decode};
-ghost use Rattle.plan_codec.specs.Encode.{encode, fill, oneIf, fetchNumber, keyBytes};
+ghost use Rattle.scan.specs.Bytes.{oneIf};
+ghost use Rattle.plan_codec.specs.Encode.{encode, fill, fetchNumber, keyBytes};
 ghost use Rattle.new_records.specs.Bytes.{headOf, newBytes};
 
 // The keys as a record has them, two bytes each.

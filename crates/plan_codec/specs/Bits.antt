@@ -17,7 +17,8 @@ use Rattle.plan.specs.declared.Fetch.{Fetch}
 use Rattle.plan.specs.declared.Fetch.the-variants.{Unlimited, AtMost}
 use Rattle.plan_format.specs.Record.{noFetch}
 use Rattle.plan_codec.specs.Decode.{fetchOf, keyOfBytes}
-use Rattle.plan_codec.specs.Encode.{oneIf, marksByte, fetchNumber, optionsByte}
+use Rattle.scan.specs.Bytes.{oneIf}
+use Rattle.plan_codec.specs.Encode.{marksByte, fetchNumber, optionsByte}
 
 -- ---- Booleans
 

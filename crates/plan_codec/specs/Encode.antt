@@ -12,6 +12,7 @@ use Rattle.plan.specs.declared.Distribution.the-variants.{Unspecified, Single, 
 use Rattle.plan.specs.declared.Fetch.{Fetch}
 use Rattle.plan.specs.declared.Fetch.the-variants.{Unlimited, AtMost}
 use Rattle.plan_format.specs.Record.{noFetch}
+use Rattle.scan.specs.Bytes.{oneIf}
 use Rattle.plan_format.specs.Writing.{fourBytes}
 use Rattle.plan_codec.specs.NodeRecord.{NodeRecord}
 
@@ -20,11 +21,6 @@ abbrev pub fill : ℕ → List ℕ → List ℕ
 fill zero l = []
 fill (suc n) [] = 0 ∷ fill n []
 fill (suc n) (x ∷ l) = x ∷ fill n l
-
--- a bit's number
-abbrev pub oneIf : Bool → ℕ
-oneIf false = 0
-oneIf true = 1
 
 -- "3 marks: bit 0 preserve, bit 1 hash, bit 2 unbounded"
 abbrev pub marksByte : Bool → Bool → Bool → ℕ

@@ -14,7 +14,8 @@ use Rattle.plan.specs.WellFormed.{every, plain}
 use Rattle.plan_format.specs.Blocks.{span}
 use Rattle.plan_format.specs.Record.{either, keyOk}
 use Rattle.plan_codec.specs.Decode.{keyOfBytes, keysOf, onOf}
-use Rattle.plan_codec.specs.Encode.{fill, oneIf, optionsByte, keyBytes}
+use Rattle.scan.specs.Bytes.{oneIf}
+use Rattle.plan_codec.specs.Encode.{fill, optionsByte, keyBytes}
 use Rattle.plan_rules.specs.Slots.{even, slot-next}
 use Rattle.plan_codec.specs.Bits.{no-false, both, options-bits, bits-options}
 

@@ -15,7 +15,7 @@ use Rattle.plan_format.specs.declared.Fields.{Fields}
 use Rattle.plan_format.specs.Blocks.{span}
 use Rattle.plan_format.specs.Record.{either, mark, streamsOk, marksOk, fetchOk, skipOk, keyCountOk, widthOk, byte14Ok, keyOk, keyedSetOk, tailUsed, headOk, bodyOk, keySlotOk, keySlotsOk, tailOk, rulesOk}
 use Rattle.plan_format.specs.Writing.{fourBytes}
-use Rattle.plan_roundtrip.specs.Back.{four}
+use Rattle.scan.specs.Words.{four-again}
 use Rattle.plan_roundtrip.specs.Same.{fourth}
 use Rattle.plan_codec.specs.NodeRecord.{NodeRecord}
 use Rattle.plan_codec.specs.Decode.{keysOf, fetchOf, fromBytes}
@@ -77,8 +77,8 @@ module _ (x : NodeRecord) where
   fields-same hf hs few =
       let k = number-back (x .kind) in
       let b = marks-bits (x .preserve) (x .hash) (x .unbounded) in
-      let fe : fetchOf (le32 (toBytes x) 4) ≡ x .fetch = ap fetchOf (four (fetchNumber (x .fetch)) (fetch-fits (x .fetch) hf)) ∙ fetch-number (x .fetch) hf in
-      let sk = four (x .skip) hs in
+      let fe : fetchOf (le32 (toBytes x) 4) ≡ x .fetch = ap fetchOf (four-again (fetchNumber (x .fetch)) (fetch-fits (x .fetch) hf)) ∙ fetch-number (x .fetch) hf in
+      let sk = four-again (x .skip) hs in
       let ks : keysOf (length (x .keys)) (part 16 16 (toBytes x)) ≡ x .keys = ap (keysOf (length (x .keys))) keys-are ∙ keys-back 16 (x .keys) (omega arith) in
       λ i. record { kind = k i; children = x .children; streams = x .streams; preserve = b .preserve i; hash = b .hash i; unbounded = b .unbounded i; fetch = fe i; skip = sk i; keys = ks i; width = x .width; role = x .role; tail = tail-is i }
 
@@ -90,7 +90,7 @@ module _ (x : NodeRecord) where
         ap₂ _&&_ (b .small)
         (ap₂ _&&_ (ap (λ (t : Bool). f .preserve || not t) (b .preserve) ∙ g .preserve)
         (ap₂ _&&_ (ap (λ (t : Bool). f .hash || not t) (b .hash) ∙ g .hash) (ap (λ (t : Bool). f .unbounded || not t) (b .unbounded) ∙ g .unbounded))) in
-        ap₂ _&&_ (ap₂ _&&_ (g .streams) marks) (ap₂ _&&_ (ap (fetchOk f) (four (fetchNumber (x .fetch)) hf) ∙ g .fetch) (ap (skipOk f) (four (x .skip) hs) ∙ g .skip))
+        ap₂ _&&_ (ap₂ _&&_ (g .streams) marks) (ap₂ _&&_ (ap (fetchOk f) (four-again (fetchNumber (x .fetch)) hf) ∙ g .fetch) (ap (skipOk f) (four-again (x .skip) hs) ∙ g .skip))
 
     body-ok : bodyOk f (toBytes x) ≡ true
     body-ok =

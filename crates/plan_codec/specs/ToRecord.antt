@@ -22,7 +22,7 @@ use Rattle.plan_format.specs.declared.Fields.{Fields}
 use Rattle.plan_format.specs.Fields.{fieldsOf}
 use Rattle.plan_format.specs.Record.{either, noFetch}
 use Rattle.plan_format.specs.Writing.{fourBytes}
-use Rattle.plan_roundtrip.specs.Back.{four}
+use Rattle.scan.specs.Words.{four-again}
 use Rattle.plan_codec.specs.NodeRecord.{NodeRecord}
 use Rattle.plan_codec.specs.Decode.{distributionOf, operatorOf}
 use Rattle.plan_codec.specs.Encode.{fill, fetchNumber, keyedSet, recordOf}
@@ -65,7 +65,7 @@ role-rule Single = refl
 role-rule (Keyed s) = refl
 
 pub set-is : (s : ℕ) → ltb s (2 ^ 32) ≡ true → le32 (fill 32 (fourBytes s)) 0 ≡ s
-set-is s e = four s (ltb-true s (2 ^ 32) e)
+set-is s e = four-again s (ltb-true s (2 ^ 32) e)
 
 set-rule : (d : Distribution) → distributionOk d ≡ true → (not (eqb (distributionNumber d) 2) || between 1 8 (ones (le32 (fill 32 (fourBytes (keyedSet d))) 0))) ≡ true
 set-rule Unspecified e = refl

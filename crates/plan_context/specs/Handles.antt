@@ -6,7 +6,7 @@ use Prim.Native.Nat.{ℕ, _+_, _*_, _/_, _%_, _≤_, _<_}
 use native.Mathlib.Omega.{arith}
 use lib.Dec.{eqb}
 use lib.ListN.{length, getD}
-use Rattle.plan_codec.specs.Encode.{oneIf}
+use Rattle.scan.specs.Bytes.{oneIf}
 use Rattle.plan_format.specs.Record.{children}
 use Rattle.arena.specs.Arena.{slotSize, index, slot}
 use Rattle.walks.specs.Marks.{Tree, setMark, kid0}

@@ -7,9 +7,8 @@ use native.Mathlib.Omega.{arith}
 use lib.Dec.{eqb}
 use lib.ListN.{length, getD, take, drop, take-append-drop}
 use lib.Seq.{length-take-le, getD-append-add, take-append-le, take-take}
-use Rattle.scan.specs.Bytes.{le16, le32}
-use Rattle.plan_roundtrip.specs.Back.{four}
-use Rattle.plan_codec.specs.Encode.{oneIf}
+use Rattle.scan.specs.Bytes.{le16, le32, oneIf}
+use Rattle.scan.specs.Words.{four-again}
 use Rattle.fact_slots.specs.Slots.{loaded}
 use Rattle.row_facts.specs.Rows.{loaded-kept}
 use Rattle.arena.specs.Arena.{keptSize}
@@ -34,7 +33,7 @@ module _ (b : List ℕ) (s : Summary) (l : length b ≡ keptSize) where
       let a₂ = at-end 2 in let a₃ = at-end 3 in
       let n : le16 (take summaryFrom b ++ summaryBytes s) 106 ≡ s .nodes = omega arith in
       let f : le32 (take summaryFrom b ++ summaryBytes s) 108 ≡ s .fetch =
-      (ap₂ (λ (x y : ℕ). x + y) (ap₂ (λ (x y : ℕ). x + y) (ap₂ (λ (x y : ℕ). x + 256 * y) (at-end 4) (at-end 5)) (ap (λ x. 65536 * x) (at-end 6))) (ap (λ x. 16777216 * x) (at-end 7)) ∙ four (s .fetch) k) in
+      (ap₂ (λ (x y : ℕ). x + y) (ap₂ (λ (x y : ℕ). x + y) (ap₂ (λ (x y : ℕ). x + 256 * y) (at-end 4) (at-end 5)) (ap (λ x. 65536 * x) (at-end 6))) (ap (λ x. 16777216 * x) (at-end 7)) ∙ four-again (s .fetch) k) in
       let p : eqb (getD (take summaryFrom b ++ summaryBytes s) 104 0) 1 ≡ s .passes = ap (λ x. eqb x 1) (at-end 0) ∙ flag (s .passes) in
       let e : eqb (getD (take summaryFrom b ++ summaryBytes s) 105 0) 1 ≡ s .endless = ap (λ x. eqb x 1) (at-end 1) ∙ flag (s .endless) in
       λ i. record { passes = p i; endless = e i; nodes = n i; fetch = f i }

@@ -8,10 +8,10 @@ use native.Mathlib.Decide.{decLt}
 use lib.Dec.{eqb}
 use lib.ListN.{length, getD, take, drop, replicate, length-append, length-take, length-drop, length-replicate}
 use lib.Seq.{take-at, take-all, getD-append-add}
-use lib.Pow.{shr-shr}
 use borrow.Author.Tests.{eq-eqb, le-leb, eqb-false}
 use Rattle.scan.specs.Below.{allBelow, all-intro}
 use Rattle.scan.specs.Bytes.{part, total, zeros, le32}
+use Rattle.scan.specs.Words.{four-again}
 use Rattle.plan_format.specs.Blocks.{lengthOk, blockCount, block, sumOk, countOk, headerOk, recordStart, recordAt, recordCount}
 use Rattle.plan_format.specs.Reading.{sumsOk, headersOk}
 use Rattle.plan_format.specs.Writing.{header, fourBytes, body, blockOf, blocksFor, sevenAt, blocksTo, fileOfBytes}
@@ -38,20 +38,6 @@ total-zeros (suc n) = omega (arith, total-zeros n)
 zeros-zeros : (n : ℕ) → zeros (replicate n 0) ≡ true
 zeros-zeros zero = refl
 zeros-zeros (suc n) = zeros-zeros n
-
-digit : (x : ℕ) → x % 256 + 256 * (x / 256) ≡ x
-digit x = omega arith
-
--- over variables: with `/` and `%` in sight omega looks for whole numbers and gives up
-join : (x p q t a b c d : ℕ) → a + 256 * p ≡ x → b + 256 * q ≡ p → c + 256 * t ≡ q → d ≡ t → a + 256 * b + 65536 * c + 16777216 * d ≡ x
-join x p q t a b c d h₁ h₂ h₃ h₄ = omega arith
-
-pub four : (x : ℕ) → x < 4294967296 → x % 256 + 256 * (x / 256 % 256) + 65536 * (x / 65536 % 256) + 16777216 * (x / 16777216 % 256) ≡ x
-four x h =
-    join x (x / 256) (x / 65536) (x / 16777216) (x % 256) (x / 256 % 256) (x / 65536 % 256) (x / 16777216 % 256) (digit x)
-    (ap (λ (n : ℕ). x / 256 % 256 + 256 * n) (sym (shr-shr x 8 8)) ∙ digit (x / 256))
-    (ap (λ (n : ℕ). x / 65536 % 256 + 256 * n) (sym (shr-shr x 16 8)) ∙ digit (x / 65536))
-    (omega arith)
 
 pub two : (x : ℕ) → x < 65536 → x % 256 + 256 * (x / 256 % 256) ≡ x
 two x h = omega arith
@@ -93,7 +79,7 @@ module _ (n k : ℕ) (rs : List ℕ) (lr : length rs ≤ 448) where
       let b = at-tail p (fourBytes x) 508 1 length-body in
       let c = at-tail p (fourBytes x) 508 2 length-body in
       let d = at-tail p (fourBytes x) 508 3 length-body in
-      let f = four x (total-body h) in
+      let f = four-again x (total-body h) in
       eq-eqb (total (take 508 (p ++ fourBytes x))) (le32 (p ++ fourBytes x) 508) (omega arith)
 
   -- the records of the block

@@ -24,6 +24,11 @@ abbrev pub zeros : List ℕ → Bool
 zeros [] = true
 zeros (x ∷ l) = eqb x 0 && zeros l
 
+-- a flag as a number
+abbrev pub oneIf : Bool → ℕ
+oneIf false = 0
+oneIf true = 1
+
 -- little-endian numbers of two and of four bytes
 abbrev pub le16 : List ℕ → ℕ → ℕ
 le16 s at = getD s at 0 + 256 * getD s (at + 1) 0

@@ -31,6 +31,21 @@ four-bytes a b c d p q r s =
     ∙ ap (λ n. bitOr n (d * 16777216 % 4294967296)) (or-above 8 16 32 (a + 256 * b) c (omega arith) r (omega arith))
     ∙ or-above 8 24 32 (a + 256 * b + 65536 * c) d (omega arith) s (omega arith)
 
+digit : (x : ℕ) → x % 256 + 256 * (x / 256) ≡ x
+digit x = omega arith
+
+-- over variables: with `/` and `%` in sight omega looks for whole numbers and gives up
+join : (x p q t a b c d : ℕ) → a + 256 * p ≡ x → b + 256 * q ≡ p → c + 256 * t ≡ q → d ≡ t → a + 256 * b + 65536 * c + 16777216 * d ≡ x
+join x p q t a b c d h₁ h₂ h₃ h₄ = omega arith
+
+-- the four bytes of a number are the number again
+pub four-again : (x : ℕ) → x < 4294967296 → x % 256 + 256 * (x / 256 % 256) + 65536 * (x / 65536 % 256) + 16777216 * (x / 16777216 % 256) ≡ x
+four-again x h =
+    join x (x / 256) (x / 65536) (x / 16777216) (x % 256) (x / 256 % 256) (x / 65536 % 256) (x / 16777216 % 256) (digit x)
+    (ap (λ (n : ℕ). x / 256 % 256 + 256 * n) (sym (shr-shr x 8 8)) ∙ digit (x / 256))
+    (ap (λ (n : ℕ). x / 65536 % 256 + 256 * n) (sym (shr-shr x 16 8)) ∙ digit (x / 65536))
+    (omega arith)
+
 -- the value of a part, by its first byte and the rest
 module _ (s : List ℕ) (a : ℕ) where
   value-part : (i n : ℕ) → a + i < length s → value (part (a + i) (suc n) s) ≡ value (part (a + suc i) n s) * 256 + getD s (a + i) 0

@@ -7,7 +7,7 @@ use lib.ListN.{length, drop}
 use Rattle.plan.specs.Op.{Plan}
 use Rattle.plan.specs.declared.Refusal.{Refusal}
 use Rattle.plan.specs.declared.Refusal.the-variants.{Accepted, OutputTooShort}
-use Rattle.plan_codec.specs.Encode.{oneIf}
+use Rattle.scan.specs.Bytes.{oneIf}
 use Rattle.plan_codec.specs.Reading as codec
 use Rattle.plan_codec.specs.Reading.{reading}
 use Rattle.plan_codec.specs.Writing.{fileOfPlan}

@@ -8,7 +8,7 @@ use borrow.Author.Tests.{eqb-true, eqb-false}
 use lib.Dec.{eqb}
 use Rattle.plan.specs.Numbers.{numberOf}
 use Rattle.plan_format.specs.Reading.{refusalOf}
-use Rattle.plan_codec.specs.Encode.{oneIf}
+use Rattle.scan.specs.Bytes.{oneIf}
 use Rattle.plan_codec.specs.Reading.{plan, planOf, reading, refused}
 use Rattle.plan_codec.specs.Reading as codec
 use Rattle.sort_placement.specs.declared.calls.Call.the-variants.{CheckOrder}
