@@ -44,7 +44,7 @@ pub record Rules (f : Fields) (x : NodeRecord) : Type 0 where
   pub rest : zeros (drop (tailUsed f (x .role) (x .width) (length (x .keys))) (x .tail)) ≡ true
 
 pub few-keys : (f : Fields) (h : Bool) (n : ℕ) → keyCountOk f h n ≡ true → n ≤ 8
-few-keys f h n e = leb-true n 8 (and-left (leb n 8) (either (f .keyed || h) (leb 1 n) (f .noted || eqb n 0)) e)
+few-keys f h n e = leb-true n 8 (and-left (leb n 8) (either (f .«needs_key» || h) (leb 1 n) (f .noted || eqb n 0)) e)
 
 -- ---- places in a record
 

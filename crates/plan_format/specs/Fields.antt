@@ -20,7 +20,7 @@ fieldsOf k = record {
   limit = eqb k 10;
   skip = eqb k 9;
   -- 'Sort, merge, partial sort, joins and hash repartition need a key'; the hash repartition is known by its mark
-  keyed = (eqb k 7 || eqb k 8) || (eqb k 14 || (eqb k 11 || eqb k 12));
+  «needs_key» = (eqb k 7 || eqb k 8) || (eqb k 14 || (eqb k 11 || eqb k 12));
   -- 'only sources, limits (an order note) and kind 13 may have keys or none'
   noted = eqb k 1 || ((eqb k 9 || eqb k 10) || eqb k 13);
   -- 'hash join and hash repartition keys have options 0'

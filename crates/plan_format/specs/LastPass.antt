@@ -32,24 +32,24 @@ unionOk r ws = not (eqb (kindByte r) 4) || sameWidths ws
 
 -- ---- 7: 'a column not below its width (source: own; else the child's; joins: left's and right's), or repeated in one key list; a projection may repeat columns'
 
--- Each column of a list lies below w
+-- Each column of a list lies below the limit
 unfoldable pub belowOk : List ℕ → ℕ → Bool
-belowOk l w = allBelow (λ i. ltb (getD l i 0) w) (length l)
+belowOk l limit = allBelow (λ i. ltb (getD l i 0) limit) (length l)
 
 -- The column at i is none of those before it
 unfoldable pub freshOk : List ℕ → ℕ → Bool
 freshOk l i = allBelow (λ j. not (eqb (getD l j 0) (getD l i 0))) i
 
--- A key list: below w, and none repeated
+-- A key list: below the limit, and none repeated
 abbrev pub columnOk : List ℕ → ℕ → ℕ → Bool
-columnOk l w i = ltb (getD l i 0) w && freshOk l i
+columnOk l limit i = ltb (getD l i 0) limit && freshOk l i
 
 unfoldable pub columnsOk : List ℕ → ℕ → Bool
-columnsOk l w = allBelow (columnOk l w) (length l)
+columnsOk l limit = allBelow (columnOk l limit) (length l)
 
 -- A set of columns by bits (reading 16)
 abbrev pub setBelow : ℕ → ℕ → Bool
-setBelow x w = eqb (x / 2 ^ w) 0
+setBelow x limit = eqb (x / 2 ^ limit) 0
 
 -- The columns of the eight keys
 abbrev pub keyColumns : List ℕ → List ℕ
@@ -59,11 +59,11 @@ keyColumns r = getD r 16 0 ∷ getD r 18 0 ∷ getD r 20 0 ∷ getD r 22 0 ∷ g
 abbrev pub columnLimit : Fields → List ℕ → List ℕ → ℕ
 columnLimit f r ws = cond (f .constants) (getD r 13 0) (getD ws 0 0)
 
--- w: that width; v: the second child's
+-- limit: that width; limit1: the second child's, for a join's right key columns
 abbrev pub columnsRule : Fields → List ℕ → ℕ → ℕ → Bool
-columnsRule f r w v =
-    (columnsOk (take (getD r 12 0) (keyColumns r)) w && (not (f .constants || f .distribution) || setBelow (le32 r 32) w))
-    && ((not (f .columns) || belowOk (part 32 (getD r 13 0) r) w) && (not (f .join) || columnsOk (part 32 (getD r 12 0) r) v))
+columnsRule f r limit limit1 =
+    (columnsOk (take (getD r 12 0) (keyColumns r)) limit && (not (f .constants || f .distribution) || setBelow (le32 r 32) limit))
+    && ((not (f .columns) || belowOk (part 32 (getD r 13 0) r) limit) && (not (f .join) || columnsOk (part 32 (getD r 12 0) r) limit1))
 
 -- ---- one node, over children of widths ws; 8: 'a node wider than 32 columns'
 

@@ -67,30 +67,30 @@ hashed f m = f .hash && mark m 1
 
 -- '12 key count 0-8'; h: a hash repartition, which needs a key
 abbrev pub keyCountOk : Fields → Bool → ℕ → Bool
-keyCountOk f h n = leb n 8 && either (f .keyed || h) (leb 1 n) (f .noted || eqb n 0)
+keyCountOk f h n = leb n 8 && either (f .«needs_key» || h) (leb 1 n) (f .noted || eqb n 0)
 
 -- '13 width 1-32 (source, projection)'
 abbrev pub widthOk : Fields → ℕ → Bool
-widthOk f w = either (f .width) (between 1 32 w) (eqb w 0)
+widthOk f width = either (f .width) (between 1 32 width) (eqb width 0)
 
 -- '14 join type (0 .. 7), distribution (kind 13: 0 none, 1 single, 2 keyed) or, in a partial sort, its met prefix (1 to key count minus 1)'; n: the key count
 abbrev pub byte14Ok : Fields → ℕ → ℕ → Bool
-byte14Ok f n v = either (f .join) (leb v 7) (either (f .distribution) (leb v 2) (either (f .prefix) (leb 1 v && ltb v n) (eqb v 0)))
+byte14Ok f n b14 = either (f .join) (leb b14 7) (either (f .distribution) (leb b14 2) (either (f .prefix) (leb 1 b14 && ltb b14 n) (eqb b14 0)))
 
 -- '16-31 keys of two bytes, column and options (bit 0 descending, bit 1 nulls first)': key i of n, with column c and options o
 abbrev pub keyOk : Bool → ℕ → ℕ → ℕ → ℕ → Bool
 keyOk plain n i c o = either (ltb i n) (either plain (eqb o 0) (eqb (o / 4) 0)) (eqb c 0 && eqb o 0)
 
--- 'a keyed set has 1 to 8 ones'; v: byte 14, x: the set
+-- 'a keyed set has 1 to 8 ones'; x: the set
 abbrev pub isKeyed : Fields → ℕ → Bool
-isKeyed f v = f .distribution && eqb v 2
+isKeyed f b14 = f .distribution && eqb b14 2
 
 abbrev pub keyedSetOk : Fields → ℕ → ℕ → Bool
-keyedSetOk f v x = not (isKeyed f v) || between 1 8 (ones x)
+keyedSetOk f b14 x = not (isKeyed f b14) || between 1 8 (ones x)
 
--- How many bytes from 32 on are used: a set of four bytes, w child columns, or n right key columns; v: byte 14
+-- How many bytes from 32 on are used: a set of four bytes, as many child columns as the width says, or n right key columns
 abbrev pub tailUsed : Fields → ℕ → ℕ → ℕ → ℕ
-tailUsed f v w n = cond (f .constants || isKeyed f v) 4 (cond (f .columns) w (cond (f .join) n 0))
+tailUsed f b14 width n = cond (f .constants || isKeyed f b14) 4 (cond (f .columns) width (cond (f .join) n 0))
 
 -- Bytes 2 to 11
 abbrev pub headOk : Fields → List ℕ → Bool

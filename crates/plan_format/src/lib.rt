@@ -18,7 +18,7 @@ pub struct Fields {
     pub limit: bool,
     pub skip: bool,
     // keys that must be there; keys that may be; keys without options
-    pub keyed: bool,
+    pub needs_key: bool,
     pub noted: bool,
     pub plain: bool,
     pub width: bool,
@@ -43,7 +43,7 @@ pub fn fields_of(k: u8) -> Fields
         fetch: ((6 <= k) & (k <= 10)) | ((k == 13) | (k == 14)),
         limit: k == 10,
         skip: k == 9,
-        keyed: ((k == 7) | (k == 8)) | ((k == 14) | ((k == 11) | (k == 12))),
+        needs_key: ((k == 7) | (k == 8)) | ((k == 14) | ((k == 11) | (k == 12))),
         noted: (k == 1) | (((k == 9) | (k == 10)) | (k == 13)),
         plain: k == 12,
         width: (k == 1) | (k == 3),

@@ -22,12 +22,12 @@ fn at_or_zero(s: &[u8], i: usize) -> u8
     0
 }
 
-fn below_ok(l: &[u8], w: u8) -> bool
-    ensures { λ b. ⌜ b ≡ belowOk (now (l .entry)) w ⌝ }
+fn below_ok(l: &[u8], limit: u8) -> bool
+    ensures { λ b. ⌜ b ≡ belowOk (now (l .entry)) limit ⌝ }
 {
     let mut i = 0;
     while i < l.len() {
-        if w <= l[i] {
+        if limit <= l[i] {
             return false;
         }
         i += 1;
@@ -50,20 +50,20 @@ fn fresh_ok(l: &[u8], i: usize) -> bool
     true
 }
 
-fn column_ok(l: &[u8], w: u8, i: usize) -> bool
+fn column_ok(l: &[u8], limit: u8, i: usize) -> bool
     requires { ⌜ i < length (now l) ⌝ }
-    ensures { λ b. ⌜ b ≡ columnOk (now (l .entry)) w i ⌝ }
+    ensures { λ b. ⌜ b ≡ columnOk (now (l .entry)) limit i ⌝ }
 {
     let x = l[i];
-    (x < w) & fresh_ok(l, i)
+    (x < limit) & fresh_ok(l, i)
 }
 
-fn columns_ok(l: &[u8], w: u8) -> bool
-    ensures { λ b. ⌜ b ≡ columnsOk (now (l .entry)) w ⌝ }
+fn columns_ok(l: &[u8], limit: u8) -> bool
+    ensures { λ b. ⌜ b ≡ columnsOk (now (l .entry)) limit ⌝ }
 {
     let mut i = 0;
     while i < l.len() {
-        if !column_ok(l, w, i) {
+        if !column_ok(l, limit, i) {
             return false;
         }
         i += 1;
@@ -71,14 +71,14 @@ fn columns_ok(l: &[u8], w: u8) -> bool
     true
 }
 
-// A list of columns below w; without repeats where it is a key list.
-fn list_ok(l: &[u8], w: u8, repeats: bool) -> bool
-    ensures { λ b. ⌜ b ≡ cond repeats (belowOk (now (l .entry)) w) (columnsOk (now (l .entry)) w) ⌝ }
+// A list of columns below the limit; without repeats where it is a key list.
+fn list_ok(l: &[u8], limit: u8, repeats: bool) -> bool
+    ensures { λ b. ⌜ b ≡ cond repeats (belowOk (now (l .entry)) limit) (columnsOk (now (l .entry)) limit) ⌝ }
 {
     if repeats {
-        return below_ok(l, w);
+        return below_ok(l, limit);
     }
-    columns_ok(l, w)
+    columns_ok(l, limit)
 }
 
 fn same_widths(ws: &[u8]) -> bool
@@ -95,13 +95,13 @@ fn same_widths(ws: &[u8]) -> bool
     true
 }
 
-fn set_below(x: u32, w: u8) -> bool
-    ensures { λ b. ⌜ b ≡ setBelow x w ⌝ }
+fn set_below(x: u32, limit: u8) -> bool
+    ensures { λ b. ⌜ b ≡ setBelow x limit ⌝ }
 {
-    if 32 <= w {
+    if 32 <= limit {
         return true;
     }
-    x >> (w as u32) == 0
+    x >> (limit as u32) == 0
 }
 
 fn key_columns(r: &[u8]) -> [u8; 8]
@@ -121,60 +121,61 @@ fn column_limit(f: Fields, r: &[u8], ws: &[u8]) -> u8
     at_or_zero(ws, 0)
 }
 
-fn keys_below(r: &[u8], w: u8) -> bool
+fn keys_below(r: &[u8], limit: u8) -> bool
     requires { ⌜ (length (now r) ≡ 64) × (getD (now r) 12 0 ≤ 8) ⌝ }
-    ensures { λ b. ⌜ b ≡ columnsOk (take (getD (now (r .entry)) 12 0) (keyColumns (now (r .entry)))) w ⌝ }
+    ensures { λ b. ⌜ b ≡ columnsOk (take (getD (now (r .entry)) 12 0) (keyColumns (now (r .entry)))) limit ⌝ }
 {
     let n = r[12] as usize;
     if n == 0 {
         return true;
     }
     let ks = key_columns(r);
-    list_ok(&ks[..n], w, false)
+    list_ok(&ks[..n], limit, false)
 }
 
 // A source's constants, kind 13's keyed columns.
-fn set_ok(f: Fields, r: &[u8], w: u8) -> bool
+fn set_ok(f: Fields, r: &[u8], limit: u8) -> bool
     requires { ⌜ length (now r) ≡ 64 ⌝ }
-    ensures { λ b. ⌜ b ≡ not (f .constants || f .distribution) || setBelow (le32 (now (r .entry)) 32) w ⌝ }
+    ensures { λ b. ⌜ b ≡ not (f .constants || f .distribution) || setBelow (le32 (now (r .entry)) 32) limit ⌝ }
 {
     if f.constants | f.distribution {
         let x = scan::get32(r, 32);
-        return set_below(x, w);
+        return set_below(x, limit);
     }
     true
 }
 
 // A projection's child columns, which may repeat.
-fn child_columns_ok(f: Fields, r: &[u8], w: u8) -> bool
+fn child_columns_ok(f: Fields, r: &[u8], limit: u8) -> bool
     requires { ⌜ (length (now r) ≡ 64) × (getD (now r) 13 0 ≤ 32) ⌝ }
-    ensures { λ b. ⌜ b ≡ not (f .columns) || belowOk (part 32 (getD (now (r .entry)) 13 0) (now (r .entry))) w ⌝ }
+    ensures { λ b. ⌜ b ≡ not (f .columns) || belowOk (part 32 (getD (now (r .entry)) 13 0) (now (r .entry))) limit ⌝ }
 {
     if f.columns {
         let e = 32 + r[13] as usize;
-        return list_ok(&r[32..e], w, true);
+        return list_ok(&r[32..e], limit, true);
     }
     true
 }
 
 // A join's right key columns.
-fn right_columns_ok(f: Fields, r: &[u8], w: u8) -> bool
+fn right_columns_ok(f: Fields, r: &[u8], limit: u8) -> bool
     requires { ⌜ (length (now r) ≡ 64) × (getD (now r) 12 0 ≤ 8) ⌝ }
-    ensures { λ b. ⌜ b ≡ not (f .join) || columnsOk (part 32 (getD (now (r .entry)) 12 0) (now (r .entry))) w ⌝ }
+    ensures { λ b. ⌜ b ≡ not (f .join) || columnsOk (part 32 (getD (now (r .entry)) 12 0) (now (r .entry))) limit ⌝ }
 {
     if f.join {
         let e = 32 + r[12] as usize;
-        return list_ok(&r[32..e], w, false);
+        return list_ok(&r[32..e], limit, false);
     }
     true
 }
 
-// w: the width that a node's columns must lie below; w1: the second child's.
-fn columns_rule(f: Fields, r: &[u8], w: u8, w1: u8) -> bool
+// limit: the width that a node's columns must lie below; limit1: the second child's, for a join's right key columns.
+fn columns_rule(f: Fields, r: &[u8], limit: u8, limit1: u8) -> bool
     requires { ⌜ (length (now r) ≡ 64) × (getD (now r) 12 0 ≤ 8) × (getD (now r) 13 0 ≤ 32) ⌝ }
-    ensures { λ b. ⌜ b ≡ columnsRule f (now (r .entry)) w w1 ⌝ }
+    ensures { λ b. ⌜ b ≡ columnsRule f (now (r .entry)) limit limit1 ⌝ }
 {
-    (keys_below(r, w) & set_ok(f, r, w)) & (child_columns_ok(f, r, w) & right_columns_ok(f, r, w1))
+    (keys_below(r, limit) & set_ok(f, r, limit))
+        & (child_columns_ok(f, r, limit) & right_columns_ok(f, r, limit1))
 }
 
 fn join_width(t: u8, a: usize, b: usize) -> usize
@@ -220,20 +221,20 @@ pub struct Seen {
     pub width: usize,
 }
 
-// f: the fields of r's kind; v: the node's width.
-fn node_refusal(f: Fields, v: usize, r: &[u8], ws: &[u8]) -> Refusal
-    requires { ⌜ ((length (now r) ≡ 64) × (getD (now r) 12 0 ≤ 8) × (getD (now r) 13 0 ≤ 32)) × (f ≡ fields (now r)) × (v ≡ widthOf f (now r) (now ws)) ⌝ }
+// f: the fields of the kind of r; width: its own.
+fn node_refusal(f: Fields, width: usize, r: &[u8], ws: &[u8]) -> Refusal
+    requires { ⌜ ((length (now r) ≡ 64) × (getD (now r) 12 0 ≤ 8) × (getD (now r) 13 0 ≤ 32)) × (f ≡ fields (now r)) × (width ≡ widthOf f (now r) (now ws)) ⌝ }
     ensures { λ x. ⌜ x ≡ nodeRefusal (now (r .entry)) (now (ws .entry)) ⌝ }
 {
     if !union_ok(r, ws) {
         return Refusal::Field;
     }
-    let w = column_limit(f, r, ws);
-    let w1 = at_or_zero(ws, 1);
-    if !columns_rule(f, r, w, w1) {
+    let limit = column_limit(f, r, ws);
+    let limit1 = at_or_zero(ws, 1);
+    if !columns_rule(f, r, limit, limit1) {
         return Refusal::Column;
     }
-    if 32 < v {
+    if 32 < width {
         return Refusal::Width;
     }
     Refusal::Accepted
@@ -245,11 +246,11 @@ fn visit(r: &[u8], ws: &[u8]) -> Seen
 {
     let k = r[0];
     let f = plan_format::fields_of(k);
-    let v = width_of(f, r, ws);
-    let x = node_refusal(f, v, r, ws);
+    let width = width_of(f, r, ws);
+    let x = node_refusal(f, width, r, ws);
     Seen {
         refusal: x,
-        width: v,
+        width: width,
     }
 }
 

@@ -162,8 +162,8 @@ module _ (r : List ℕ) where
   pub body-projection : (eqb n 0 && (leb 1 w && leb w 32)) && eqb (le16 r 14) 0 ≡ bodyOk (fieldsOf 3) r
   body-projection = ap₂ _&&_ (ap₂ _&&_ (none-is-few n) (sym (or-false (leb 1 w && leb w 32)))) (two (λ s. eqb s 0) is-zero v z)
 
-  pub body-keyed : leb (le32 r 12) 8 && leb 1 (le32 r 12) ≡ bodyOk (fieldsOf 7) r
-  body-keyed = keys-of-four ∙ ap (λ b. ((leb n 8 && b) && eqb w 0) && rest) (sym (or-false (leb 1 n)))
+  pub body-some-keys : leb (le32 r 12) 8 && leb 1 (le32 r 12) ≡ bodyOk (fieldsOf 7) r
+  body-some-keys = keys-of-four ∙ ap (λ b. ((leb n 8 && b) && eqb w 0) && rest) (sym (or-false (leb 1 n)))
 
   pub body-repartition : (h : Bool) → h ≡ mark (getD r 3 0) 1
       → (h && (leb (le32 r 12) 8 && leb 1 (le32 r 12))) || (not h && eqb (le32 r 12) 0) ≡ bodyOk (fieldsOf 5) r
@@ -171,7 +171,7 @@ module _ (r : List ℕ) where
     where
       go : (h : Bool) → (h && (leb (le32 r 12) 8 && leb 1 (le32 r 12))) || (not h && eqb (le32 r 12) 0)
           ≡ ((leb n 8 && ((h && leb 1 n) || (not h && eqb n 0))) && eqb w 0) && rest
-      go true = or-false (leb (le32 r 12) 8 && leb 1 (le32 r 12)) ∙ body-keyed
+      go true = or-false (leb (le32 r 12) 8 && leb 1 (le32 r 12)) ∙ body-some-keys
       go false = none-of-four
 
   pub body-noted : leb (le32 r 12) 8 ≡ bodyOk (fieldsOf 9) r
@@ -206,8 +206,8 @@ rules f r {a} {b} {c} {d} p q s t = ap₂ _&&_ p (go (bodyOk f r) q refl)
     go false e g = ap (λ x. x && (c && d)) e
 
 -- a kind that takes no keys
-pub no-count : (f : Fields) (r : List ℕ) → (f .keyed || hashed f (getD r 3 0)) ≡ false → f .noted ≡ false → bodyOk f r ≡ true → getD r 12 0 ≡ 0
-no-count f r p q b = go (f .keyed || hashed f (getD r 3 0)) (f .noted) p q (and-left counted wide (and-left (counted && wide) _ b))
+pub no-count : (f : Fields) (r : List ℕ) → (f .«needs_key» || hashed f (getD r 3 0)) ≡ false → f .noted ≡ false → bodyOk f r ≡ true → getD r 12 0 ≡ 0
+no-count f r p q b = go (f .«needs_key» || hashed f (getD r 3 0)) (f .noted) p q (and-left counted wide (and-left (counted && wide) _ b))
   where
     counted : Bool
     counted = keyCountOk f (hashed f (getD r 3 0)) (getD r 12 0)

@@ -44,7 +44,7 @@ pub fn repartition(r: &[u8]) -> bool
 }
 
 // One to eight keys: sort and merge.
-pub fn keyed(r: &[u8]) -> bool
+pub fn some_keys(r: &[u8]) -> bool
     requires { ⌜ length (now r) ≡ 64 ⌝ }
     ensures { λ b. ⌜ b ≡ bodyOk (fieldsOf 7) (now (r .entry)) ⌝ }
 {

@@ -71,14 +71,14 @@ fn sort_ok(r: &[u8]) -> bool
     requires { ⌜ length (now r) ≡ 64 ⌝ }
     ensures { λ b. ⌜ b ≡ rulesOk (fieldsOf 7) (now (r .entry)) ⌝ }
 {
-    heads::sort(r) & (bodies::keyed(r) & (keys::ok(false, r) & tails::none(r)))
+    heads::sort(r) & (bodies::some_keys(r) & (keys::ok(false, r) & tails::none(r)))
 }
 
 fn merge_ok(r: &[u8]) -> bool
     requires { ⌜ length (now r) ≡ 64 ⌝ }
     ensures { λ b. ⌜ b ≡ rulesOk (fieldsOf 8) (now (r .entry)) ⌝ }
 {
-    heads::fetching(r) & (bodies::keyed(r) & (keys::ok(false, r) & tails::none(r)))
+    heads::fetching(r) & (bodies::some_keys(r) & (keys::ok(false, r) & tails::none(r)))
 }
 
 fn global_limit_ok(r: &[u8]) -> bool

@@ -15,7 +15,7 @@ fresh-ok-requires c κs = search needs
 returns : tie.Need-returns
 returns c =
     let c₃ = c .before .before .before in
-    ap (λ (t : Bool). ltb (getD (c₃ .args .l .now) (c₃ .args .i) 0) (c₃ .args .w) && t) (c .fresh-ok .ensures)
+    ap (λ (t : Bool). ltb (getD (c₃ .args .l .now) (c₃ .args .i) 0) (c₃ .args .limit) && t) (c .fresh-ok .ensures)
 
 pub column-ok-spec : {M : Type 1} → statement M
 column-ok-spec = tie.close (tie.spec shared-slice-read-x fresh-ok-requires returns)

@@ -11,9 +11,9 @@ use Rattle.plan_format.specs.LastPass.{columnsOk, columnOk, keyColumns}
 use Rattle.plan_reader.proofs.keys_below.Statement.{statement}
 use Rattle.plan_reader.proofs.keys_below.Tie as tie
 
-none-listed : (w : ℕ) → true ≡ columnsOk [] w
+none-listed : (limit : ℕ) → true ≡ columnsOk [] limit
 unfolding columnsOk
-none-listed w = sym (all-none (columnOk [] w))
+none-listed limit = sym (all-none (columnOk [] limit))
 
 shared-slice-read-n : tie.Need-shared-slice-read-n
 shared-slice-read-n c = search needs
@@ -23,8 +23,8 @@ cast-n c = search needs
 
 returns : tie.Need-returns
 returns c =
-    let r = c .before .before .before .args .r .now in let w = c .before .before .before .args .w in
-    none-listed w ∙ ap (λ (n : ℕ). columnsOk (take n (keyColumns r)) w) (sym (c .if1 .taken))
+    let r = c .before .before .before .args .r .now in let limit = c .before .before .before .args .limit in
+    none-listed limit ∙ ap (λ (n : ℕ). columnsOk (take n (keyColumns r)) limit) (sym (c .if1 .taken))
 
 key-columns-requires : tie.Need-key-columns-requires
 key-columns-requires c κs = search needs
@@ -43,7 +43,7 @@ list-ok-requires c κs = search needs
 returns-2 : tie.Need-returns-2
 returns-2 c =
     let c₆ = c .before .before .before .before .before .before in
-    let s = c₆ in c .list-ok .ensures ∙ ap (λ (l : List ℕ). columnsOk (take (getD (s .args .r .now) 12 0) l) (s .args .w)) (c .before .before .key-columns .ensures)
+    let s = c₆ in c .list-ok .ensures ∙ ap (λ (l : List ℕ). columnsOk (take (getD (s .args .r .now) 12 0) l) (s .args .limit)) (c .before .before .key-columns .ensures)
 
 pub keys-below-spec : {M : Type 1} → statement M
 keys-below-spec =

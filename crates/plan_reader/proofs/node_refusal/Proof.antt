@@ -13,8 +13,9 @@ use Rattle.plan_passes.specs.Laws.{refuse-stop, refuse-on}
 use Rattle.plan_reader.proofs.node_refusal.Statement.{statement}
 use Rattle.plan_reader.proofs.node_refusal.Tie as tie
 
-columns : (r ws : List ℕ) (f : Fields) (w v : ℕ) (b : Bool) → f ≡ fields r → w ≡ columnLimit f r ws → v ≡ getD ws 1 0 → b ≡ columnsRule f r w v → b ≡ columnsRule (fields r) r (columnLimit (fields r) r ws) (getD ws 1 0)
-columns r ws f w v b e l z h = h ∙ ap₂ (columnsRule f r) l z ∙ ap (λ (g : Fields). columnsRule g r (columnLimit g r ws) (getD ws 1 0)) e
+columns : (r ws : List ℕ) (f : Fields) (limit limit1 : ℕ) (b : Bool) → f ≡ fields r → limit ≡ columnLimit f r ws → limit1 ≡ getD ws 1 0
+    → b ≡ columnsRule f r limit limit1 → b ≡ columnsRule (fields r) r (columnLimit (fields r) r ws) (getD ws 1 0)
+columns r ws f limit limit1 b e l z h = h ∙ ap₂ (columnsRule f r) l z ∙ ap (λ (g : Fields). columnsRule g r (columnLimit g r ws) (getD ws 1 0)) e
 
 wide : (r ws : List ℕ) (f : Fields) (w : ℕ) → f ≡ fields r → w ≡ widthOf f r ws → w ≡ widthOf (fields r) r ws
 wide r ws f w e h = h ∙ ap (λ (g : Fields). widthOf g r ws) e
@@ -49,7 +50,7 @@ returns-3 : tie.Need-returns-3
 unfolding nodeRefusal
 returns-3 c =
     let c₃ = c .before .before .before in let c₄ = c₃ .before in let c₅ = c₄ .before in let c₆ = c₅ .before in let c₉ = c₆ .before .before .before in
-    let s = c₉ in let r = s .args .r .now in let ws = s .args .ws .now in let e = wide r ws (s .args .f) (s .args .v) (s .pre .1) (s .pre .2) in let t = c .if3 .taken in
+    let s = c₉ in let r = s .args .r .now in let ws = s .args .ws .now in let e = wide r ws (s .args .f) (s .args .width) (s .pre .1) (s .pre .2) in let t = c .if3 .taken in
     refuse-on (c₆ .union-ok .result) _ _ _ _ (c₆ .union-ok .ensures) (c₅ .if1 .left)
     (refuse-on (c .before .before .columns-rule .result) _ _ _ _
     (columns r ws (s .args .f) (c₄ .column-limit .result) (c₃ .at-or-zero .result) (c .before .before .columns-rule .result) (s .pre .1) (c₄ .column-limit .ensures) (c₃ .at-or-zero .ensures) (c .before .before .columns-rule .ensures))
@@ -60,7 +61,7 @@ returns-4 : tie.Need-returns-4
 unfolding nodeRefusal
 returns-4 c =
     let c₃ = c .before .before .before in let c₄ = c₃ .before in let c₅ = c₄ .before in let c₆ = c₅ .before in let c₉ = c₆ .before .before .before in
-    let s = c₉ in let r = s .args .r .now in let ws = s .args .ws .now in let e = wide r ws (s .args .f) (s .args .v) (s .pre .1) (s .pre .2) in let t = c .if3 .left in
+    let s = c₉ in let r = s .args .r .now in let ws = s .args .ws .now in let e = wide r ws (s .args .f) (s .args .width) (s .pre .1) (s .pre .2) in let t = c .if3 .left in
     refuse-on (c₆ .union-ok .result) _ _ _ _ (c₆ .union-ok .ensures) (c₅ .if1 .left)
     (refuse-on (c .before .before .columns-rule .result) _ _ _ _
     (columns r ws (s .args .f) (c₄ .column-limit .result) (c₃ .at-or-zero .result) (c .before .before .columns-rule .result) (s .pre .1) (c₄ .column-limit .ensures) (c₃ .at-or-zero .ensures) (c .before .before .columns-rule .ensures))

@@ -4,7 +4,7 @@ use Rattle.plan_reader.proofs.set_below.Statement.{statement}
 use Rattle.plan_reader.proofs.set_below.Tie as tie
 
 returns : tie.Need-returns
-returns c = wide-set (c .before .args .x) (c .before .args .w) (c .before .fits .x .fits) (c .if1 .taken)
+returns c = wide-set (c .before .args .x) (c .before .args .limit) (c .before .fits .x .fits) (c .if1 .taken)
 
 shr-result : tie.Need-shr-result
 shr-result c = search needs

@@ -14,7 +14,7 @@ set-below-requires c κs = search needs
 returns : tie.Need-returns
 returns c =
     let c₅ = c .before .before .before .before .before in
-    rw (c .before .before .if1 .taken) (c .set-below .ensures ∙ ap (λ (x : ℕ). setBelow x (c₅ .args .w)) (c .before .get32 .ensures))
+    rw (c .before .before .if1 .taken) (c .set-below .ensures ∙ ap (λ (x : ℕ). setBelow x (c₅ .args .limit)) (c .before .get32 .ensures))
 
 returns-2 : tie.Need-returns-2
 returns-2 c = rw (c .if1 .left)

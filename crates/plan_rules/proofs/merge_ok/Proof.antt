@@ -7,8 +7,8 @@ use Rattle.plan_rules.proofs.merge_ok.Tie as tie
 fetching-requires : tie.Need-fetching-requires
 fetching-requires c κs = search needs
 
-keyed-requires : tie.Need-keyed-requires
-keyed-requires c κs = search needs
+some-keys-requires : tie.Need-some-keys-requires
+some-keys-requires c κs = search needs
 
 ok-requires : tie.Need-ok-requires
 ok-requires c κs = search needs
@@ -19,8 +19,8 @@ none-requires c κs = search needs
 returns : tie.Need-returns
 returns c =
     let c₃ = c .before .before .before in let c₅ = c₃ .before .before in
-    rules (fieldsOf 8) (c₅ .args .r .now) (c₃ .fetching .ensures) (c .before .before .keyed .ensures) (λ _. c .before .ok .ensures) (c .none .ensures)
+    rules (fieldsOf 8) (c₅ .args .r .now) (c₃ .fetching .ensures) (c .before .before .some-keys .ensures) (λ _. c .before .ok .ensures) (c .none .ensures)
 
 pub merge-ok-spec : {M : Type 1} → statement M
 merge-ok-spec =
-    tie.close (tie.spec fetching-requires keyed-requires ok-requires none-requires returns)
+    tie.close (tie.spec fetching-requires some-keys-requires ok-requires none-requires returns)
