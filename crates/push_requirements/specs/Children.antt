@@ -8,9 +8,8 @@ use lib.Dec.{eqb, leb}
 use lib.ListN.{length, getD}
 use borrow.Author.Tests.{eqb-true}
 use Rattle.row_order.specs.Iso.{Key}
-use Rattle.row_order.specs.Order.{no-bool}
 use Rattle.plan.specs.Op.{Op, source, filter, projection, union, repartition, coalesce, sortOp, mergeOp, globalLimit, localLimit, sortMergeJoin, hashJoin, outputRequirement, partialSort}
-use Rattle.plan.specs.Numbers.{code, kindOf}
+use Rattle.plan.specs.Numbers.{kindOf}
 use Rattle.plan.specs.WellFormed.{every, someFetch, childrenOk}
 use Rattle.plan.specs.declared.JoinType.{JoinType}
 use Rattle.plan.specs.declared.Fetch.{Fetch}
@@ -129,22 +128,6 @@ first-among n o fs m F L R s h =
     first : (gs : List Facts) → at0 gs ≡ getD gs 0 nothing
     first [] = refl
     first (G ∷ gs) = refl
-
-pub child-required : (n : Op) (ps : List Key) → eqb (code n) 3 ≡ false → ps ≡ walk.childRequired n ps
-child-required (source s) ps e = refl
-child-required filter ps e = refl
-child-required (projection cols) ps e = no-bool (sym e)
-child-required union ps e = refl
-child-required (repartition p n x ks) ps e = refl
-child-required (coalesce g) ps e = refl
-child-required (sortOp p ks g) ps e = refl
-child-required (mergeOp ks g) ps e = refl
-child-required (globalLimit s g note) ps e = refl
-child-required (localLimit g note) ps e = refl
-child-required (sortMergeJoin t on) ps e = refl
-child-required (hashJoin t on) ps e = refl
-child-required (outputRequirement ks d g) ps e = refl
-child-required (partialSort p ks k g) ps e = refl
 
 -- ---- the mark of a repartition is not asked
 module _ (n o : Op) (fs : List Facts) (m : ℕ) (F L R : Facts) (s : Seen n o fs m F L R) (ts : List Fetch) (limit : Fetch) (e : limit ≡ fetchOp o ts) where

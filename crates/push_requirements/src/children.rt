@@ -175,7 +175,7 @@ fn order_allows(own: &[u8], parent: Keys) -> bool
 // Past an operator with a fetch, the requirement in the child's columns.
 fn handle_fetch(r: &[u8], own: &[u8], parent: Keys) -> Pushed
     requires { ⌜ Proper (now r) × FactRow (now own) × (parent .len ≤ 8) ⌝ }
-    ensures { λ p. ⌜ ((m : ℕ) → Pushes m (walk.handleFetch (decode (now (r .entry))) (told (now (own .entry))) (keysOf parent)) p) ⌝ }
+    ensures { λ p. ⌜ ((fs : List sem.Facts) (m : ℕ) → Pushes m (walk.handleFetch (decode (now (r .entry))) (told (now (own .entry))) fs (keysOf parent)) p) ⌝ }
 {
     if !order_allows(own, parent) {
         return Pushed::Stop;

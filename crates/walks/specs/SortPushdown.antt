@@ -8,6 +8,7 @@ use lib.Dec.{eqb, ltb, leb}
 use lib.ListN.{getD}
 use Rattle.row_order.specs.Iso.{Key}
 use Rattle.plan.specs.Op.{Op, source, filter, projection, union, repartition, coalesce, sortOp, mergeOp, globalLimit, localLimit, sortMergeJoin, hashJoin, outputRequirement, partialSort}
+use Rattle.plan.specs.Numbers.{code}
 use Rattle.plan.specs.WellFormed.{every, someFetch}
 use Rattle.plan.specs.declared.JoinType.{JoinType}
 use Rattle.plan.specs.declared.JoinType.the-variants.{Inner, Left, Right, Full, LeftSemi, LeftAnti, RightSemi, RightAnti}
@@ -95,18 +96,18 @@ leftFirst invalid r = orRight r
 leftFirst (valid ks) r = leftSide ks
 
 abbrev pub eitherSide : Facts → List Key → ℕ → JoinSide
-eitherSide F ks w = leftFirst (onSide F 0 w ks) (onSide F w (F .width - w) ks)
+eitherSide F ks left = leftFirst (onSide F 0 left ks) (onSide F left (F .width - left) ks)
 
--- w: the left columns
+-- left: how many columns the left child has
 abbrev pub exprSourceSide : Facts → List Key → JoinType → ℕ → JoinSide
-exprSourceSide F ks Inner w = eitherSide F ks w
-exprSourceSide F ks Left w = eitherSide F ks w
-exprSourceSide F ks Right w = eitherSide F ks w
-exprSourceSide F ks Full w = eitherSide F ks w
-exprSourceSide F ks LeftSemi w = leftSide ks
-exprSourceSide F ks LeftAnti w = leftSide ks
-exprSourceSide F ks RightSemi w = rightSide ks
-exprSourceSide F ks RightAnti w = rightSide ks
+exprSourceSide F ks Inner left = eitherSide F ks left
+exprSourceSide F ks Left left = eitherSide F ks left
+exprSourceSide F ks Right left = eitherSide F ks left
+exprSourceSide F ks Full left = eitherSide F ks left
+exprSourceSide F ks LeftSemi left = leftSide ks
+exprSourceSide F ks LeftAnti left = leftSide ks
+exprSourceSide F ks RightSemi left = rightSide ks
+exprSourceSide F ks RightAnti left = rightSide ks
 
 -- ---- try_pushdown_requirements_to_join: a join o of type t with facts F over L and R, the ordering ks pushed to side s
 
@@ -128,7 +129,7 @@ tryPushdownRequirementsToJoin o t F L R parent ks s =
     goIf (met (reorder (cond (eqb s 0) L R) ks) (wanted o s) && met (reorderTo F (newOutputOrdering t L R ks s)) parent)
     (sideOrder s (dropRepeats [] ks) (wanted o))
 
--- 01: "isize offsets for the right side": every column of the right side is at or above the offset
+-- 01: "isize offsets for the right side"; here off is taken off, and every column of the right side is at or above it
 abbrev pub addOffsetToPhysicalSortExprs : ℕ → List Key → List Key
 addOffsetToPhysicalSortExprs off ks = map (atColumn (λ c. c - off)) ks
 
@@ -155,10 +156,16 @@ abbrev pub onRight : List Key → ℕ → List Key
 onRight ks zero = []
 onRight ks (suc i) = ks
 
+-- build_join_column_index, of it the side: column c of the join's output is the right child's. off: how many columns stand before those,
+-- the left child's of an inner or a right join, none of a right semi or anti join; no other type maintains its right child
+abbrev pub buildJoinColumnIndex : ℕ → ℕ → Bool
+buildJoinColumnIndex off c = leb off c
+
 abbrev pub handleHashJoin : Op → Facts → List Facts → List Key → Pushed
 handleHashJoin o F fs parent =
     let off : ℕ = F .width - at1 fs .width in
-    goIf (maintains o fs 1 && every (λ k. leb off (k .col)) parent) (onRight (addOffsetToPhysicalSortExprs off parent))
+    let allFromRightChild : Bool = every (λ k. buildJoinColumnIndex off (k .col)) parent in
+    goIf (maintains o fs 1 && allFromRightChild) (onRight (addOffsetToPhysicalSortExprs off parent))
 
 -- ---- handle_custom_pushdown: limits and kind 13 are left, whose one child is maintained and has the same columns
 
@@ -197,23 +204,6 @@ pushByKind (hashJoin t on) fs parent = handleHashJoin (hashJoin t on) (factsOp (
 pushByKind (outputRequirement ks d f) fs parent = cond (pushdownWouldViolateRequirements (outputRequirement ks d f) 1 parent) stop (handleCustomPushdown parent)
 pushByKind (partialSort p ks n f) fs parent = stop
 
--- The requirement in the child's columns: remapped past a projection
-abbrev pub childRequired : Op → List Key → List Key
-childRequired (source s) parent = parent
-childRequired filter parent = parent
-childRequired (projection cols) parent = remapRequirementThroughProjection cols parent
-childRequired union parent = parent
-childRequired (repartition p n h ks) parent = parent
-childRequired (coalesce f) parent = parent
-childRequired (sortOp p ks f) parent = parent
-childRequired (mergeOp ks f) parent = parent
-childRequired (globalLimit s f note) parent = parent
-childRequired (localLimit f note) parent = parent
-childRequired (sortMergeJoin t on) parent = parent
-childRequired (hashJoin t on) parent = parent
-childRequired (outputRequirement ks d f) parent = parent
-childRequired (partialSort p ks n f) parent = parent
-
 abbrev pub allBelow : ℕ → (ℕ → Bool) → Bool
 allBelow n p = not (anyBelow n (λ i. not (p i)))
 
@@ -226,9 +216,13 @@ fetchBlocks o f = someFetch f && not (supportsLimitPushdown o && cardinalityEqua
 abbrev pub throughFetch : Op → Fetch → ℕ → List Facts → Bool
 throughFetch o own n fs = someFetch own && (supportsLimitPushdown o && allBelow n (maintains o fs))
 
-abbrev pub handleFetch : Op → Facts → List Key → Pushed
-handleFetch o F parent = goIf (isNil (knownOrder F) || compatible F parent (knownOrder F)) (λ i. childRequired o parent)
+-- child_required, the requirement in the child's columns: remapped past a projection
+abbrev pub childRequired : Op → List Facts → List Key → Pushed
+childRequired o fs parent = cond (eqb (code o) 3) (pushByKind o fs parent) (goes (λ i. parent))
+
+abbrev pub handleFetch : Op → Facts → List Facts → List Key → Pushed
+handleFetch o F fs parent = cond (isNil (knownOrder F) || compatible F parent (knownOrder F)) (childRequired o fs parent) stop
 
 abbrev pub pushdownRequirementToChildren : Op → Fetch → ℕ → List Facts → List Key → Fetch → Pushed
 pushdownRequirementToChildren o own n fs parent f =
-    cond (fetchBlocks o f) stop (cond (throughFetch o own n fs) (handleFetch o (factsOp o fs) parent) (pushByKind o fs parent))
+    cond (fetchBlocks o f) stop (cond (throughFetch o own n fs) (handleFetch o (factsOp o fs) fs parent) (pushByKind o fs parent))

@@ -227,12 +227,13 @@ module _ (fs : List Facts) (parent : List Key) where
   no-fetch Unlimited b u v e h = h
   no-fetch (AtMost m) b u v e h = subst (λ (x : Bool). PushedFits fs (cond x u v)) (sym e) h
 
-  through : (o : Op) (own : Fetch) (n : ℕ) → PushedFits fs (goes (λ i. childRequired o parent)) → PushedFits fs (pushByKind o fs parent) → PushedFits fs (cond (throughFetch o own n fs) (handleFetch o (factsOp o fs) parent) (pushByKind o fs parent))
+  through : (o : Op) (own : Fetch) (n : ℕ) → PushedFits fs (childRequired o fs parent) → PushedFits fs (pushByKind o fs parent)
+      → PushedFits fs (cond (throughFetch o own n fs) (handleFetch o (factsOp o fs) fs parent) (pushByKind o fs parent))
   through o own n h k =
-      cond-fits fs (throughFetch o own n fs) (handleFetch o (factsOp o fs) parent) (pushByKind o fs parent)
-      (goIf-fits fs (isNil (factsOp o fs .order) || compatible (factsOp o fs) parent (factsOp o fs .order)) (λ i. childRequired o parent) (λ _. h)) k
+      cond-fits fs (throughFetch o own n fs) (handleFetch o (factsOp o fs) fs parent) (pushByKind o fs parent)
+      (cond-fits fs (isNil (factsOp o fs .order) || compatible (factsOp o fs) parent (factsOp o fs .order)) (childRequired o fs parent) stop h tt) k
 
-  fetch-fits : (o : Op) (own : Fetch) (n : ℕ) → Fitting o (cond (throughFetch o own n fs) (handleFetch o (factsOp o fs) parent) (pushByKind o fs parent))
+  fetch-fits : (o : Op) (own : Fetch) (n : ℕ) → Fitting o (cond (throughFetch o own n fs) (handleFetch o (factsOp o fs) fs parent) (pushByKind o fs parent))
   fetch-fits (source s) own n e h = no-fetch own _ _ _ refl tt
   fetch-fits filter own n e h = through filter own n (same-columns (one filter refl e) (at0 fs) refl h) (kind-fits filter e h)
   fetch-fits (projection cols) own n e h = through (projection cols) own n (project-goes cols e h) (kind-fits (projection cols) e h)
@@ -249,4 +250,4 @@ module _ (fs : List Facts) (parent : List Key) where
   fetch-fits (partialSort p ks m f) own n e h = through (partialSort p ks m f) own n (same-columns (one (partialSort p ks m f) refl e) (at0 fs) refl h) tt
 
   pub pushed-fits : (o : Op) (own : Fetch) (n : ℕ) (f : Fetch) → Fitting o (pushdownRequirementToChildren o own n fs parent f)
-  pushed-fits o own n f e h = cond-fits fs (fetchBlocks o f) stop (cond (throughFetch o own n fs) (handleFetch o (factsOp o fs) parent) (pushByKind o fs parent)) tt (fetch-fits o own n e h)
+  pushed-fits o own n f e h = cond-fits fs (fetchBlocks o f) stop (cond (throughFetch o own n fs) (handleFetch o (factsOp o fs) fs parent) (pushByKind o fs parent)) tt (fetch-fits o own n e h)
