@@ -1,6 +1,6 @@
 -- update_order_preservation_ctx_children_data in the arena: the marks of a node's children, and of theirs.
 use mathlib.Core.Path.{_≡_, refl, sym, ap, ap₂, _∙_, subst}
-use mathlib.Core.Bool.{Bool, true, false, cond, not, _&&_, _||_}
+use mathlib.Core.Bool.{Bool, true, false, cond, _&&_, _||_}
 use mathlib.Core.List.{List, [], _∷_, map}
 use Prim.Native.Nat.{ℕ, zero, suc, _+_, _*_, _≤_, _<_}
 use native.Mathlib.Omega.{arith}
@@ -17,7 +17,7 @@ use Rattle.semantics.specs.Properties.{cuts}
 use Rattle.arena.specs.Arena.{slotSize, index, marked, slot, Below}
 use Rattle.arena.specs.declared.At.{At}
 use Rattle.arena.specs.Laws.{below-at, below-more}
-use Rattle.walks.specs.Marks.{Marked, Tree, strip, known, node, plant, opT, setMark, unmark, anyMark, headMark}
+use Rattle.walks.specs.Marks.{Marked, Tree, strip, known, node, plant, opT, setMark, unmark, anyMark}
 use Rattle.walks.specs.Terms.{_⊕_}
 use Rattle.walks.specs.theorems.common.Trees.{Ok, OkT}
 use Rattle.walks.specs.Utils.{isCoalescePartitions}
@@ -53,11 +53,6 @@ any-is : (m ks : List ℕ) → anyMarked ks ≡ anyMark (forest m ks)
 unfolding forest
 any-is m [] = refl
 any-is m (h ∷ hs) = ap (λ x. marked h || x) (any-is m hs)
-
-head-is : (m ks : List ℕ) → 0 < length ks → marked (getD ks 0 0) ≡ headMark (forest m ks)
-unfolding forest
-head-is m [] l = absurd (omega arith)
-head-is m (h ∷ hs) l = refl
 
 roots-some : (m ks : List ℕ) → 0 < length ks → isNil (roots (forest m ks)) ≡ false
 unfolding forest
@@ -196,26 +191,24 @@ module _ (m : List ℕ) (i : ℕ) (ks : List ℕ) (e : forest m ks ≡ inspected
       go (h ∷ l) q = absurd (omega arith)
 
   module _ (l : 0 < length ks) where
-    by-tests : (f : Bool) → isFetchedCoalesce (decode (slot m i .rec)) ≡ f → (s : Bool)
-        → not (headMark (forest m ks)) && initiates (decode (slot m i .rec)) (known (forest m ks)) ≡ s
-        → cond f false (cond s true (anyMark (forest m ks))) ≡ carries (decode (slot m i .rec)) (forest m ks)
-    by-tests f p s q =
-        ap (λ y. cond f false (cond y true (anyMark (forest m ks)))) (sym q)
-        ∙ sym (ap₂ (λ x y. cond (x || y) false (cond (not (headMark (forest m ks)) && initiates o (known (forest m ks))) true (anyMark (forest m ks)))) (roots-some m ks l) p)
+    by-tests : (f : Bool) → isFetchedCoalesce (decode (slot m i .rec)) ≡ f
+        → cond f false (anyMark (forest m ks) || initiates (decode (slot m i .rec)) (known (forest m ks))) ≡ carries (decode (slot m i .rec)) (forest m ks)
+    by-tests f p =
+        sym (ap₂ (λ x y. cond (x || y) false (anyMark (forest m ks) || initiates o (known (forest m ks)))) (roots-some m ks l) p)
 
     pub carries-fetched : (x : Bool) → x ≡ isFetchedCoalesce (decode (slot m i .rec)) → x ≡ true → false ≡ carries (decode (slot m i .rec)) (forest m ks)
-    carries-fetched x p t = by-tests true (sym p ∙ t) _ refl
+    carries-fetched x p t = by-tests true (sym p ∙ t)
 
-    module _ (x : Bool) (p : x ≡ isFetchedCoalesce (decode (slot m i .rec))) (t : x ≡ false) (h b : Bool) (hh : h ≡ marked (getD ks 0 0))
-        (hb : b ≡ initiates (decode (slot m i .rec)) (known (forest m (slot m i .kids)))) where
-      begins : not h && b ≡ not (headMark (forest m ks)) && initiates (decode (slot m i .rec)) (known (forest m ks))
-      begins = ap₂ (λ z w. not z && w) (hh ∙ head-is m ks l) (hb ∙ ap (initiates o) (sym known-same))
+    module _ (x : Bool) (p : x ≡ isFetchedCoalesce (decode (slot m i .rec))) (t : x ≡ false) (a : Bool) (ha : a ≡ anyMarked ks) where
+      or-initiates : a || initiates (decode (slot m i .rec)) (known (forest m ks)) ≡ carries (decode (slot m i .rec)) (forest m ks)
+      or-initiates = ap (λ y. y || initiates o (known (forest m ks))) (ha ∙ any-is m ks) ∙ by-tests false (sym p ∙ t)
 
-      pub carries-begins : not h && b ≡ true → true ≡ carries (decode (slot m i .rec)) (forest m ks)
-      carries-begins s = by-tests false (sym p ∙ t) true (sym begins ∙ s)
+      pub carries-any : a ≡ true → true ≡ carries (decode (slot m i .rec)) (forest m ks)
+      carries-any s = ap (λ y. y || initiates o (known (forest m ks))) (sym s) ∙ or-initiates
 
-      pub carries-any : not h && b ≡ false → (z : Bool) → z ≡ anyMarked ks → z ≡ carries (decode (slot m i .rec)) (forest m ks)
-      carries-any s z w = w ∙ any-is m ks ∙ by-tests false (sym p ∙ t) false (sym begins ∙ s)
+      pub carries-initiates : a ≡ false → (b : Bool) → b ≡ initiates (decode (slot m i .rec)) (known (forest m (slot m i .kids)))
+          → b ≡ carries (decode (slot m i .rec)) (forest m ks)
+      carries-initiates s b e = e ∙ ap (initiates o) (sym known-same) ∙ ap (λ y. y || initiates o (known (forest m ks))) (sym s) ∙ or-initiates
 
 -- ---- one root of carryEach
 

@@ -111,10 +111,10 @@ fn carries(m: &[u8], i: usize, ks: &[usize]) -> bool
     if is_fetched_coalesce(r) {
         return false;
     }
-    if !is_marked(ks[0]) & initiates(m, i) {
+    if any_marked(ks) {
         return true;
     }
-    any_marked(ks)
+    initiates(m, i)
 }
 
 // The tree at h with its mark and its children's.

@@ -12,7 +12,7 @@ use Rattle.plan.specs.declared.Fetch.{Fetch}
 use Rattle.plan.specs.declared.Fetch.the-variants.{Unlimited, AtMost}
 use Rattle.semantics.specs.Facts.{met, isNil, at0, knownOrder}
 use Rattle.semantics.specs.Properties.{wanted, singles, maintains, isLimit, remark}
-use Rattle.walks.specs.Marks.{Marked, Tree, strip, known, at, node, plant, over, opT, fact, fetchT, setMark, kid0, unmark, anyMark, anyBelow, Shape, aSort, aMerge, aRepartition, aCoalesce, another, shape, rebuild, transformUp}
+use Rattle.walks.specs.Marks.{Marked, Tree, strip, known, at, node, plant, over, opT, fact, fetchT, setMark, kid0, unmark, anyMark, anyBelow, Shape, shape, ifSort, ifMerge, ifRepartition, rebuild, transformUp}
 use Rattle.walks.specs.Utils.{isSort, isSortPreservingMerge, addSortAbove}
 use Rattle.walks.specs.OutputRequirements.{outputFetch}
 
@@ -46,11 +46,9 @@ withSingleStream s t = cond (s && ltb 1 (fact t .streams)) (updateSortCtxChildre
 
 -- "Replace with variants that do not preserve order."
 abbrev pub loosen : Shape → Tree → Tree
-loosen (aSort p ks f) t = t
-loosen (aMerge ks f) t = setMark (t .top .mark) (kid0 t (t .kids))
-loosen (aRepartition p n h ks) t = node (remark (λ q. false) (opT t)) (t .top .mark) (t .kids)
-loosen (aCoalesce f) t = t
-loosen another t = t
+loosen s t =
+    ifMerge s (λ ks f. setMark (t .top .mark) (kid0 t (t .kids)))
+    (ifRepartition s (λ p n h ks. node (remark (λ q. false) (opT t)) (t .top .mark) (t .kids)) t)
 
 -- A node m over c, whose connected children became d: rebuilt, its children's marks put right "if any_connection || children.is_empty()"
 abbrev pub updatedAfterRemoval : Marked → Forest Marked → Forest Marked → Tree
@@ -63,11 +61,7 @@ dropSort Unlimited t = kid0 t (t .kids)
 dropSort (AtMost n) t = t
 
 abbrev pub removeBy : Shape → Marked → Forest Marked → Forest Marked → Tree
-removeBy (aSort p ks f) m c d = dropSort f (at m c)
-removeBy (aMerge ks f) m c d = loosen (aMerge ks f) (updatedAfterRemoval m c d)
-removeBy (aRepartition p n h ks) m c d = loosen (aRepartition p n h ks) (updatedAfterRemoval m c d)
-removeBy (aCoalesce f) m c d = loosen (aCoalesce f) (updatedAfterRemoval m c d)
-removeBy another m c d = loosen another (updatedAfterRemoval m c d)
+removeBy s m c d = ifSort s (λ p ks f. dropSort f (at m c)) (loosen s (updatedAfterRemoval m c d))
 
 abbrev pub removeTop : Bool → Marked → Forest Marked → Forest Marked → Tree
 removeTop s m c d = withSingleStream s (removeBy (shape (m .op)) m c d)
@@ -104,18 +98,18 @@ analyzeImmediateSortRemoval p ks f t c = cond (not p && ltb 1 (fact c .streams))
 
 -- ---- the loop of ensure_sorting over the children
 
--- w: the required order, none if empty; b: the node maintains this child's order (asked before its children change, reading 9);
+-- ks: the required order, none if empty; b: the node maintains this child's order (asked before its children change, reading 9);
 -- s: it requires a single stream; f: the fetch of a new sort
 abbrev pub ensureChild : List Key → Bool → Bool → Fetch → Tree → Tree
 ensureChild [] b s f t = cond (isNil (knownOrder (fact t)) || not b) (updateChildToRemoveUnnecessarySort s t) t
-ensureChild (k ∷ w) b s f t =
-    cond (met (fact t) (k ∷ w)) t
-    (updateSortCtxChildrenData true (addSortAbove (k ∷ w) f (cond (isNil (knownOrder (fact t))) t (updateChildToRemoveUnnecessarySort s t))))
+ensureChild (k ∷ ks) b s f t =
+    cond (met (fact t) (k ∷ ks)) t
+    (updateSortCtxChildrenData true (addSortAbove (k ∷ ks) f (cond (isNil (knownOrder (fact t))) t (updateChildToRemoveUnnecessarySort s t))))
 
 abbrev pub ensureEach : (ℕ → List Key) → (ℕ → Bool) → (ℕ → Bool) → Fetch → Forest Marked → Forest Marked
-ensureEach w b s f none = none
-ensureEach w b s f (tree m c r) =
-    plant (ensureChild (w 0) (b 0) (s 0) f (at m c)) (ensureEach (λ i. w (suc i)) (λ i. b (suc i)) (λ i. s (suc i)) f r)
+ensureEach ks b s f none = none
+ensureEach ks b s f (tree m c r) =
+    plant (ensureChild (ks 0) (b 0) (s 0) f (at m c)) (ensureEach (λ i. ks (suc i)) (λ i. b (suc i)) (λ i. s (suc i)) f r)
 
 abbrev pub ensuredKids : Op → Forest Marked → Forest Marked
 ensuredKids o c = ensureEach (wanted o) (maintains o (known c)) (singles o) (outputFetch o) c
@@ -132,18 +126,15 @@ unmerged (AtMost n) t = node (localLimit (AtMost n) (limitNote t)) false (t .kid
 -- ---- ensure_sorting: the step at one node
 
 abbrev pub finish : Shape → Tree → Tree
-finish (aSort p ks f) t = updateSortCtxChildrenData false t
-finish (aMerge ks f) t = cond (leb (at0 (known (t .kids)) .streams) 1) (unmerged f t) (updateSortCtxChildrenData false t)
-finish (aRepartition p n h ks) t = updateSortCtxChildrenData false t
-finish (aCoalesce f) t = updateSortCtxChildrenData false t
-finish another t = updateSortCtxChildrenData false t
+finish s t =
+    let settled : Tree = updateSortCtxChildrenData false t in
+    ifMerge s (λ ks f. cond (leb (at0 (known (t .kids)) .streams) 1) (unmerged f t) settled) settled
 
 abbrev pub ensureBy : Shape → Tree → Tree
-ensureBy (aSort p ks f) t = cond (met (at0 (known (t .kids))) (knownOrder (fact t))) (analyzeImmediateSortRemoval p ks f t (kid0 t (t .kids))) (finish (aSort p ks f) (afterLoop t))
-ensureBy (aMerge ks f) t = finish (aMerge ks f) (afterLoop t)
-ensureBy (aRepartition p n h ks) t = finish (aRepartition p n h ks) (afterLoop t)
-ensureBy (aCoalesce f) t = finish (aCoalesce f) (afterLoop t)
-ensureBy another t = finish another (afterLoop t)
+ensureBy s t =
+    let looped : Tree = finish s (afterLoop t) in
+    let unneeded : Bool = met (at0 (known (t .kids))) (knownOrder (fact t)) in
+    ifSort s (λ p ks f. cond unneeded (analyzeImmediateSortRemoval p ks f t (kid0 t (t .kids))) looped) looped
 
 abbrev pub ensureMarked : Tree → Tree
 ensureMarked t = cond (isNil (roots (t .kids))) t (ensureBy (shape (opT t)) t)

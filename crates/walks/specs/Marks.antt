@@ -134,6 +134,36 @@ shape (hashJoin t on) = another
 shape (outputRequirement ks d f) = another
 shape (partialSort p ks n f) = another
 
+-- One kind's fields, or what holds of every other kind
+
+abbrev pub ifSort : {A : Type 0} → Shape → (Bool → List Key → Fetch → A) → A → A
+ifSort (aSort p ks f) g x = g p ks f
+ifSort (aMerge ks f) g x = x
+ifSort (aRepartition p n h ks) g x = x
+ifSort (aCoalesce f) g x = x
+ifSort another g x = x
+
+abbrev pub ifMerge : {A : Type 0} → Shape → (List Key → Fetch → A) → A → A
+ifMerge (aSort p ks f) g x = x
+ifMerge (aMerge ks f) g x = g ks f
+ifMerge (aRepartition p n h ks) g x = x
+ifMerge (aCoalesce f) g x = x
+ifMerge another g x = x
+
+abbrev pub ifRepartition : {A : Type 0} → Shape → (Bool → ℕ → Bool → List Key → A) → A → A
+ifRepartition (aSort p ks f) g x = x
+ifRepartition (aMerge ks f) g x = x
+ifRepartition (aRepartition p n h ks) g x = g p n h ks
+ifRepartition (aCoalesce f) g x = x
+ifRepartition another g x = x
+
+abbrev pub ifCoalesce : {A : Type 0} → Shape → (Fetch → A) → A → A
+ifCoalesce (aSort p ks f) g x = x
+ifCoalesce (aMerge ks f) g x = x
+ifCoalesce (aRepartition p n h ks) g x = x
+ifCoalesce (aCoalesce f) g x = g f
+ifCoalesce another g x = x
+
 -- ---- rebuilding (reading 1): update_plan_from_children, and a node put back over its walked children
 
 abbrev pub rebuild : {T : Type 0} → Op → T → Forest (Noted T) → PlanContext T

@@ -11,7 +11,7 @@ use Rattle.plan.specs.declared.Fetch.{Fetch}
 use Rattle.plan.specs.declared.Fetch.the-variants.{Unlimited, AtMost}
 use Rattle.semantics.specs.Facts.{Facts, met, isNil, keepsOrder, nothing, at0, knownOrder}
 use Rattle.semantics.specs.Properties.{wanted, maintains, cuts, anyOf, endless, isFinal}
-use Rattle.walks.specs.Marks.{Marked, Tree, strip, known, at, node, plant, opT, fact, kid0, unmark, anyMark, headMark, Shape, aSort, aMerge, aRepartition, aCoalesce, another, shape, rebuild, transformUp}
+use Rattle.walks.specs.Marks.{Marked, Tree, strip, known, at, node, plant, opT, fact, kid0, unmark, anyMark, headMark, Shape, shape, ifSort, ifMerge, ifRepartition, ifCoalesce, rebuild, transformUp}
 use Rattle.walks.specs.Utils.{isSortPreservingMerge, isCoalescePartitions, isRepartition}
 
 -- ---- update_order_preservation_ctx_children_data
@@ -32,11 +32,11 @@ inspected o c = masked (inspectChild o (known c)) c
 abbrev pub initiates : Op → List Facts → Bool
 initiates o fs = (isRepartition o && not (maintains o fs 0)) || (isCoalescePartitions o && not (isNil (knownOrder (at0 fs))))
 
--- The mark of a node o over children c whose marks are cut
+-- The mark of a node o over children c whose marks are cut. The Rust initiates a connection only where
+-- children[0] has none: where it has one, some child has one, and the mark is true anyway
 abbrev pub carries : Op → Forest Marked → Bool
 carries o c =
-    cond (isNil (roots c) || (isCoalescePartitions o && someFetch (cuts o .fetch))) false
-    (cond (not (headMark c) && initiates o (known c)) true (anyMark c))
+    cond (isNil (roots c) || (isCoalescePartitions o && someFetch (cuts o .fetch))) false (anyMark c || initiates o (known c))
 
 abbrev pub carryEach : Forest Marked → Forest Marked
 carryEach none = none
@@ -64,12 +64,10 @@ preserveCoalesce (AtMost n) spm f m c d = node (m .op) false c
 -- with_preserve_order, on a new repartition: the mark stays where it counts. Whether the old one maintains is asked before its
 -- children change (reading 9)
 abbrev pub preserveBy : Shape → Bool → Bool → Fetch → Marked → Forest Marked → Forest Marked → Tree
-preserveBy (aSort p ks g) spr spm f m c d = rebuild (m .op) false d
-preserveBy (aMerge ks g) spr spm f m c d = rebuild (m .op) false d
-preserveBy (aRepartition p n h ks) spr spm f m c d =
-    cond (not (keepsOrder p (at0 (known c))) && spr) (rebuild (repartition true n h ks) false (markFirst true d)) (rebuild (m .op) false d)
-preserveBy (aCoalesce g) spr spm f m c d = preserveCoalesce g spm f m c d
-preserveBy another spr spm f m c d = rebuild (m .op) false d
+preserveBy s spr spm f m c d =
+    let kept : Tree = rebuild (m .op) false d in
+    ifRepartition s (λ p n h ks. cond (not (keepsOrder p (at0 (known c))) && spr) (rebuild (repartition true n h ks) false (markFirst true d)) kept)
+    (ifCoalesce s (λ g. preserveCoalesce g spm f m c d) kept)
 
 abbrev pub preserveEach : Bool → Bool → Fetch → Forest Marked → Forest Marked
 preserveEach spr spm f none = none
@@ -86,12 +84,10 @@ abbrev pub enters : Op → List Facts → ℕ → Bool
 enters o fs i = maintains o fs i && (isSortPreservingMerge o || (isNil (wanted o i) || not (met (getD fs i nothing) (wanted o i))))
 
 abbrev pub breakBy : Shape → Marked → Forest Marked → Forest Marked → Tree
-breakBy (aSort p ks f) m c d = rebuild (m .op) false d
-breakBy (aMerge ks f) m c d = node (coalesce f) false (markFirst false d)
-breakBy (aRepartition p n h ks) m c d =
-    cond (keepsOrder p (at0 (known c))) (node (repartition false n h ks) false (markFirst false d)) (rebuild (m .op) false d)
-breakBy (aCoalesce f) m c d = rebuild (m .op) false d
-breakBy another m c d = rebuild (m .op) false d
+breakBy s m c d =
+    let kept : Tree = rebuild (m .op) false d in
+    ifRepartition s (λ p n h ks. cond (keepsOrder p (at0 (known c))) (node (repartition false n h ks) false (markFirst false d)) kept)
+    (ifMerge s (λ ks f. node (coalesce f) false (markFirst false d)) kept)
 
 -- q n: root n is entered
 abbrev pub breakEach : (ℕ → Bool) → Forest Marked → Forest Marked
@@ -125,11 +121,7 @@ abbrev pub accepted : Tree → Tree → Tree
 accepted t a = cond (met (fact a) (knownOrder (fact t))) (node (opT a) (a .top .mark) (unmark (a .kids))) t
 
 abbrev pub replaceBy : Shape → Settings → Tree → Tree
-replaceBy (aSort p ks f) s t = cond (headMark (t .kids)) (accepted t (alternatePlan s ks f t (kid0 t (t .kids)))) t
-replaceBy (aMerge ks f) s t = t
-replaceBy (aRepartition p n h ks) s t = t
-replaceBy (aCoalesce f) s t = t
-replaceBy another s t = t
+replaceBy z s t = ifSort z (λ p ks f. cond (headMark (t .kids)) (accepted t (alternatePlan s ks f t (kid0 t (t .kids)))) t) t
 
 abbrev pub replaceWithOrderPreservingVariants : Settings → Tree → Tree
 replaceWithOrderPreservingVariants s t = replaceBy (shape (opT t)) s (updateOrderPreservationCtxChildrenData t)

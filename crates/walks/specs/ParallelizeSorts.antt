@@ -12,7 +12,7 @@ use Rattle.plan.specs.WellFormed.{someFetch}
 use Rattle.plan.specs.declared.Fetch.{Fetch}
 use Rattle.semantics.specs.Facts.{prefixb, isNil, at0}
 use Rattle.semantics.specs.Properties.{singles, cuts}
-use Rattle.walks.specs.Marks.{Marked, Tree, strip, known, at, plant, over, opT, fact, setMark, kid0, headMark, Shape, aSort, aMerge, aRepartition, aCoalesce, another, shape, rebuild, transformUp}
+use Rattle.walks.specs.Marks.{Marked, Tree, strip, known, at, plant, over, opT, fact, setMark, kid0, headMark, Shape, shape, ifSort, ifMerge, ifRepartition, ifCoalesce, rebuild, transformUp}
 use Rattle.walks.specs.Utils.{isCoalescePartitions, addSortAboveWithCheck}
 
 -- ---- update_coalesce_ctx_children
@@ -38,11 +38,7 @@ pub data Partitioning : Type 0 where
   parted : ℕ → Bool → List Key → Partitioning
 
 abbrev pub partitioning : Shape → Partitioning
-partitioning (aSort p ks f) = unequal
-partitioning (aMerge ks f) = unequal
-partitioning (aRepartition p n h ks) = parted n h ks
-partitioning (aCoalesce f) = unequal
-partitioning another = unequal
+partitioning s = ifRepartition s (λ p n h ks. parted n h ks) unequal
 
 abbrev pub eqKeys : List Key → List Key → Bool
 eqKeys ks ls = prefixb ks ls && eqb (length ks) (length ls)
@@ -78,11 +74,7 @@ firstBottleneckRemoved b o c d = cond (firstIs bottleneck c && b) (liftFirst o c
 -- "We can remove this repartitioning operator if it is now a no-op .. also .. if we ended up with an ineffective RR": round robin
 -- goes by the number of streams alone (reading 5)
 abbrev pub idle : Shape → Op → Forest Marked → Bool
-idle (aSort p ks f) o d = false
-idle (aMerge ks f) o d = false
-idle (aRepartition p n h ks) o d = (not h && eqb n (at0 (known d) .streams)) || firstIs (samePartitioning o) d
-idle (aCoalesce f) o d = false
-idle another o d = false
+idle s o d = ifRepartition s (λ p n h ks. (not h && eqb n (at0 (known d) .streams)) || firstIs (samePartitioning o) d) false
 
 abbrev pub withoutIdle : Marked → Forest Marked → Tree
 withoutIdle m d = cond (idle (shape (m .op)) (m .op) d) (kid0 (rebuild (m .op) (m .mark) d) d) (rebuild (m .op) (m .mark) d)
@@ -107,17 +99,16 @@ withoutSelf t = kid0 (removeBottleneckInSubplan t) (bottlenecksRemoved t)
 
 -- ---- parallelize_sorts: the step at one node
 
--- "replace the CoalescePartitionsExec + SortExec cascade with a SortExec + SortPreservingMergeExec cascade"; keys and fetch are
--- get_sort_exprs, as written (reading 7)
+-- get_sort_exprs: the keys and fetch of a sort or a merge, as written (reading 7); or what holds of every other kind
+abbrev pub getSortExprs : {A : Type 0} → Shape → (List Key → Fetch → A) → A → A
+getSortExprs s g x = ifSort s (λ p ks f. g ks f) (ifMerge s g x)
+
+-- "replace the CoalescePartitionsExec + SortExec cascade with a SortExec + SortPreservingMergeExec cascade"
 abbrev pub cascade : List Key → Fetch → Tree → Tree
 cascade ks f t = cond (leb (fact t .streams) 1) (over (mergeOp ks f) false (addSortAboveWithCheck ks f (withoutSelf t))) t
 
 abbrev pub parallelBy : Shape → Tree → Tree
-parallelBy (aSort p ks f) t = cascade ks f t
-parallelBy (aMerge ks f) t = cascade ks f t
-parallelBy (aRepartition p n h ks) t = t
-parallelBy (aCoalesce f) t = over (coalesce f) false (withoutSelf t)
-parallelBy another t = t
+parallelBy s t = getSortExprs s (λ ks f. cascade ks f t) (ifCoalesce s (λ f. over (coalesce f) false (withoutSelf t)) t)
 
 -- "if the first child has no connection, we can return immediately"
 abbrev pub parallelMarked : Tree → Tree

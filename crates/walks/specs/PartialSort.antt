@@ -10,7 +10,7 @@ use Rattle.plan.specs.Op.{Op, sortOp, partialSort, Plan}
 use Rattle.plan.specs.declared.Fetch.{Fetch}
 use Rattle.semantics.specs.Facts.{Facts, met, facts, at0}
 use Rattle.semantics.specs.Properties.{anyOf, endless}
-use Rattle.walks.specs.Marks.{Shape, aSort, aMerge, aRepartition, aCoalesce, another, shape}
+use Rattle.walks.specs.Marks.{Shape, shape, ifSort}
 
 -- common_prefix_length: how many of the keys ks the facts meet, one after the other behind those of done, up to the first they don't
 abbrev pub commonPrefixLength : Facts → List Key → List Key → ℕ
@@ -32,11 +32,8 @@ partialOf p ks f n = cond (eqb n (length ks)) pastTheEnd (becomes (ofPrefix p ks
 
 -- 01, 'The four walks': it "returns a non-sort or a bounded child unchanged"
 abbrev pub partialBy : Shape → Op → Plan → Replaced
-partialBy (aSort p ks f) o c = cond (anyOf (endless c)) (partialOf p ks f (commonPrefixLength (at0 (facts c)) [] ks)) (becomes o)
-partialBy (aMerge ks f) o c = becomes o
-partialBy (aRepartition p n h ks) o c = becomes o
-partialBy (aCoalesce f) o c = becomes o
-partialBy another o c = becomes o
+partialBy s o c =
+    ifSort s (λ p ks f. cond (anyOf (endless c)) (partialOf p ks f (commonPrefixLength (at0 (facts c)) [] ks)) (becomes o)) (becomes o)
 
 -- A node o over c
 abbrev pub replaceWithPartialSort : Op → Plan → Replaced

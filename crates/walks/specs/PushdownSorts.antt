@@ -1,7 +1,7 @@
 -- sort_pushdown.rs, second part, as a structural recursion, parents first: assign_initial_requirements, pushdown_sorts_helper, pushdown_sorts
 -- (reading 8). The helper's decision at a node says which nodes come on top, whether the node (a sort) goes, and what is required of its
 -- children; the visits of the nodes that a step adds, two at most, are written out in it. These are definitions.
--- That this is the Rust's transform_down is proved: PushdownSortsLiteral has the Rust's own form, and `accepted-is-literal` (PushedIsLiteral) says
+-- That this is the Rust's transform_down is proved: PushdownSortsLiteral has the Rust's own form, and `accepted-is-literal` (SameAnswers) says
 -- that the two answer the same, 23 and 25 included. So `peak` and `quiet`, by which Counted counts a visit's steps, need not be believed.
 use mathlib.Core.Bool.{Bool, true, false, cond, _||_}
 use mathlib.Core.List.{List, [], _++_}
@@ -17,7 +17,7 @@ use Rattle.plan.specs.declared.Fetch.{Fetch}
 use Rattle.plan.specs.declared.Fetch.the-variants.{Unlimited}
 use Rattle.semantics.specs.Facts.{at0, compatible, Facts, facts, factsOp, isNil, met, nf, knownOrder}
 use Rattle.semantics.specs.Properties.{distOf, fetches, fetchOp, freshKeys, rebuilt, sortDist, wanted}
-use Rattle.walks.specs.Marks.{aCoalesce, aMerge, another, aRepartition, aSort, cover, kid0, Marked, node, plant, rebuild, Shape, shape, strip, Tree}
+use Rattle.walks.specs.Marks.{cover, ifSort, kid0, Marked, node, plant, rebuild, Shape, shape, strip, Tree}
 use Rattle.walks.specs.Utils.{mergeAbove, needsMerge, sortAboveWithDistribution}
 use Rattle.walks.specs.SortPushdown.{defaultRequirements, goes, minFetch, ParentRequirements, pushdownRequirementToChildren, Pushed, stop, strongerDistribution}
 
@@ -153,7 +153,7 @@ abbrev pub sortAdded : Visit → Op → Plan → Decision
 sortAdded q o c = covered (sortAboveWithDistribution (factsOp o (facts c)) (q .req .order) (q .req .fetch) (q .req .dist)) 0 o (withOwnDistribution o)
 
 -- Where a merge comes too, "the sort is visited, removed, and the node tried once more with the sort's normal form and no
--- distribution" (reading 8): u is what that try gives
+-- distribution" (reading 8): what that try gives comes first
 abbrev pub afterMerge : Pushed → Visit → Op → Plan → Decision
 afterMerge (goes ks) q o c =
     covered (mergeAbove (factsOp o (facts c)) (q .req .order) (q .req .fetch)) 1 o
@@ -185,11 +185,7 @@ decideNode q o c = cond (isNil (q .req .order)) (unasked q o c) (nodeAsked q o c
 -- ---- pushdown_sorts_helper
 
 abbrev pub decideBy : Shape → Visit → Op → Plan → Decision
-decideBy (aSort p ks f) q o c = decideSort p ks f q c
-decideBy (aMerge ks f) q o c = decideNode q o c
-decideBy (aRepartition p n h ks) q o c = decideNode q o c
-decideBy (aCoalesce f) q o c = decideNode q o c
-decideBy another q o c = decideNode q o c
+decideBy s q o c = ifSort s (λ p ks f. decideSort p ks f q c) (decideNode q o c)
 
 abbrev pub pushdownSortsHelper : Visit → Op → Plan → Decision
 pushdownSortsHelper q o c = decideBy (shape o) q (cond (q .touch) (rebuilt o (facts c)) o) c

@@ -1,7 +1,7 @@
 -- sort_pushdown.rs, second part, as the Rust has it: assign_initial_requirements; pushdown_sorts_helper, on a PlanContext whose children hold
 -- their ParentRequirements as data; and pushdown_sorts: transform_down applies the helper to a node and then goes into the children of
 -- what it returned, new nodes included. After each step the nodes of the whole plan are counted (reading 4). These are definitions.
--- This is what a reader has to believe of push. `accepted-is-literal` (PushedIsLiteral) proves that `pushed`, by the structural recursion of
+-- This is what a reader has to believe of push. `accepted-is-literal` (SameAnswers) proves that `pushed`, by the structural recursion of
 -- PushdownSorts and Counted, answers the same for every plan, 23 and 25 included; and that the number that bounds the recursion here, the
 -- fuel, is enough, and no index passes the end.
 use mathlib.Core.Bool.{Bool, false, cond, not, _&&_}
@@ -44,13 +44,13 @@ abbrev pub eachChild : (ℕ → ParentRequirements → ParentRequirements) → F
 eachChild g none = none
 eachChild g (tree m c r) = tree (record { op = m .op; mark = g 0 (m .mark) }) c (eachChild (λ i. g (suc i)) r)
 
--- ---- assign_initial_requirements: ws and ds are what the node wants of its children, orders and distributions
+-- ---- assign_initial_requirements: ks and ds are what the node wants of its children, orders and distributions
 
 abbrev pub initialFrom : (ℕ → List Key) → (ℕ → Distribution) → Forest Required → Forest Required
-initialFrom ws ds none = none
-initialFrom ws ds (tree m c r) =
-    let first : ParentRequirements = record { order = ws 0; fetch = fetchOp (m .op) (fetches (strip c)); dist = ds 0 } in
-    tree (record { op = m .op; mark = first }) c (initialFrom (λ i. ws (suc i)) (λ i. ds (suc i)) r)
+initialFrom ks ds none = none
+initialFrom ks ds (tree m c r) =
+    let first : ParentRequirements = record { order = ks 0; fetch = fetchOp (m .op) (fetches (strip c)); dist = ds 0 } in
+    tree (record { op = m .op; mark = first }) c (initialFrom (λ i. ks (suc i)) (λ i. ds (suc i)) r)
 
 abbrev pub assignInitial : SortPushDown → SortPushDown
 assignInitial t = node (opT t) (required t) (initialFrom (wanted (opT t)) (distOf (opT t)) (t .kids))

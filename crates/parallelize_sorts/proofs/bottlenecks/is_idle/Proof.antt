@@ -4,6 +4,7 @@ use borrow.Author.Tests.{not-true, not-false}
 use Rattle.plan_codec.specs.Decode.{decode}
 use Rattle.record_fields.specs.Proper.{Proper}
 use Rattle.walks.specs.ParallelizeSorts.{samePartitioning}
+use Rattle.plan_context.specs.View.{forest}
 use Rattle.parallelize_sorts.specs.Shown.{over-proper}
 use Rattle.parallelize_sorts.specs.IdleNodes.{not-idle, one-child, child-here, child-proper, idle-is}
 use Rattle.parallelize_sorts.proofs.bottlenecks.is_idle.Statement.{statement}
@@ -13,7 +14,7 @@ is-repartition-requires : tie.Need-is-repartition-requires
 is-repartition-requires c κs = over-proper ((c .before .before .before) .args .m .now) ((c .before .before .before) .args .r .now) ((c .before .before .before) .args .ks .now) ((c .before .before .before) .pre)
 
 returns : tie.Need-returns
-returns c = not-idle (decode ((c .before .before .before .before .before) .args .r .now)) _ (sym ((c .before .is-repartition) .ensures) ∙ not-true _ ((c .if1) .taken))
+returns c = let s = c .before .before .before .before .before in not-idle (decode (s .args .r .now)) (forest (s .args .m .now) (s .args .ks .now)) (sym ((c .before .is-repartition) .ensures) ∙ not-true _ ((c .if1) .taken))
 
 shared-slice-read-k : tie.Need-shared-slice-read-k
 shared-slice-read-k c = let n = one-child ((c .before .before .before .before .before .before) .args .m .now) ((c .before .before .before .before .before .before) .args .r .now) ((c .before .before .before .before .before .before) .args .ks .now) ((c .before .before .before .before .before .before) .pre) (sym ((c .before .before .is-repartition) .ensures) ∙ not-false _ ((c .before .if1) .left)) in omega arith

@@ -4,7 +4,7 @@ use mathlib.Core.Path.{sym, ap, _∙_, subst}
 use Rattle.plan_codec.specs.Decode.{decode}
 use Rattle.record_fields.specs.Proper.{Proper}
 use Rattle.replace_with_order_preserving_variants.specs.Nodes.{slot-proper}
-use Rattle.replace_with_order_preserving_variants.specs.Marking.{isFetchedCoalesce, count-same, carries-none, carries-fetched, carries-begins, carries-any}
+use Rattle.replace_with_order_preserving_variants.specs.Marking.{isFetchedCoalesce, count-same, carries-none, carries-fetched, carries-any, carries-initiates}
 use Rattle.replace_with_order_preserving_variants.proofs.marking.carries.Statement.{statement}
 use Rattle.replace_with_order_preserving_variants.proofs.marking.carries.Tie as tie
 
@@ -20,23 +20,17 @@ is-fetched-coalesce-requires c κs = let s = c .before .before .before .before i
 returns-2 : tie.Need-returns-2
 returns-2 c = let s = c .before .before .before .before .before .before in let m = s .args .m .now in let i = s .args .i in let ks = s .args .ks .now in let a = s .pre .0 in let e = s .pre .1 in carries-fetched m i ks e (let x = c .before .before .before .if1 .left in omega arith) _ (c .before .is-fetched-coalesce .ensures ∙ ap (λ x. isFetchedCoalesce (decode x)) (c .before .before .record-at .ensures)) (c .if2 .taken)
 
-shared-slice-read-is-marked : tie.Need-shared-slice-read-is-marked
-shared-slice-read-is-marked c = search needs
+any-marked-requires : tie.Need-any-marked-requires
+any-marked-requires c κs = search needs
 
-is-marked-requires : tie.Need-is-marked-requires
-is-marked-requires c κs = search needs
+returns-3 : tie.Need-returns-3
+returns-3 c = let s = c .before .before .before .before .before .before .before .before in let m = s .args .m .now in let i = s .args .i in let ks = s .args .ks .now in let a = s .pre .0 in let e = s .pre .1 in carries-any m i ks e (let x = c .before .before .before .before .before .if1 .left in omega arith) _ (c .before .before .before .is-fetched-coalesce .ensures ∙ ap (λ x. isFetchedCoalesce (decode x)) (c .before .before .before .before .record-at .ensures)) (c .before .before .if2 .left) _ (c .before .any-marked .ensures) (c .if3 .taken)
 
 initiates-requires : tie.Need-initiates-requires
 initiates-requires c κs = let s = c .before .before .before .before .before .before .before .before in let m = s .args .m .now in let i = s .args .i in let ks = s .args .ks .now in let a = s .pre .0 in let e = s .pre .1 in (a, let n = count-same m i ks e in let x = c .before .before .before .before .before .if1 .left in omega arith)
 
-returns-3 : tie.Need-returns-3
-returns-3 c = let s = c .before .before .before .before .before .before .before .before .before .before in let m = s .args .m .now in let i = s .args .i in let ks = s .args .ks .now in let a = s .pre .0 in let e = s .pre .1 in carries-begins m i ks e (let x = c .before .before .before .before .before .before .before .if1 .left in omega arith) _ (c .before .before .before .before .before .is-fetched-coalesce .ensures ∙ ap (λ x. isFetchedCoalesce (decode x)) (c .before .before .before .before .before .before .record-at .ensures)) (c .before .before .before .before .if2 .left) _ _ (c .before .before .is-marked .ensures) (c .before .initiates .ensures) (c .if3 .taken)
-
-any-marked-requires : tie.Need-any-marked-requires
-any-marked-requires c κs = search needs
-
 returns-4 : tie.Need-returns-4
-returns-4 c = let s = c .before .before .before .before .before .before .before .before .before .before .before in let m = s .args .m .now in let i = s .args .i in let ks = s .args .ks .now in let a = s .pre .0 in let e = s .pre .1 in carries-any m i ks e (let x = c .before .before .before .before .before .before .before .before .if1 .left in omega arith) _ (c .before .before .before .before .before .before .is-fetched-coalesce .ensures ∙ ap (λ x. isFetchedCoalesce (decode x)) (c .before .before .before .before .before .before .before .record-at .ensures)) (c .before .before .before .before .before .if2 .left) _ _ (c .before .before .before .is-marked .ensures) (c .before .before .initiates .ensures) (c .before .if3 .left) _ (c .any-marked .ensures)
+returns-4 c = let s = c .before .before .before .before .before .before .before .before .before in let m = s .args .m .now in let i = s .args .i in let ks = s .args .ks .now in let a = s .pre .0 in let e = s .pre .1 in carries-initiates m i ks e (let x = c .before .before .before .before .before .before .if1 .left in omega arith) _ (c .before .before .before .before .is-fetched-coalesce .ensures ∙ ap (λ x. isFetchedCoalesce (decode x)) (c .before .before .before .before .before .record-at .ensures)) (c .before .before .before .if2 .left) _ (c .before .before .any-marked .ensures) (c .before .if3 .left) _ (c .initiates .ensures)
 
 pub carries-spec : {M : Type 1} → statement M
 carries-spec =
@@ -46,9 +40,7 @@ carries-spec =
     record-at-requires
     is-fetched-coalesce-requires
     returns-2
-    shared-slice-read-is-marked
-    is-marked-requires
-    initiates-requires
-    returns-3
     any-marked-requires
+    returns-3
+    initiates-requires
     returns-4)
