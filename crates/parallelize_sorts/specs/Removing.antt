@@ -34,7 +34,7 @@ use Rattle.parallelize_sorts.specs.Skipping.{Skips}
 use Rattle.parallelize_sorts.specs.Sizes.{skip-size, one-size, each-size}
 use Rattle.parallelize_sorts.specs.IdleNodes.{Lifts}
 
--- One root of openEach; q: it is removable
+-- One root of removeBottleneckInSubplanImpl; q: it is removable
 abbrev pub openOne : Bool → Tree → Tree
 openOne q t = cond (t .top .mark && q) (withoutIdle (t .top) (firstBottleneckRemoved (not (singles (opT t) 0)) (opT t) (t .kids) (removeBottleneckInSubplanImpl (λ i. not (singles (opT t) i)) (t .kids)))) t
 

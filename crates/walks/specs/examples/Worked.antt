@@ -66,7 +66,7 @@ pub ensure-merge : ensured (on (sortOp false (by 2) Unlimited) (src 2 (up 2 ∷ 
 ensure-merge = refl
 
 -- ---- 01, 'Traps'
--- the immediate merge has the sort's own keys, though column 1 is constant and the known order is [2]
+-- analyze_immediate_sort_removal: the merge has the sort's own keys, though column 1 is constant and the known order is [2]
 pub ensure-own-keys : ensured (on (sortOp false (up 2 ∷ up 1 ∷ []) Unlimited) (tree (sourceOf 3 2 2 (by 2) false) none none)) ≡ answered (on (mergeOp (up 2 ∷ up 1 ∷ []) Unlimited) (tree (sourceOf 3 2 2 (by 2) false) none none))
 ensure-own-keys = refl
 
