@@ -1,6 +1,5 @@
 -- The fields of a record, as the code reads them. Assumes nothing.
-use mathlib.Core.Path.{_≡_, refl, sym, ap, ap₂, _∙_, subst}
-use mathlib.Core.Bool.{Bool, true, false}
+use mathlib.Core.Path.{_≡_, refl, sym, ap, _∙_, subst}
 use mathlib.Core.List.{List, [], _∷_, map}
 use Prim.Native.Nat.{ℕ, zero, suc, _+_, _*_, _/_, _^_, _≤_, _<_}
 use native.Mathlib.Omega.{arith}
@@ -8,18 +7,17 @@ use lib.Bits.{bitAnd, and-mask}
 use lib.Dec.{eqb}
 use lib.ListN.{length, getD, take, drop, length-drop, length-map, length-take, List·getD-eq-default}
 use lib.Seq.{getD-drop, getD-take, length-take-le}
-use borrow.Author.Tests.{eq-eqb, ne-eqb, ltb-true}
+use borrow.Author.Tests.{eq-eqb, ne-eqb}
 use Rattle.row_order.specs.Iso.{Key}
 use Rattle.row_order.specs.Packed.{bit, keyOf}
-use Rattle.scan.specs.Below.{and-right}
 use Rattle.scan.specs.Bytes.{le32, part}
-use Rattle.plan.specs.Op.{On, Op, projection, partialSort}
+use Rattle.plan.specs.Op.{On, projection}
 use Rattle.plan.specs.Numbers.{kindOf}
 use Rattle.plan.specs.declared.Kind.{Kind}
 use Rattle.plan.specs.declared.Kind.the-variants.{Projection, SortMergeJoin, PartialSort}
 use Rattle.plan.specs.declared.Distribution.the-variants.{Keyed}
 use Rattle.plan.specs.declared.Fetch.the-variants.{Unlimited, AtMost}
-use Rattle.semantics.specs.Properties.{rightKey, wanted, wantedOf, same, pairs, bySide, columnSet}
+use Rattle.semantics.specs.Properties.{rightKey, joinKeys, wanted, bySide, columnSet}
 use Rattle.plan_codec.specs.Decode.{decode, distributionOf, fetchOf, fromBytes, operatorOf}
 use Rattle.plan_codec.specs.Keys.{on-keys, on-columns}
 use Rattle.key_lists.specs.declared.Keys.{Keys}
@@ -27,7 +25,7 @@ use Rattle.key_lists.specs.declared.Order.{Order}
 use Rattle.key_lists.specs.declared.Order.the-variants.{Unordered}
 use Rattle.key_lists.specs.Keys as held
 use Rattle.key_lists.specs.Lists.{length-keys}
-use Rattle.record_fields.specs.Fields.{packedKeys, packedRightKeys, tailColumns}
+use Rattle.record_fields.specs.Fields.{packedKeys, packedRightKeys}
 use Rattle.record_fields.specs.Decoded.{packed-keys, packed-right-keys, length-packed, length-keys-le}
 use Rattle.record_fields.specs.Proper.{Proper, pairsOf}
 use Rattle.node_properties.specs.Kinds.{op-of}
@@ -115,24 +113,24 @@ prefix-inside r p e = p .prefix e
 
 -- ---- orders of the first child, and of the others
 
-pub first-order : (ks : List Key) (j : ℕ) (o : Order) → j ≡ 0 → held.Ordered ks o → held.Ordered (wantedOf (same ks) j) o
+pub first-order : (ks : List Key) (j : ℕ) (o : Order) → j ≡ 0 → held.Ordered ks o → held.Ordered (getD (ks ∷ []) j []) o
 first-order ks zero o e h = h
 first-order ks (suc j) o e h = absurd (omega arith)
 
-pub no-first : (ks : List Key) (j : ℕ) → (j ≡ 0 → ⊥) → held.Ordered (wantedOf (same ks) j) Unordered
+pub no-first : (ks : List Key) (j : ℕ) → (j ≡ 0 → ⊥) → held.Ordered (getD (ks ∷ []) j []) Unordered
 no-first ks zero e = absurd (e refl)
 no-first ks (suc j) e = record { is = refl; real = tt }
 
-pub left-order : (on : List On) (ks : List Key) (j : ℕ) (o : Order) → j ≡ 0 → ks ≡ map (λ k. k .key) on → held.Ordered ks o → held.Ordered (wantedOf (pairs on) j) o
+pub left-order : (on : List On) (ks : List Key) (j : ℕ) (o : Order) → j ≡ 0 → ks ≡ map (λ k. k .key) on → held.Ordered ks o → held.Ordered (getD (joinKeys on) j []) o
 left-order on ks zero o e d h = subst (λ l. held.Ordered l o) d h
 left-order on ks (suc j) o e d h = absurd (omega arith)
 
-pub right-order : (on : List On) (ks : List Key) (j : ℕ) (o : Order) → j ≡ 1 → ks ≡ map rightKey on → held.Ordered ks o → held.Ordered (wantedOf (pairs on) j) o
+pub right-order : (on : List On) (ks : List Key) (j : ℕ) (o : Order) → j ≡ 1 → ks ≡ map rightKey on → held.Ordered ks o → held.Ordered (getD (joinKeys on) j []) o
 right-order on ks zero o e d h = absurd (omega arith)
 right-order on ks (suc zero) o e d h = subst (λ l. held.Ordered l o) d h
 right-order on ks (suc (suc j)) o e d h = absurd (omega arith)
 
-pub no-side : (on : List On) (j : ℕ) → (j ≡ 0 → ⊥) → (j ≡ 1 → ⊥) → held.Ordered (wantedOf (pairs on) j) Unordered
+pub no-side : (on : List On) (j : ℕ) → (j ≡ 0 → ⊥) → (j ≡ 1 → ⊥) → held.Ordered (getD (joinKeys on) j []) Unordered
 no-side on zero a b = absurd (a refl)
 no-side on (suc zero) a b = absurd (b refl)
 no-side on (suc (suc j)) a b = record { is = refl; real = tt }
@@ -147,5 +145,5 @@ module _ (r : List ℕ) (k : Kind) (e : kindOf (getD r 0 0) ≡ k) (j : ℕ) whe
   wants-none d = wants-this Unordered (record { is = d; real = tt })
 
   -- the keys ks, of the first child
-  pub wants-first : (ks ls : List Key) (o : Order) → ks ≡ ls → wantedOf (same ls) j ≡ wanted (operatorOf k (fromBytes r)) j → held.Ordered (wantedOf (same ks) j) o → held.Ordered (wanted (decode r) j) o
-  wants-first ks ls o d x h = wants-this o (subst (λ l. held.Ordered l o) (ap (λ l. wantedOf (same l) j) d ∙ x) h)
+  pub wants-first : (ks ls : List Key) (o : Order) → ks ≡ ls → getD (ls ∷ []) j [] ≡ wanted (operatorOf k (fromBytes r)) j → held.Ordered (getD (ks ∷ []) j []) o → held.Ordered (wanted (decode r) j) o
+  wants-first ks ls o d x h = wants-this o (subst (λ l. held.Ordered l o) (ap (λ l. getD (l ∷ []) j []) d ∙ x) h)

@@ -29,7 +29,7 @@ use row_facts::asked::is_ordered;
 use row_facts::asked::keeps_order;
 ghost use mathlib.Core.Path.{_≡_};
 ghost use mathlib.Core.Bool.{Bool·beq};
-ghost use mathlib.Core.List.{List};
+ghost use mathlib.Core.List.{List, [], _∷_};
 ghost use Prim.Native.Nat.{ℕ, _≤_, _<_};
 ghost use lib.Dec.{eqb};
 ghost use lib.ListN.{getD};
@@ -163,7 +163,7 @@ pub fn child_column(r: &[u8], c: usize) -> usize
 // The keys, of the first child.
 fn of_first(keys: Keys, j: usize) -> Order
     requires { ⌜ keys .len ≤ 8 ⌝ }
-    ensures { λ o. ⌜ Ordered (node.wantedOf (node.same (keysOf keys)) j) o ⌝ }
+    ensures { λ o. ⌜ Ordered (getD (keysOf keys ∷ []) j []) o ⌝ }
 {
     if j == 0 {
         return order_of(keys);
@@ -174,7 +174,7 @@ fn of_first(keys: Keys, j: usize) -> Order
 // A sort-merge join's keys on both sides.
 fn of_side(r: &[u8], j: usize) -> Order
     requires { ⌜ Proper (now r) × (kindOf (getD (now r) 0 0) ≡ kinds.SortMergeJoin) ⌝ }
-    ensures { λ o. ⌜ Ordered (node.wantedOf (node.pairs (pairsOf (now (r .entry)))) j) o ⌝ }
+    ensures { λ o. ⌜ Ordered (getD (node.joinKeys (pairsOf (now (r .entry)))) j []) o ⌝ }
 {
     if j == 0 {
         return order_of(key_list(r));

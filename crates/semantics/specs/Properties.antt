@@ -23,42 +23,32 @@ use Rattle.semantics.specs.Facts.{Facts, isC, met, nothing, unionFacts, 
 abbrev pub rightKey : On → Key
 rightKey k = record { col = k .other; desc = k .key .desc; first = k .key .first }
 
--- What a node wants of its children's orders: nothing, one list of its one child, or a join's keys on both sides
-pub data WantedOrders : Type 0 where
-  noOrders : WantedOrders
-  same : List Key → WantedOrders
-  pairs : List On → WantedOrders
+-- A sort-merge join's keys, of its left and its right side
+abbrev pub joinKeys : List On → List (List Key)
+joinKeys on = map (λ k. k .key) on ∷ map rightKey on ∷ []
 
+-- The orders that a node wants of its children, the first one's first; of the others none.
 -- "Merge, output requirement and sort-merge join want their keys as order; a limit's note is not wanted."
 -- 'Rows': "a partial sort wants its prefix"
-abbrev pub wantedOrders : Op → WantedOrders
-wantedOrders (source s) = noOrders
-wantedOrders filter = noOrders
-wantedOrders (projection cols) = noOrders
-wantedOrders union = noOrders
-wantedOrders (repartition p n h ks) = noOrders
-wantedOrders (coalesce f) = noOrders
-wantedOrders (sortOp p ks f) = noOrders
-wantedOrders (mergeOp ks f) = same ks
-wantedOrders (globalLimit s f note) = noOrders
-wantedOrders (localLimit f note) = noOrders
-wantedOrders (sortMergeJoin t on) = pairs on
-wantedOrders (hashJoin t on) = noOrders
-wantedOrders (outputRequirement ks d f) = same ks
-wantedOrders (partialSort p ks n f) = same (take n ks)
-
--- The order wanted of the first child, and of the second; of others none
-abbrev pub eachOrder : WantedOrders → List (List Key)
-eachOrder noOrders = []
-eachOrder (same ks) = ks ∷ []
-eachOrder (pairs on) = map (λ k. k .key) on ∷ map rightKey on ∷ []
+abbrev pub wantedOrders : Op → List (List Key)
+wantedOrders (source s) = []
+wantedOrders filter = []
+wantedOrders (projection cols) = []
+wantedOrders union = []
+wantedOrders (repartition p n h ks) = []
+wantedOrders (coalesce f) = []
+wantedOrders (sortOp p ks f) = []
+wantedOrders (mergeOp ks f) = ks ∷ []
+wantedOrders (globalLimit s f note) = []
+wantedOrders (localLimit f note) = []
+wantedOrders (sortMergeJoin t on) = joinKeys on
+wantedOrders (hashJoin t on) = []
+wantedOrders (outputRequirement ks d f) = ks ∷ []
+wantedOrders (partialSort p ks n f) = take n ks ∷ []
 
 -- The order that a node wants of its child number i; the empty list is no order
-abbrev pub wantedOf : WantedOrders → ℕ → List Key
-wantedOf v i = getD (eachOrder v) i []
-
 abbrev pub wanted : Op → ℕ → List Key
-wanted o i = wantedOf (wantedOrders o) i
+wanted o i = getD (wantedOrders o) i []
 
 -- ---- wanted distributions
 

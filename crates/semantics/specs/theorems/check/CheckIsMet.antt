@@ -1,33 +1,29 @@
 -- The order check passes exactly where each node's wanted orders are met by its children's facts: `check-met`, `met-check`.
 use mathlib.Core.Path.{_≡_, refl, ap₂}
 use mathlib.Core.Bool.{true, _&&_}
-use mathlib.Core.List.{List}
+use mathlib.Core.List.{List, [], _∷_}
 use Prim.Native.Nat.{ℕ, zero, suc}
 use lib.ListN.{getD}
+use Rattle.row_order.specs.Iso.{Key}
 use Rattle.plan.specs.Forest.{none, tree}
 use Rattle.plan.specs.Op.{Op, Plan}
-use Rattle.plan.specs.WellFormed.{every}
 use Rattle.semantics.specs.Facts.{Facts, met, nothing, facts}
-use Rattle.semantics.specs.Properties.{WantedOrders, noOrders, same, pairs, wantedOrders, wantedOf, wanted}
-use Rattle.semantics.specs.Check.{eachWantedOf, metBy, wantsMet, check, EachMet, met-none, met-tree}
+use Rattle.semantics.specs.Properties.{wantedOrders, wanted}
+use Rattle.semantics.specs.Check.{ordersMet, wantsMet, check, EachMet, met-none, met-tree}
 use Rattle.semantics.specs.theorems.common.Bools.{and-left, and-right}
 
 -- ---- one node
-each-met : (v : WantedOrders) (fs : List Facts) → every (metBy fs) (eachWantedOf v) ≡ true → (i : ℕ) → met (getD fs i nothing) (wantedOf v i) ≡ true
-each-met noOrders fs e i = refl
-each-met (same ks) fs e zero = search and-left
-each-met (same ks) fs e (suc i) = refl
-each-met (pairs on) fs e zero = search and-left
-each-met (pairs on) fs e (suc zero) = search (and-left, and-right)
-each-met (pairs on) fs e (suc (suc i)) = refl
+each-met : (l : List (List Key)) (F : ℕ → Facts) → ordersMet l F ≡ true → (i : ℕ) → met (F i) (getD l i []) ≡ true
+each-met [] F e i = refl
+each-met (ks ∷ l) F e zero = and-left (met (F 0) ks) (ordersMet l (λ i. F (suc i))) e
+each-met (ks ∷ l) F e (suc i) = each-met l (λ j. F (suc j)) (and-right (met (F 0) ks) (ordersMet l (λ j. F (suc j))) e) i
 
 pub wants-met : (o : Op) (fs : List Facts) → wantsMet o fs ≡ true → (i : ℕ) → met (getD fs i nothing) (wanted o i) ≡ true
-wants-met o fs e i = each-met (wantedOrders o) fs e i
+wants-met o fs e i = each-met (wantedOrders o) (λ j. getD fs j nothing) e i
 
-met-each : (v : WantedOrders) (fs : List Facts) → ((i : ℕ) → met (getD fs i nothing) (wantedOf v i) ≡ true) → every (metBy fs) (eachWantedOf v) ≡ true
-met-each noOrders fs h = refl
-met-each (same ks) fs h = ap₂ _&&_ (h 0) refl
-met-each (pairs on) fs h = ap₂ _&&_ (h 0) (ap₂ _&&_ (h 1) refl)
+met-each : (l : List (List Key)) (F : ℕ → Facts) → ((i : ℕ) → met (F i) (getD l i []) ≡ true) → ordersMet l F ≡ true
+met-each [] F h = refl
+met-each (ks ∷ l) F h = ap₂ _&&_ (h 0) (met-each l (λ i. F (suc i)) (λ i. h (suc i)))
 
 -- ---- every node
 pub check-met : (f : Plan) → check f ≡ true → EachMet f
@@ -36,4 +32,4 @@ check-met (tree o c r) e = met-tree (wants-met o (facts c) (search and-left)) (c
 
 pub met-check : {f : Plan} → EachMet f → check f ≡ true
 met-check met-none = refl
-met-check (met-tree {o = o} {c = c} h k l) = ap₂ _&&_ (met-each (wantedOrders o) (facts c) h) (ap₂ _&&_ (met-check k) (met-check l))
+met-check (met-tree {o = o} {c = c} h k l) = ap₂ _&&_ (met-each (wantedOrders o) (λ i. getD (facts c) i nothing) h) (ap₂ _&&_ (met-check k) (met-check l))

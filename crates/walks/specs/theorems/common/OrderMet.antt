@@ -7,14 +7,14 @@ use Prim.Native.Nat.{ℕ, zero, suc, _<_}
 use native.Mathlib.Omega.{arith}
 use borrow.Author.Tests.{eqb-true, eq-eqb}
 use lib.Dec.{eqb}
-use lib.ListN.{length, getD}
+use lib.ListN.{length, getD, take}
 use Rattle.row_order.specs.Iso.{Key}
 use Rattle.row_order.specs.Order.{no-bool}
 use Rattle.plan.specs.Op.{coalesce, filter, globalLimit, hashJoin, localLimit, mergeOp, On, Op, outputRequirement, partialSort, projection, repartition, sortMergeJoin, sortOp, source, union}
-use Rattle.plan.specs.WellFormed.{every, member}
+use Rattle.plan.specs.WellFormed.{member}
 use Rattle.semantics.specs.Facts.{cl, Facts, isC, isNil, met, nf, nothing, prefixb, withColumn}
-use Rattle.semantics.specs.Properties.{freshKeys, noOrders, pairs, remark, rightKey, same, wanted, wantedOf, WantedOrders, wantedOrders}
-use Rattle.semantics.specs.Check.{eachWantedOf, wantsMet}
+use Rattle.semantics.specs.Properties.{freshKeys, joinKeys, remark, rightKey, wanted, wantedOrders}
+use Rattle.semantics.specs.Check.{ordersMet, wantsMet}
 use Rattle.semantics.specs.Canonical.{Canon}
 use Rattle.semantics.specs.theorems.common.Bools.{or-cases, or-false, or-right}
 use Rattle.semantics.specs.theorems.orders.NormalForms.{nf-idem, normal-nf}
@@ -105,12 +105,29 @@ fresh-some F h ks e = go (freshKeys F [] ks) (fresh-same F h ks)
     go (k ∷ l) q = refl
 
 -- ---- wanted orders
-pub no-orders-met : (w : WantedOrders) (fs : List Facts) → isNil (wantedOf w 0) ≡ true → every (λ a. met (getD fs (a .child) nothing) (a .keys)) (eachWantedOf w) ≡ true
-no-orders-met noOrders fs e = refl
-no-orders-met (same []) fs e = refl
-no-orders-met (same (k ∷ ks)) fs e = no-bool e
-no-orders-met (pairs []) fs e = refl
-no-orders-met (pairs (k ∷ on)) fs e = no-bool e
+nil-met : (F : Facts) (ks : List Key) → isNil ks ≡ true → met F ks && true ≡ true
+nil-met F [] e = refl
+nil-met F (k ∷ ks) e = no-bool e
+
+no-pairs-met : (on : List On) (F : ℕ → Facts) → isNil (map (λ k. k .key) on) ≡ true → ordersMet (joinKeys on) F ≡ true
+no-pairs-met [] F e = refl
+no-pairs-met (k ∷ on) F e = no-bool e
+
+pub no-orders-met : (o : Op) (fs : List Facts) → isNil (wanted o 0) ≡ true → wantsMet o fs ≡ true
+no-orders-met (source s) fs e = refl
+no-orders-met filter fs e = refl
+no-orders-met (projection cols) fs e = refl
+no-orders-met union fs e = refl
+no-orders-met (repartition p n h ks) fs e = refl
+no-orders-met (coalesce f) fs e = refl
+no-orders-met (sortOp p ks f) fs e = refl
+no-orders-met (mergeOp ks f) fs e = nil-met (getD fs 0 nothing) ks e
+no-orders-met (globalLimit s f note) fs e = refl
+no-orders-met (localLimit f note) fs e = refl
+no-orders-met (sortMergeJoin t on) fs e = no-pairs-met on (λ i. getD fs i nothing) e
+no-orders-met (hashJoin t on) fs e = refl
+no-orders-met (outputRequirement ks d f) fs e = nil-met (getD fs 0 nothing) ks e
+no-orders-met (partialSort p ks n f) fs e = nil-met (getD fs 0 nothing) (take n ks) e
 
 -- of the number of its children that a node can have, what is wanted of some child is nothing only if nothing is wanted of the first
 keys-nil : (on : List On) → isNil (map rightKey on) ≡ true → isNil (map (λ k. k .key) on) ≡ true
@@ -158,4 +175,4 @@ wants-in (outputRequirement ks dist most) fs f h = ap₂ _&&_ (h 0 (omega arith)
 wants-in (partialSort p ks n g) fs f h = ap₂ _&&_ (h 0 (omega arith)) refl
 
 pub wants-remark : (g : Bool → Bool) (o : Op) (fs : List Facts) → wantsMet (remark g o) fs ≡ wantsMet o fs
-wants-remark g o fs = ap (λ (w : WantedOrders). every (λ a. met (getD fs (a .child) nothing) (a .keys)) (eachWantedOf w)) (remark-same wantedOrders g (λ p q n h ks. refl) o)
+wants-remark g o fs = ap (λ (l : List (List Key)). ordersMet l (λ i. getD fs i nothing)) (remark-same wantedOrders g (λ p q n h ks. refl) o)

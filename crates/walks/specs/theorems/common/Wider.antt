@@ -4,7 +4,7 @@ use mathlib.Core.Path.{_≡_, refl, sym, ap, ap₂, _∙_, subst}
 use mathlib.Core.Bool.{Bool, true, false, cond, not, _&&_, _||_}
 use mathlib.Core.Logic.{_⊎_, inl, inr}
 use mathlib.Core.List.{List, [], _∷_, map}
-use Prim.Native.Nat.{ℕ, _≤_, _<_}
+use Prim.Native.Nat.{ℕ, suc, _≤_, _<_}
 use native.Mathlib.Omega.{arith}
 use borrow.Author.Tests.{eqb-true, eq-eqb, ltb-true, lt-ltb, not-true}
 use lib.Dec.{eqb, ltb}
@@ -15,12 +15,13 @@ use Rattle.row_order.specs.Lists.{All, all-cons}
 use Rattle.plan.specs.Forest.{none}
 use Rattle.plan.specs.Op.{coalesce, filter, globalLimit, hashJoin, localLimit, mergeOp, On, Op, outputRequirement, partialSort, projection, repartition, sortMergeJoin, sortOp, source, union}
 use Rattle.plan.specs.Numbers.{code}
-use Rattle.plan.specs.WellFormed.{every, member}
+use Rattle.plan.specs.WellFormed.{member}
 use Rattle.plan.specs.declared.Fetch.{Fetch}
 use Rattle.plan.specs.declared.JoinType.{JoinType}
 use Rattle.plan.specs.declared.JoinType.the-variants.{Full, Inner, Left, LeftAnti, LeftSemi, Right, RightAnti, RightSemi}
 use Rattle.semantics.specs.Facts.{at0, at1, both, byRight, carried, cl, common, counts, eqKey, Facts, factsOp, hashKept, isC, isNil, joinBase, joinFacts, joinOrder, keepsOrder, Kept, kLeft, kNone, kRight, leftOrder, met, moved, nf, nfBy, nothing, ordered, prefixb, projFacts, projOrder, rightOrder, smjKept, sortStreams, unionFacts, withColumn, within}
-use Rattle.semantics.specs.Check.{eachWanted, metBy, wantsMet}
+use Rattle.semantics.specs.Properties.{wantedOrders}
+use Rattle.semantics.specs.Check.{ordersMet, wantsMet}
 use Rattle.semantics.specs.Runs.{Each, each-cons, each-nil}
 use Rattle.semantics.specs.theorems.common.Bools.{and-left, and-right, or-right}
 use Rattle.semantics.specs.theorems.common.Streams.{each-at}
@@ -312,9 +313,11 @@ module _ {fs gs : List Facts} (ws : Each Wider fs gs) (hs : All Some fs) (ks : A
   op-wider (partialSort p l n f) h = no-bool (sym (h .1))
 
 -- ---- wanted orders stay met
-every-map : {A : Type 0} (p q : A → Bool) (l : List A) → ((x : A) → p x ≡ true → q x ≡ true) → every p l ≡ true → every q l ≡ true
-every-map p q [] h e = refl
-every-map p q (x ∷ l) h e = ap₂ _&&_ (h x (and-left (p x) (every p l) e)) (every-map p q l h (and-right (p x) (every p l) e))
+orders-wider : (l : List (List Key)) (F G : ℕ → Facts) → ((i : ℕ) → Wider (F i) (G i)) → ordersMet l F ≡ true → ordersMet l G ≡ true
+orders-wider [] F G w e = refl
+orders-wider (ks ∷ l) F G w e =
+    ap₂ _&&_ (wider-met (F 0) (G 0) ks (w 0) (and-left (met (F 0) ks) (ordersMet l (λ i. F (suc i))) e))
+    (orders-wider l (λ i. F (suc i)) (λ i. G (suc i)) (λ i. w (suc i)) (and-right (met (F 0) ks) (ordersMet l (λ i. F (suc i))) e))
 
 pub wants-wider : (o : Op) {fs gs : List Facts} → Each Wider fs gs → wantsMet o fs ≡ true → wantsMet o gs ≡ true
-wants-wider o {fs} {gs} ws e = every-map (metBy fs) (metBy gs) (eachWanted o) (λ a h. wider-met (getD fs (a .child) nothing) (getD gs (a .child) nothing) (a .keys) (nth-wider ws (a .child)) h) e
+wants-wider o {fs} {gs} ws e = orders-wider (wantedOrders o) (λ i. getD fs i nothing) (λ i. getD gs i nothing) (λ i. nth-wider ws i) e

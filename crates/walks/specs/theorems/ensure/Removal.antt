@@ -17,7 +17,7 @@ use Rattle.plan.specs.Numbers.{code}
 use Rattle.plan.specs.declared.Fetch.{Fetch}
 use Rattle.plan.specs.declared.Fetch.the-variants.{AtMost, Unlimited}
 use Rattle.semantics.specs.Facts.{Facts, facts, isNil, met}
-use Rattle.semantics.specs.Properties.{isLimit, maintains, singles, wanted, wantedOrders}
+use Rattle.semantics.specs.Properties.{isLimit, maintains, singles, wanted}
 use Rattle.semantics.specs.Check.{wantsMet}
 use Rattle.semantics.specs.Canonical.{Canon}
 use Rattle.semantics.specs.theorems.common.Bools.{and-left, and-right, or-cases}
@@ -180,7 +180,7 @@ other-code = shape-ind (λ o. isOther (shape o) ≡ true → (eqb (code o) 7 ≡
 
 -- a node that wants nothing, over any children
 free-good : (b : Bool) (o : Op) (x : Bool) (d : Forest Marked) → isNil (wanted o 0) ≡ true → Checked d → CheckedT (updateSortCtxChildrenData b (rebuild o x d))
-free-good b o x d e h = connected-good b (rebuild o x d) (wants-remark _ o (known d) ∙ no-orders-met (wantedOrders o) (known d) e, h)
+free-good b o x d e h = connected-good b (rebuild o x d) (wants-remark _ o (known d) ∙ no-orders-met o (known d) e, h)
 
 abbrev Removal : Bool → Forest Marked → Forest Marked → Op → Type 0
 Removal x c d o = FitsA (arity o) (count c) → CheckedT (node o x c) → MarkOK o c → count d ≡ count c → Checked d → CheckedT (removeBy (shape o) (record { op = o; mark = x }) c d)
