@@ -39,7 +39,6 @@ use Rattle.utils.specs.Sorting.{Sortable}
 use Rattle.sort_removal.specs.Standing.{Standing}
 use Rattle.sort_removal.specs.Sizes.{kids-size}
 use Rattle.sort_removal.specs.Removing.{removeOne, marked-grown}
-use Rattle.sort_removal.specs.Recursion.{Removes}
 
 -- ---- a marked sort over a tree, whose mark is put right
 

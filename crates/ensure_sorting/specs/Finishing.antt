@@ -35,11 +35,11 @@ use Rattle.plan_context.specs.View.{treeOf, forest, mostNodes, mostSlots, Arena
 use Rattle.plan_context.specs.Laws.{here, facts-at}
 use Rattle.plan_context.specs.Nodes.{counts-of}
 use Rattle.plan_context.specs.Facts.{Tells}
+use Rattle.plan_context.specs.Handles.{kid-is}
 use Rattle.plan_context.specs.Putting.{put-over}
 use Rattle.sort_removal.specs.Standing.{Standing, view, own-proper, merge-op, one-kid}
 use Rattle.sort_removal.specs.Connection.{Connected}
 use Rattle.sort_removal.specs.Sizes.{connected-size}
-use Rattle.sort_removal.specs.Removing.{first-is}
 
 pub record Finishes (b : List ℕ) (w h : ℕ) (r ks : List ℕ) : Type 0 where
   pub arena : Arena b w
@@ -188,7 +188,7 @@ module _ (b : List ℕ) (w h : ℕ) (r ks : List ℕ) (p : Finishes b w h r ks) 
             old = refl;
             more = omega arith;
             here = y;
-            tree = first-is b ks v merge-some ∙ sym (unmerged-none (x .fetch) v (ap someFetch (sym hf) ∙ z));
+            tree = kid-is b ks v merge-some ∙ sym (unmerged-none (x .fetch) v (ap someFetch (sym hf) ∙ z));
             room = omega arith;
           }
 

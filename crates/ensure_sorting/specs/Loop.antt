@@ -6,8 +6,8 @@ use Prim.Native.Nat.{ℕ, zero, suc, _+_, _*_, _≤_, _<_}
 use native.Mathlib.Omega.{arith}
 use native.Mathlib.Numerals.{add-one}
 use lib.Dec.{eqb, ltb}
-use lib.ListN.{length, getD, take, drop, set, drop-of-length-le}
-use lib.Seq.{drop-cons, length-take-le}
+use lib.ListN.{length, getD, take, drop, set}
+use lib.Seq.{drop-cons}
 use Rattle.row_order.specs.Iso.{Key}
 use Rattle.row_order.specs.Lists.{All}
 use Rattle.scan.specs.Below.{and-left, and-right}
@@ -17,15 +17,13 @@ use Rattle.plan.specs.Numbers.{code}
 use Rattle.plan.specs.WellFormed.{fetchOk, nodeOk}
 use Rattle.plan.specs.declared.Fetch.{Fetch}
 use Rattle.plan.specs.declared.Fetch.the-variants.{Unlimited}
-use Rattle.plan_format.specs.Record.{children}
 use Rattle.plan_codec.specs.Decode.{decode}
 use Rattle.semantics.specs.Facts.{Facts, isNil, met, nothing, knownOrder}
 use Rattle.semantics.specs.Properties.{freshKeys, wanted, maintains, singles, cuts}
 use Rattle.key_lists.specs.Keys.{orderOf, Ordered, Real}
 use Rattle.key_lists.specs.declared.Order.{Order}
-use Rattle.arena.specs.Arena.{slotSize, index, slot, Below}
+use Rattle.arena.specs.Arena.{slotSize, index, slot}
 use Rattle.arena.specs.declared.At.{At}
-use Rattle.arena.specs.Laws.{below-at}
 use Rattle.walks.specs.Marks.{Marked, Tree, strip, known, at, node, plant, cover, opT, fact, sizeT, shape, rebuild}
 use Rattle.walks.specs.Terms.{_⊕_}
 use Rattle.walks.specs.theorems.common.Base.{blank-widths}
@@ -37,15 +35,15 @@ use Rattle.walks.specs.OutputRequirements.{outputFetch}
 use Rattle.walks.specs.EnsureSorting.{updateSortCtxChildrenData, updateChildToRemoveUnnecessarySort, ensureChild, ensureEach, ensuredKids, afterLoop, finish}
 use Rattle.walks.specs.theorems.ensure.Kept.{ensureEach-kept}
 use Rattle.plan_context.specs.View.{treeOf, forest, mostNodes, mostSlots, Arena, Grown}
-use Rattle.plan_context.specs.Laws.{slot-same, tree-same, facts-at, length-facts, same-trans}
+use Rattle.plan_context.specs.Laws.{facts-at, length-facts, same-trans}
 use Rattle.plan_context.specs.Nodes.{Seen}
-use Rattle.plan_context.specs.Kids.{Kids, kids-none, kids-more, kids-forest, plus-none}
+use Rattle.plan_context.specs.Kids.{Kids, kids-none, kids-more, kids-forest}
+use Rattle.plan_context.specs.From.{from, from-first, from-next}
+use Rattle.plan_context.specs.ChildLoop.{drop-size, half, view, same-slot, same-tree, kid-below, kid-same, split, counted, new-below, new-kids}
 use Rattle.utils.specs.Sorting.{Sortable}
-use Rattle.sort_removal.specs.Standing.{Standing, view as shown, tree-is}
+use Rattle.sort_removal.specs.Standing.{Standing, tree-is}
 use Rattle.sort_removal.specs.Connection.{count-roots}
 use Rattle.sort_removal.specs.Sizes.{cond-le, connected-size}
-use Rattle.sort_removal.specs.Removing.{from, from-first, from-next}
-use Rattle.sort_removal.specs.Recursion.{drop-size}
 use Rattle.ensure_sorting.specs.Child.{Ensures, update-size}
 use Rattle.ensure_sorting.specs.Finishing.{Finishes}
 
@@ -141,11 +139,8 @@ module _ (b₀ : List ℕ) (u h : ℕ) (p : Loops b₀ u h) where
   pub standing : Standing b₀ u h
   standing = record { arena = p .arena; here = p .here }
 
-  view : Seen b₀ (index h)
-  view = shown b₀ u h standing
-
-  half : index h < u
-  half = let l = p .here in omega arith
+  abbrev shown : Seen b₀ (index h)
+  shown = view (p .arena) (p .here)
 
   kids-are : size (treeOf b₀ h .kids) ≡ size (forest b₀ (slot b₀ (index h) .kids))
   kids-are = ap (λ t. size (t .kids)) (tree-is b₀ u h standing)
@@ -155,45 +150,20 @@ module _ (b₀ : List ℕ) (u h : ℕ) (p : Loops b₀ u h) where
   going-none kids l = record { made = kids-none b₀ u kids (p .arena) l; is = refl; left = omega arith }
 
   module _ (j w : ℕ) (kids b : List ℕ) (q : Going b₀ u h j w kids b) where
-    pub same-slot : slot b (index h) ≡ slot b₀ (index h)
-    same-slot = slot-same u b₀ b (q .made .old) (index h) half
-
-    pub node-room : (index h + 1) * slotSize ≤ length b
-    node-room = let l = q .made .long in let s = p .arena .slots in let x = half in omega arith
-
-    pub few-kids : (children (slot b (index h) .rec) ≤ 8) × (children (slot b (index h) .rec) ≡ length (slot b₀ (index h) .kids))
-    few-kids = let x = view .few in let y = view .count in let z = ap (λ n. children (n .rec)) same-slot in (omega arith, omega arith)
-
     pub still : Standing b w h
     still = let x = q .made .more in let l = p .here in record { arena = q .made .arena; here = omega arith }
 
-    same-tree : treeOf b h ≡ treeOf b₀ h
-    same-tree = tree-same u b₀ b (q .made .old) h (p .here)
-
     module _ (l : j < length (slot b₀ (index h) .kids)) (k : ℕ) (e : k ≡ getD (slot b (index h) .kids) j 0) where
-      pub still-kid : j < length (slot b (index h) .kids)
-      still-kid = let x = ap (λ n. length (n .kids)) same-slot in omega arith
-
-      kid : k ≡ getD (slot b₀ (index h) .kids) j 0
-      kid = e ∙ ap (λ n. getD (n .kids) j 0) same-slot
-
-      kid-below : k < 2 * u
-      kid-below = let x = below-at (2 * index h) hs j (view .below) l in let y = kid in let z = p .here in omega arith
-
-      kid-same : treeOf b k ≡ treeOf b₀ (getD (slot b₀ (index h) .kids) j 0)
-      kid-same = tree-same u b₀ b (q .made .old) k kid-below ∙ ap (treeOf b₀) kid
-
-      split : forest b₀ (drop j (slot b₀ (index h) .kids)) ≡ plant (treeOf b k) (forest b₀ (drop (suc j) (slot b₀ (index h) .kids)))
-      unfolding forest
-      split = ap (forest b₀) (drop-cons hs j 0 l) ∙ ap (λ t. plant t (forest b₀ (drop (suc j) hs))) (sym kid-same)
+      abbrev next-split : forest b₀ (drop j (slot b₀ (index h) .kids)) ≡ plant (treeOf b k) (forest b₀ (drop (suc j) (slot b₀ (index h) .kids)))
+      next-split = split (p .arena) (p .here) (q .made) l e
 
       width-is : getD (known (forest b₀ (slot b₀ (index h) .kids))) j nothing ≡ fact (treeOf b k)
-      width-is = facts-at b₀ hs j l ∙ ap fact (sym kid-same)
+      width-is = facts-at b₀ hs j l ∙ ap fact (sym (kid-same (p .arena) (p .here) (q .made) l e))
 
       module _ (ord : Order) (ho : Ordered (wanted (decode (slot b₀ (index h) .rec)) j) ord) (keeps : Bool) (hb : keeps ≡ maintains (opT (treeOf b h)) (known (treeOf b h .kids)) j)
           (one : Bool) (hs₁ : one ≡ singles (decode (slot b₀ (index h) .rec)) j) (f : Fetch) (hf : f ≡ outputFetch (decode (slot b₀ (index h) .rec))) where
         keeps-is : keeps ≡ maintains (decode (slot b₀ (index h) .rec)) (known (forest b₀ (slot b₀ (index h) .kids))) j
-        keeps-is = hb ∙ ap (λ t. maintains (opT t) (known (t .kids)) j) (same-tree ∙ tree-is b₀ u h standing)
+        keeps-is = hb ∙ ap (λ t. maintains (opT t) (known (t .kids)) j) (same-tree (p .arena) (p .here) (q .made) ∙ tree-is b₀ u h standing)
 
         child-is : ensureChild (orderOf ord) keeps one f (treeOf b k) ≡ ensureChild (from (wanted (decode (slot b₀ (index h) .rec))) j 0) (from (maintains (decode (slot b₀ (index h) .rec)) (known (forest b₀ (slot b₀ (index h) .kids)))) j 0) (from (singles (decode (slot b₀ (index h) .rec))) j 0) (outputFetch (decode (slot b₀ (index h) .rec))) (treeOf b k)
         child-is =
@@ -204,23 +174,23 @@ module _ (b₀ : List ℕ) (u h : ℕ) (p : Loops b₀ u h) where
 
         step : rest j ≡ plant (ensureChild (orderOf ord) keeps one f (treeOf b k)) (rest (suc j))
         step =
-            ap (ensureEach (from W j) (from B j) (from S j) F) split
+            ap (ensureEach (from W j) (from B j) (from S j) F) next-split
             ∙ (λ i. plant (sym child-is i) (ensureEach (from-next W j i) (from-next B j i) (from-next S j i) F (forest b₀ (drop (suc j) hs))))
 
         pub child-asks : Ensures b w k × Real ord × Sortable (treeOf b k) (orderOf ord) f
         child-asks =
-            let x = kid-below in let y = q .made .more in let s = ap size split in let v = q .left in let t = view .few in let m = q .made .long in let z = p .room in let c = p .small in let g = p .few in
+            let x = kid-below (p .arena) (p .here) (q .made) l e in let y = q .made .more in let s = ap size next-split in let v = q .left in let t = shown .few in let m = q .made .long in let z = p .room in let c = p .small in let g = p .few in
             let dl = ap length (drop-cons hs j 0 l) in let d = drop-size b₀ hs j in let n = kids-are in
             let nl = length-facts b₀ hs in
-            let fit = keys-of (getD fs j nothing .width) (W j) (wants-at W fs (wanted-fits o fs (view .ok .0)) j (omega arith)) in (
+            let fit = keys-of (getD fs j nothing .width) (W j) (wants-at W fs (wanted-fits o fs (shown .ok .0)) j (omega arith)) in (
               record { arena = q .made .arena; here = omega arith; room = omega arith; small = omega arith; few = omega arith },
               ho .real,
-              subst (λ ks. Sortable (treeOf b k) ks f) (sym (ho .is)) (subst (λ G. Sortable (treeOf b k) (W j) G) (sym hf) (record { short = fit .short; inside = subst (λ G. All (λ y. y .col < G .width) (W j)) width-is (fit .inside); fetch = output-ok o (map (λ G. G .width) fs) (view .ok .0) })),
+              subst (λ ks. Sortable (treeOf b k) ks f) (sym (ho .is)) (subst (λ G. Sortable (treeOf b k) (W j) G) (sym hf) (record { short = fit .short; inside = subst (λ G. All (λ y. y .col < G .width) (W j)) width-is (fit .inside); fetch = output-ok o (map (λ G. G .width) fs) (shown .ok .0) })),
             )
 
         pub going-more : (b' : List ℕ) → length b' ≡ length b → (a : At) → Grown b w b' a (ensureChild (orderOf ord) keeps one f (treeOf b k)) (w + 2 * sizeT (treeOf b k) + 1) → Going b₀ u h (j + 1) (a .used) (set kids j (a .root)) b'
         going-more b' lb a g =
-            let t = view .few in let s = ap size split in let v = q .left in let top = g .room in let dl = ap length (drop-cons hs j 0 l) in
+            let t = shown .few in let s = ap size next-split in let v = q .left in let top = g .room in let dl = ap length (drop-cons hs j 0 l) in
             record {
               made = kids-more b₀ u j w kids b (q .made) (omega arith) b' lb a (ensureChild (orderOf ord) keeps one f (treeOf b k)) (w + 2 * sizeT (treeOf b k) + 1) g;
               is = kids-forest b₀ u j w kids b (q .made) (omega arith) b' lb a (ensureChild (orderOf ord) keeps one f (treeOf b k)) (w + 2 * sizeT (treeOf b k) + 1) g (rest (j + 1))
@@ -230,31 +200,28 @@ module _ (b₀ : List ℕ) (u h : ℕ) (p : Loops b₀ u h) where
 
     -- all children are done
     module _ (n : ℕ) (e : n ≡ j) (c : n ≡ length (slot b₀ (index h) .kids)) (r : List ℕ) (hr : r ≡ slot b₀ (index h) .rec) where
-      counted : length (take n kids) ≡ length (slot b₀ (index h) .kids)
-      counted = let y = view .few in let z = q .made .wide in length-take-le n kids (omega arith) ∙ c
+      same : slot b (index h) ≡ slot b₀ (index h)
+      same = same-slot (p .arena) (p .here) (q .made)
 
       news : forest b (take n kids) ≡ ensuredKids (decode (slot b₀ (index h) .rec)) (forest b₀ (slot b₀ (index h) .kids))
-      unfolding forest
-      news =
-          let d : drop j hs ≡ [] = drop-of-length-le hs {i = j} (omega arith) in
-          ap (λ i. forest b (take i kids)) e ∙ sym (plus-none (forest b (take j kids))) ∙ ap (λ l. forest b (take j kids) ⊕ ensureEach (from W j) (from B j) (from S j) F (forest b₀ l)) (sym d) ∙ q .is
+      news = new-kids (p .arena) (p .here) (q .made) e c (ensureEach (from W j) (from B j) (from S j) F) (ensuredKids o c₀) refl (q .is)
 
       finish-is : finish (shape (decode (slot b₀ (index h) .rec))) (rebuild (decode (slot b₀ (index h) .rec)) false (forest b (take n kids))) ≡ finish (shape (opT (treeOf b₀ h))) (afterLoop (treeOf b₀ h))
       finish-is = ap (λ x. finish (shape o) (rebuild o false x)) news ∙ sym (ap (λ t. finish (shape (opT t)) (afterLoop t)) (tree-is b₀ u h standing))
 
       pub going-ends : Finishes b w h r (take n kids)
       going-ends =
-          let v = q .left in let t = view .few in let l = q .made .long in let x = p .room in let s = p .small in let f = p .few in let m = q .made .more in let y = half in
+          let v = q .left in let t = shown .few in let l = q .made .long in let x = p .room in let s = p .small in let f = p .few in let m = q .made .more in let y = half (p .arena) (p .here) in
           let i = kids-are in let g = ap size news in let z = each-size W B S F c₀ in let a = count-roots b₀ hs in
           record {
             arena = q .made .arena;
             here = still .here;
-            same = hr ∙ sym (ap (λ k. k .rec) same-slot);
+            same = hr ∙ sym (ap (λ k. k .rec) same);
             room = omega arith;
             small = omega arith;
-            below = subst (λ i. Below (2 * w) (take i kids)) (sym e) (q .made .below);
-            count = counted ∙ ap (λ x. length (x .kids)) (sym same-slot);
-            opened = subst (λ k. OkT (node (decode k) false (forest b (take n kids)))) (sym hr) (subst (λ k. OkT (node o false k)) (sym news) (after-ok o c₀ (view .ok)));
+            below = new-below (p .arena) (p .here) (q .made) e c;
+            count = counted (p .arena) (p .here) (q .made) e c ∙ ap (λ x. length (x .kids)) (sym same);
+            opened = subst (λ k. OkT (node (decode k) false (forest b (take n kids)))) (sym hr) (subst (λ k. OkT (node o false k)) (sym news) (after-ok o c₀ (shown .ok)));
             few = omega arith;
             ok = subst (λ k. OkT (finish (shape (decode k)) (rebuild (decode k) false (forest b (take n kids))))) (sym hr) (subst OkT (sym finish-is) (p .ok));
           }
@@ -262,7 +229,7 @@ module _ (b₀ : List ℕ) (u h : ℕ) (p : Loops b₀ u h) where
       pub end-grown : (b' : List ℕ) (a : At) → Grown b w b' a (finish (shape (decode r)) (rebuild (decode r) false (forest b (take n kids)))) (w + 1)
           → Grown b₀ u b' a (finish (shape (opT (treeOf b₀ h))) (afterLoop (treeOf b₀ h))) (u + 2 * size (treeOf b₀ h .kids) + 9)
       end-grown b' a g =
-          let v = q .left in let t = view .few in let x = g .room in let y = g .more in let z = q .made .more in let i = kids-are in
+          let v = q .left in let t = shown .few in let x = g .room in let y = g .more in let z = q .made .more in let i = kids-are in
           record {
             arena = g .arena;
             old = same-trans u w b₀ b b' z (q .made .old) (g .old);

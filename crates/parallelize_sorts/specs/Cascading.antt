@@ -35,12 +35,12 @@ use Rattle.plan_context.specs.View.{treeOf, forest, mostSlots, Arena, Grown, He
 use Rattle.plan_context.specs.Covering.{Under, cover-puts, cover-grown, ok-of}
 use Rattle.plan_context.specs.Laws.{here}
 use Rattle.plan_context.specs.Nodes.{rule}
+use Rattle.plan_context.specs.ProperRecords.{record-proper}
 use Rattle.plan_context.specs.Opened.{Opened, stepRoom}
 use Rattle.plan_context.specs.Opening.{opened-over, grown-more, grown-then}
 use Rattle.utils.specs.Sorting.{Sortable}
 use Rattle.parallelize_sorts.specs.declared.SortExprs.{SortExprs}
 use Rattle.parallelize_sorts.specs.Connecting.{some-first}
-use Rattle.parallelize_sorts.specs.Shown.{record-proper}
 use Rattle.parallelize_sorts.specs.Removing.{Opens, without-self-size}
 use Rattle.parallelize_sorts.specs.Exprs.{Exprs, cascades, Cascaded, cascaded, merge-keys, Coalesced, stays-else}
 

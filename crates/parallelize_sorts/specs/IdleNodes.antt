@@ -29,15 +29,16 @@ use Rattle.walks.specs.Marks.{Marked, Tree, strip, known, node, opT, fact, setM
 use Rattle.walks.specs.theorems.common.Trees.{OkT, ok-fit, arity, children-fit, FitsA}
 use Rattle.walks.specs.theorems.common.Keeps.{kept-node, like-refl, KeepsAll, all-kept-refl, shape-ind}
 use Rattle.walks.specs.theorems.parallelize.Kept.{first-removed-kept}
-use Rattle.walks.specs.ParallelizeSorts.{bottleneck, firstIs, idle, liftFirst, firstBottleneckRemoved, samePartitioning, withoutIdle, skipSame}
+use Rattle.walks.specs.ParallelizeSorts.{bottleneck, firstIs, idle, liftFirst, samePartitioning, withoutIdle, skipSame}
 use Rattle.plan_context.specs.View.{treeOf, forest, mostNodes, mostSlots, Arena, Grown, Here, Over, Puts}
 use Rattle.plan_context.specs.Facts.{Tells}
-use Rattle.plan_context.specs.Handles.{Marks}
+use Rattle.plan_context.specs.Handles.{Marks, kid-is}
 use Rattle.plan_context.specs.Laws.{facts-at, fewer}
 use Rattle.plan_context.specs.Nodes.{seen, rule}
+use Rattle.plan_context.specs.ProperRecords.{record-proper}
 use Rattle.plan_context.specs.Opening.{grown-none}
 use Rattle.plan_context.specs.Putting.{put-over}
-use Rattle.parallelize_sorts.specs.Shown.{view, node-proper, record-proper, tree-of, kid-asks, kid-low, kid-older}
+use Rattle.parallelize_sorts.specs.Shown.{view, node-proper, tree-of, kid-asks, kid-low, kid-older}
 use Rattle.parallelize_sorts.specs.Skipping.{Skips}
 use Rattle.parallelize_sorts.specs.Sizes.{lift-size}
 
@@ -52,11 +53,6 @@ first-none : (p : Op → Bool) (m hs : List ℕ) → length hs ≡ 0 → firstIs
 unfolding forest
 first-none p m [] l = refl
 first-none p m (h ∷ hs) l = absurd (omega arith)
-
-first-kid : (m ks : List ℕ) (d : Tree) → 0 < length ks → treeOf m (getD ks 0 0) ≡ kid0 d (forest m ks)
-unfolding forest
-first-kid m [] d l = absurd (omega arith)
-first-kid m (k ∷ ks) d l = refl
 
 -- ---- a node whose first child can be taken out
 
@@ -160,7 +156,7 @@ module _ (m : List ℕ) (u : ℕ) (r ks : List ℕ) (p : Puts m u r ks) (b : Boo
   idle-grown t k q =
       let l = below-at (2 * u) ks 0 (p .below) (idle-some t) in
       subst (λ x. Grown m u m (record { used = u; root = k }) x (u + 1))
-      (ap (treeOf m) q ∙ first-kid m ks (rebuild (decode r) true (forest m ks)) (idle-some t) ∙ ap (λ x. cond x (kid0 (rebuild (decode r) true (forest m ks)) (forest m ks)) (rebuild (decode r) true (forest m ks))) (sym t ∙ e))
+      (ap (treeOf m) q ∙ kid-is m ks (rebuild (decode r) true (forest m ks)) (idle-some t) ∙ ap (λ x. cond x (kid0 (rebuild (decode r) true (forest m ks)) (forest m ks)) (rebuild (decode r) true (forest m ks))) (sym t ∙ e))
       (grown-none m u k (u + 1) (p .arena) (omega arith) (omega arith))
 
   pub back-grown : b ≡ false → (m' : List ℕ) (a : At) → Grown m u m' a (rebuild (decode r) false (forest m ks)) (u + 1) → (k : ℕ) → Marks (a .root) true k → Grown m u m' (record { used = a .used; root = k }) (withoutIdle (record { op = decode r; mark = true }) (forest m ks)) (u + 1)

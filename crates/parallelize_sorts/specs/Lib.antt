@@ -1,4 +1,3 @@
-pub mod From
 pub mod Connecting
 pub mod Shown
 pub mod Skipping

@@ -1,21 +1,18 @@
 -- The recursion of remove_bottleneck_in_subplan: each connected child is opened, then its parent is put back.
 use mathlib.Core.Path.{_≡_, refl, sym, ap, ap₂, _∙_, subst}
 use mathlib.Core.Bool.{Bool, true, false, cond, not, _&&_}
-use mathlib.Core.List.{List, [], _∷_}
-use Prim.Native.Nat.{ℕ, zero, suc, _+_, _*_, _≤_, _<_}
+use mathlib.Core.List.{List}
+use Prim.Native.Nat.{ℕ, suc, _+_, _*_, _≤_, _<_}
 use native.Mathlib.Omega.{arith}
 use native.Mathlib.Numerals.{add-one}
-use lib.ListN.{length, getD, take, drop, set, drop-of-length-le}
-use lib.Seq.{drop-cons, length-take-le}
+use lib.ListN.{length, getD, take, drop, set}
 use Rattle.scan.specs.Below.{and-left, and-right}
 use Rattle.plan.specs.Forest.{Forest, none, tree, size}
 use Rattle.plan.specs.Op.{Op}
-use Rattle.plan_format.specs.Record.{children}
 use Rattle.plan_codec.specs.Decode.{decode}
 use Rattle.plan_codec.specs.Encode.{encode}
 use Rattle.semantics.specs.Properties.{singles}
-use Rattle.arena.specs.Arena.{slotSize, index, marked, slot, Below}
-use Rattle.arena.specs.Laws.{below-at}
+use Rattle.arena.specs.Arena.{slotSize, index, marked, slot}
 use Rattle.arena.specs.declared.At.{At}
 use Rattle.walks.specs.Marks.{Marked, Tree, strip, node, plant, over, opT, sizeT, kid0}
 use Rattle.walks.specs.Terms.{_⊕_}
@@ -24,12 +21,13 @@ use Rattle.walks.specs.theorems.common.Keeps.{kept-node, like-refl, KeepsAll}
 use Rattle.walks.specs.theorems.parallelize.Kept.{removeBottleneckInSubplanImpl-kept}
 use Rattle.walks.specs.ParallelizeSorts.{bottleneck, firstIs, withoutSelf, liftFirst, removeBottleneckInSubplanImpl, firstBottleneckRemoved, removeBottleneckInSubplan, withoutIdle, skipSame}
 use Rattle.plan_context.specs.View.{treeOf, forest, mostSlots, Arena, Grown, Puts}
-use Rattle.plan_context.specs.Kids.{Kids, kids-none, kids-more, kids-forest, plus-none}
-use Rattle.plan_context.specs.Laws.{slot-same, tree-same, same-trans}
+use Rattle.plan_context.specs.Kids.{Kids, kids-none, kids-more, kids-forest}
+use Rattle.plan_context.specs.From.{from, from-first, from-next}
+use Rattle.plan_context.specs.ChildLoop.{drop-size, half, up-to, view, whole, kid-below, split, counted, new-below, new-kids}
+use Rattle.plan_context.specs.Laws.{same-trans}
 use Rattle.plan_context.specs.Nodes.{Seen}
 use Rattle.plan_context.specs.Opening.{grown-none, grown-more}
-use Rattle.parallelize_sorts.specs.From.{from, from-first, from-next}
-use Rattle.parallelize_sorts.specs.Shown.{view, tree-of, up-to}
+use Rattle.parallelize_sorts.specs.Shown.{tree-of}
 use Rattle.parallelize_sorts.specs.Skipping.{Skips}
 use Rattle.parallelize_sorts.specs.Sizes.{skip-size, one-size, each-size}
 use Rattle.parallelize_sorts.specs.IdleNodes.{Lifts}
@@ -50,12 +48,6 @@ pub record Going (b₀ : List ℕ) (u h j w : ℕ) (kids b : List ℕ) : Type 0 
   pub is : forest b (take j kids) ⊕ removeBottleneckInSubplanImpl (from (λ i. not (singles (decode (slot b₀ (index h) .rec)) i)) j) (forest b₀ (drop j (slot b₀ (index h) .kids))) ≡ removeBottleneckInSubplanImpl (λ i. not (singles (decode (slot b₀ (index h) .rec)) i)) (forest b₀ (slot b₀ (index h) .kids))
   pub left : w + size (forest b₀ (drop j (slot b₀ (index h) .kids))) ≤ u + size (forest b₀ (slot b₀ (index h) .kids))
 
-drop-size : (m ks : List ℕ) (i : ℕ) → size (forest m (drop i ks)) ≤ size (forest m ks)
-unfolding forest
-drop-size m ks zero = omega arith
-drop-size m [] (suc i) = omega arith
-drop-size m (x ∷ ks) (suc i) = let y = drop-size m ks i in omega arith
-
 module _ (b₀ : List ℕ) (u h : ℕ) (p : Opens b₀ u h) where
   abbrev hs : List ℕ
   hs = slot b₀ (index h) .kids
@@ -71,16 +63,13 @@ module _ (b₀ : List ℕ) (u h : ℕ) (p : Opens b₀ u h) where
   free i = not (singles (decode (slot b₀ (index h) .rec)) i)
 
   pub own : Arena b₀ (index h + 1)
-  own = up-to b₀ u h (p .arena) (p .here)
-
-  half : index h < u
-  half = let l = p .here in omega arith
+  own = up-to (p .arena) (p .here)
 
   pub shown : Seen b₀ (index h)
-  shown = view b₀ (index h) own
+  shown = view (p .arena) (p .here)
 
-  whole : sizeT (treeOf b₀ h) ≡ suc (size (forest b₀ (slot b₀ (index h) .kids)))
-  whole = ap sizeT (shown .tree)
+  abbrev sized : sizeT (treeOf b₀ h) ≡ suc (size (forest b₀ (slot b₀ (index h) .kids)))
+  sized = whole (p .arena) (p .here)
 
   pub own-asks : ((index h + 1) * slotSize ≤ length b₀) × (length (slot b₀ (index h) .rec) ≡ 64)
   own-asks = let l = p .here in let s = p .arena .slots in (omega arith, shown .long)
@@ -106,12 +95,12 @@ module _ (b₀ : List ℕ) (u h : ℕ) (p : Opens b₀ u h) where
       module _ (t : b ≡ true) (r : List ℕ) (hr : r ≡ slot b₀ (index h) .rec) where
         pub first-lifts : Lifts b₀ u (index h) r
         first-lifts =
-            let x = p .room in let y = p .small in let z = whole in
-            record { arena = p .arena; low = half; rec = hr; room = omega arith; small = omega arith; first = and-left (firstIs bottleneck c₀) (free 0) (sym f ∙ t) }
+            let x = p .room in let y = p .small in let z = sized in
+            record { arena = p .arena; low = half (p .arena) (p .here); rec = hr; room = omega arith; small = omega arith; first = and-left (firstIs bottleneck c₀) (free 0) (sym f ∙ t) }
 
         pub first-grown : (b' : List ℕ) (a : At) → Grown b₀ u b' a (withoutIdle (record { op = decode r; mark = true }) (liftFirst (decode r) (forest b₀ (slot b₀ (index h) .kids)))) (u + 1) → Grown b₀ u b' a (openOne q (treeOf b₀ h)) (u + sizeT (treeOf b₀ h))
         first-grown b' a g =
-            let z = whole in
+            let z = sized in
             grown-more b₀ u b' a (openOne q (treeOf b₀ h)) (u + 1) (u + sizeT (treeOf b₀ h)) (omega arith)
             (subst (λ x. Grown b₀ u b' a x (u + 1))
             (ap (λ x. withoutIdle (record { op = decode x; mark = true }) (liftFirst (decode x) c₀)) hr ∙ ap (λ x. withoutIdle (record { op = o; mark = true }) (cond x (liftFirst o c₀) (removeBottleneckInSubplanImpl free c₀))) (sym t ∙ f) ∙ sym now) g)
@@ -124,33 +113,13 @@ module _ (b₀ : List ℕ) (u h : ℕ) (p : Opens b₀ u h) where
   going-none kids l = record { made = kids-none b₀ u kids (p .arena) l; is = refl; left = omega arith }
 
   module _ (j w : ℕ) (kids b : List ℕ) (q : Going b₀ u h j w kids b) where
-    -- the node is still there
-    same-slot : slot b (index h) ≡ slot b₀ (index h)
-    same-slot = slot-same u b₀ b (q .made .old) (index h) half
-
-    pub node-room : (index h + 1) * slotSize ≤ length b
-    node-room = let l = q .made .long in let x = own-asks .0 in omega arith
-
-    pub few-kids : (children (slot b (index h) .rec) ≤ 8) × (children (slot b (index h) .rec) ≡ length (slot b₀ (index h) .kids))
-    few-kids = let x = shown .few in let y = shown .count in let z = ap (λ n. children (n .rec)) same-slot in (omega arith, omega arith)
-
     module _ (l : j < length (slot b₀ (index h) .kids)) (k : ℕ) (e : k ≡ getD (slot b (index h) .kids) j 0) where
-      kid : k ≡ getD (slot b₀ (index h) .kids) j 0
-      kid = e ∙ ap (λ n. getD (n .kids) j 0) same-slot
-
-      kid-below : k < 2 * u
-      kid-below = let x = below-at (2 * index h) hs j (shown .below) l in let y = kid in let z = p .here in omega arith
-
-      kid-same : treeOf b k ≡ treeOf b₀ (getD (slot b₀ (index h) .kids) j 0)
-      kid-same = tree-same u b₀ b (q .made .old) k kid-below ∙ ap (treeOf b₀) kid
-
-      split : forest b₀ (drop j (slot b₀ (index h) .kids)) ≡ plant (treeOf b k) (forest b₀ (drop (suc j) (slot b₀ (index h) .kids)))
-      unfolding forest
-      split = ap (forest b₀) (drop-cons hs j 0 l) ∙ ap (λ t. plant t (forest b₀ (drop (suc j) hs))) (sym kid-same)
+      abbrev next-split : forest b₀ (drop j (slot b₀ (index h) .kids)) ≡ plant (treeOf b k) (forest b₀ (drop (suc j) (slot b₀ (index h) .kids)))
+      next-split = split (p .arena) (p .here) (q .made) l e
 
       pub going-next : (sizeT (treeOf b k) < sizeT (treeOf b₀ h)) × Opens b w k
       going-next =
-          let s = ap size split in let t = whole in let v = q .left in let y = q .made .long in let r = p .room in let m = p .small in let x = q .made .more in let z = kid-below in
+          let s = ap size next-split in let t = sized in let v = q .left in let y = q .made .long in let r = p .room in let m = p .small in let x = q .made .more in let z = kid-below (p .arena) (p .here) (q .made) l e in
           let d = drop-size b₀ hs j in
           (omega arith, record { arena = q .made .arena; here = omega arith; room = omega arith; small = omega arith })
 
@@ -163,24 +132,18 @@ module _ (b₀ : List ℕ) (u h : ℕ) (p : Opens b₀ u h) where
 
         pub going-more : (b' : List ℕ) → length b' ≡ length b → (a : At) → Grown b w b' a (openOne (not one) (treeOf b k)) (w + sizeT (treeOf b k)) → Going b₀ u h (j + 1) (a .used) (set kids j (a .root)) b'
         going-more b' lb a g =
-            let y = shown .few in let s = ap size split in let v = q .left in let top = g .room in
+            let y = shown .few in let s = ap size next-split in let v = q .left in let top = g .room in
             record {
               made = kids-more b₀ u j w kids b (q .made) (omega arith) b' lb a (openOne (not one) (treeOf b k)) (w + sizeT (treeOf b k)) g;
               is = kids-forest b₀ u j w kids b (q .made) (omega arith) b' lb a (openOne (not one) (treeOf b k)) (w + sizeT (treeOf b k)) g (removeBottleneckInSubplanImpl (from free (j + 1)) (forest b₀ (drop (j + 1) hs)))
-                  ∙ rw (add-one j) (ap (λ x. forest b (take j kids) ⊕ x) (sym (ap (removeBottleneckInSubplanImpl (from free j)) split ∙ step))) ∙ q .is;
+                  ∙ rw (add-one j) (ap (λ x. forest b (take j kids) ⊕ x) (sym (ap (removeBottleneckInSubplanImpl (from free j)) next-split ∙ step))) ∙ q .is;
               left = rw (add-one j) (omega arith);
             }
 
     -- all children are opened
     module _ (n : ℕ) (e : n ≡ j) (c : n ≡ length (slot b₀ (index h) .kids)) where
-      counted : length (take n kids) ≡ length (slot b₀ (index h) .kids)
-      counted = let y = shown .few in let z = q .made .wide in length-take-le n kids (omega arith) ∙ c
-
       news : forest b (take n kids) ≡ removeBottleneckInSubplanImpl free (forest b₀ (slot b₀ (index h) .kids))
-      unfolding forest
-      news =
-          let d : drop j hs ≡ [] = drop-of-length-le hs {i = j} (omega arith) in
-          ap (λ i. forest b (take i kids)) e ∙ sym (plus-none (forest b (take j kids))) ∙ ap (λ l. forest b (take j kids) ⊕ removeBottleneckInSubplanImpl (from free j) (forest b₀ l)) (sym d) ∙ q .is
+      news = new-kids (p .arena) (p .here) (q .made) e c (removeBottleneckInSubplanImpl (from free j)) (removeBottleneckInSubplanImpl free c₀) refl (q .is)
 
       new-ok : OkT (node (decode (slot b₀ (index h) .rec)) false (removeBottleneckInSubplanImpl free (forest b₀ (slot b₀ (index h) .kids))))
       new-ok =
@@ -192,13 +155,13 @@ module _ (b₀ : List ℕ) (u h : ℕ) (p : Opens b₀ u h) where
       module _ (r : List ℕ) (hr : r ≡ slot b₀ (index h) .rec) where
         pub end-puts : Puts b w r (take n kids) × (index h < w)
         end-puts =
-            let v = q .left in let t = whole in let l = q .made .long in let x = p .room in let y = p .small in let z = each-size free c₀ in let s = shown .small in let f = ap size news in let d = q .made .more in let i = half in (
+            let v = q .left in let t = sized in let l = q .made .long in let x = p .room in let y = p .small in let z = each-size free c₀ in let s = shown .small in let f = ap size news in let d = q .made .more in let i = half (p .arena) (p .here) in (
               record {
                 arena = q .made .arena;
                 room = omega arith;
                 small = omega arith;
-                below = subst (λ i. Below (2 * w) (take i kids)) (sym e) (q .made .below);
-                canon = hr ∙ shown .canon ∙ ap₂ (λ i x. encode i (decode x)) (sym counted) (sym hr);
+                below = new-below (p .arena) (p .here) (q .made) e c;
+                canon = hr ∙ shown .canon ∙ ap₂ (λ i x. encode i (decode x)) (sym (counted (p .arena) (p .here) (q .made) e c)) (sym hr);
                 ok = subst (λ f. OkT (node (decode r) false f)) (sym news) (subst (λ x. OkT (node (decode x) false (removeBottleneckInSubplanImpl free c₀))) (sym hr) new-ok);
                 few = omega arith;
               },
@@ -208,7 +171,7 @@ module _ (b₀ : List ℕ) (u h : ℕ) (p : Opens b₀ u h) where
         pub end-grown : (z : Bool) → openOne z (treeOf b₀ h) ≡ withoutIdle (record { op = decode (slot b₀ (index h) .rec); mark = true }) (removeBottleneckInSubplanImpl (λ i. not (singles (decode (slot b₀ (index h) .rec)) i)) (forest b₀ (slot b₀ (index h) .kids)))
             → (b' : List ℕ) (a : At) → Grown b w b' a (withoutIdle (record { op = decode r; mark = true }) (forest b (take n kids))) (w + 1) → Grown b₀ u b' a (openOne z (treeOf b₀ h)) (u + sizeT (treeOf b₀ h))
         end-grown z f b' a g =
-            let v = q .left in let t = whole in let x = q .made .more in let y = g .room in let m = g .more in
+            let v = q .left in let t = sized in let x = q .made .more in let y = g .room in let m = g .more in
             record {
               arena = g .arena;
               old = same-trans u w b₀ b b' x (q .made .old) (g .old);
@@ -239,14 +202,14 @@ module _ (m : List ℕ) (u h : ℕ) (p : Opens m u h) (r : List ℕ) where
   t = treeOf m h
 
   op-is : decode (slot m (index h) .rec) ≡ opT (treeOf m h)
-  op-is = ap opT (sym (tree-of m h (up-to m u h (p .arena) (p .here))))
+  op-is = ap opT (sym (tree-of m h (up-to (p .arena) (p .here))))
 
   module _ (b : Bool) (e : b ≡ bottleneck (decode (slot m (index h) .rec))) where
     by-first : (x : Bool) → b ≡ x → cond x (skipSame (decode r) (treeOf m h) (treeOf m h .kids)) (openOne true (treeOf m h)) ≡ withoutSelf (over (decode r) false (treeOf m h))
     by-first x f = ap (λ y. cond y (skipSame (decode r) t (t .kids)) (openOne true t)) (sym f ∙ e ∙ ap bottleneck op-is) ∙ sym (without-self-by (decode r) false t)
 
     pub root-skips : b ≡ true → Skips m h
-    root-skips x = record { arena = up-to m u h (p .arena) (p .here); coalesce = ap bottleneck (sym op-is) ∙ sym e ∙ x }
+    root-skips x = record { arena = up-to (p .arena) (p .here); coalesce = ap bottleneck (sym op-is) ∙ sym e ∙ x }
 
     pub root-lifted : b ≡ true → (k : ℕ) → (k < h) × (treeOf m k ≡ skipSame (decode r) (treeOf m h) (treeOf m h .kids)) → Grown m u m (record { used = u; root = k }) (withoutSelf (over (decode r) false (treeOf m h))) (u + sizeT (treeOf m h))
     root-lifted x k q = let l = q .0 in let y = p .here in subst (λ y. Grown m u m (record { used = u; root = k }) y (u + sizeT (treeOf m h))) (q .1 ∙ by-first true x) (grown-none m u k (u + sizeT (treeOf m h)) (p .arena) (omega arith) (omega arith))

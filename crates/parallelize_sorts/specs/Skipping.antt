@@ -5,19 +5,19 @@ use mathlib.Core.List.{List, [], _∷_}
 use Prim.Native.Nat.{ℕ, _+_, _*_, _≤_, _<_}
 use native.Mathlib.Omega.{arith}
 use lib.ListN.{length, getD}
-use Rattle.plan.specs.Forest.{tree}
 use Rattle.plan.specs.Op.{Op}
 use Rattle.plan_format.specs.Record.{children}
 use Rattle.plan_codec.specs.Decode.{decode}
 use Rattle.arena.specs.Arena.{slotSize, index, slot}
-use Rattle.walks.specs.Marks.{Tree, node, opT}
+use Rattle.walks.specs.Marks.{Tree, opT}
 use Rattle.walks.specs.Terms.{passing}
 use Rattle.walks.specs.theorems.common.Trees.{children-fit, FitsA}
 use Rattle.walks.specs.theorems.common.Keeps.{pass-one}
 use Rattle.walks.specs.theorems.parallelize.Kept.{bottleneck-pass, part-pass}
 use Rattle.walks.specs.ParallelizeSorts.{bottleneck, samePartitioning, skipSame}
 use Rattle.plan_context.specs.View.{treeOf, forest, Arena}
-use Rattle.parallelize_sorts.specs.Shown.{counted, kid-asks, kid-low, tree-of, up-to}
+use Rattle.plan_context.specs.ChildLoop.{up-to}
+use Rattle.parallelize_sorts.specs.Shown.{counted, kid-asks, kid-low, tree-of}
 
 -- The tree at h is a coalesce without a fetch
 pub record Skips (m : List ℕ) (h : ℕ) : Type 0 where
@@ -64,7 +64,7 @@ module _ (m : List ℕ) (h : ℕ) (p : Skips m h) (o : Op) where
 
   module _ (k : ℕ) (q : Skipping m o h k) where
     pub older : Arena m (index k + 1)
-    older = let l = q .low in up-to m (index h + 1) k (p .arena) (omega arith)
+    older = let l = q .low in up-to {h = k} (p .arena) (omega arith)
 
     op-is : opT (treeOf m k) ≡ decode (slot m (index k) .rec)
     op-is = ap opT (tree-of m k older)

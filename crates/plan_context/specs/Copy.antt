@@ -1,13 +1,13 @@
 -- A tree is copied from one arena into another with its facts: what is not reached stays behind.
 use mathlib.Core.Path.{_≡_, refl, sym, ap, ap₂, _∙_, subst}
 use mathlib.Core.Bool.{false}
-use mathlib.Core.List.{List, []}
+use mathlib.Core.List.{List}
 use Prim.Native.Nat.{ℕ, suc, _+_, _*_, _/_, _%_, _≤_, _<_}
 use native.Mathlib.Omega.{arith}
 use native.Mathlib.Numerals.{add-one}
 use lib.Dec.{eqb}
-use lib.ListN.{length, getD, take, drop, set, drop-of-length-le}
-use lib.Seq.{drop-cons, length-take-le}
+use lib.ListN.{length, getD, take, drop, set}
+use lib.Seq.{length-take-le}
 use Rattle.plan.specs.Forest.{tree, size}
 use Rattle.plan_format.specs.Record.{children}
 use Rattle.plan_codec.specs.Decode.{decode}
@@ -23,8 +23,9 @@ use Rattle.arena.specs.declared.At.{At}
 use Rattle.arena.specs.Laws.{below-at}
 use Rattle.plan_context.specs.View.{treeIn, treeOf, forest, summaryIn, mostNodes, mostSlots, Sums, Holds, Arena, Grown, Puts}
 use Rattle.plan_context.specs.Laws.{same-trans}
-use Rattle.plan_context.specs.Nodes.{Seen, seen}
-use Rattle.plan_context.specs.Kids.{Kids, kids-none, kids-more, kids-forest, plus-none}
+use Rattle.plan_context.specs.Nodes.{Seen}
+use Rattle.plan_context.specs.Kids.{Kids, kids-none, kids-more, kids-forest}
+use Rattle.plan_context.specs.ChildLoop.{drop-next, no-more, view, whole}
 
 -- a new slot under a handle with the mark of h
 pub remarked : (m' : List ℕ) (u' h : ℕ) (t : Tree) → treeOf m' (2 * u') ≡ setMark false t → treeOf m' (2 * u' + h % 2) ≡ setMark (marked h) t
@@ -52,10 +53,7 @@ module _ (a : List ℕ) (ua h : ℕ) (b₀ : List ℕ) (v : ℕ) (c : Copies a u
   ks = slot a (index h) .kids
 
   pub shown : Seen a (index h)
-  shown = let l = c .here in seen a (index h) (c .from .all (index h) (omega arith) .proper)
-
-  whole : sizeT (treeOf a h) ≡ suc (size (forest a (slot a (index h) .kids)))
-  whole = ap sizeT (shown .tree)
+  shown = view (c .from) (c .here)
 
   pub copied-none : (kids : List ℕ) → length kids ≡ 8 → ChildrenCopied a h b₀ v 0 v kids b₀
   unfolding forest
@@ -66,12 +64,11 @@ module _ (a : List ℕ) (ua h : ℕ) (b₀ : List ℕ) (v : ℕ) (c : Copies a u
     k = getD (slot a (index h) .kids) j 0
 
     split : forest a (drop j (slot a (index h) .kids)) ≡ plant (treeOf a (getD (slot a (index h) .kids) j 0)) (forest a (drop (suc j) (slot a (index h) .kids)))
-    unfolding forest
-    split = ap (forest a) (drop-cons ks j 0 l)
+    split = drop-next a ks j l
 
     pub copied-next : (sizeT (treeOf a (getD (slot a (index h) .kids) j 0)) < sizeT (treeOf a h)) × Copies a ua (getD (slot a (index h) .kids) j 0) b w
     copied-next =
-        let s = ap size split in let t = whole in let q = p .left in let o = p .made .long in let r = c .room in let m = c .small in let x = p .made .more in
+        let s = ap size split in let t = whole (c .from) (c .here) in let q = p .left in let o = p .made .long in let r = c .room in let m = c .small in let x = p .made .more in
         let z = below-at (2 * (index h)) ks j (shown .below) l in let y = c .here in
         (omega arith, record { from = c .from; here = omega arith; arena = p .made .arena; room = omega arith; small = omega arith })
 
@@ -93,15 +90,11 @@ module _ (a : List ℕ) (ua h : ℕ) (b₀ : List ℕ) (v : ℕ) (c : Copies a u
     counted = let x = shown .count in let y = shown .few in let z = p .made .wide in length-take-le n kids (omega arith) ∙ e ∙ x
 
     all-same : forest b (take n kids) ≡ forest a (slot a (index h) .kids)
-    unfolding forest
-    all-same =
-        let x = shown .count in
-        let d : drop j ks ≡ [] = drop-of-length-le ks {i = j} (omega arith) in
-        ap (λ i. forest b (take i kids)) f ∙ sym (plus-none (forest b (take j kids))) ∙ ap (λ l. forest b (take j kids) ⊕ forest a l) (sym d) ∙ p .is
+    all-same = let x = shown .count in ap (λ i. forest b (take i kids)) f ∙ no-more a ks b (take j kids) j (λ c. c) (forest a ks) (omega arith) refl (p .is)
 
     pub copied-puts : Puts b w (slot a (index h) .rec) (take n kids)
     copied-puts =
-        let s = shown in let q = p .left in let t = whole in let o = p .made .long in let r = c .room in let m = c .small in let sm = s .small in
+        let s = shown in let q = p .left in let t = whole (c .from) (c .here) in let o = p .made .long in let r = c .room in let m = c .small in let sm = s .small in
         record {
           arena = p .made .arena;
           room = omega arith;
@@ -129,7 +122,7 @@ module _ (a : List ℕ) (ua h : ℕ) (b₀ : List ℕ) (v : ℕ) (c : Copies a u
     pub copied-end : (b' : List ℕ) → Grown b w b' (record { used = w + 1; root = 2 * w }) (node (decode (slot a (index h) .rec)) false (forest b (take n kids))) (w + 1)
         → Grown b₀ v b' (record { used = w + 1; root = 2 * w + h % 2 }) (treeOf a h) (v + sizeT (treeOf a h))
     copied-end b' g =
-        let q = p .left in let t = whole in let m = p .made .more in
+        let q = p .left in let t = whole (c .from) (c .here) in let m = p .made .more in
         let s : treeOf b' (2 * w) ≡ setMark false (treeIn a (index h)) = g .tree ∙ ap (node (decode (slot a (index h) .rec)) false) all-same ∙ ap (setMark false) (sym (shown .tree)) in
         record {
           arena = g .arena;

@@ -29,7 +29,7 @@ marks h false =
     record { slot = s; tree = λ m. ap₂ (λ x y. setMark (eqb x 1) (treeIn m y)) t s }
 
 -- the first child
-kid-is : (m ks : List ℕ) (d : Tree) → 0 < length ks → treeOf m (getD ks 0 0) ≡ kid0 d (forest m ks)
+pub kid-is : (m ks : List ℕ) (d : Tree) → 0 < length ks → treeOf m (getD ks 0 0) ≡ kid0 d (forest m ks)
 unfolding forest
 kid-is m [] d g = absurd (omega arith)
 kid-is m (k ∷ ks) d g = refl

@@ -28,12 +28,12 @@ pub kids-none : (b : List ℕ) (v : ℕ) (kids : List ℕ) → Arena b v → len
 kids-none b v kids a l = record { long = refl; wide = l; arena = a; old = refl; more = omega arith; below = tt }
 
 -- one more at the end
-snoc : (b : List ℕ) (hs : List ℕ) (h : ℕ) (s : Forest Marked) → forest b (hs ++ (h ∷ [])) ⊕ s ≡ forest b hs ⊕ plant (treeOf b h) s
+pub snoc : (b : List ℕ) (hs : List ℕ) (h : ℕ) (s : Forest Marked) → forest b (hs ++ (h ∷ [])) ⊕ s ≡ forest b hs ⊕ plant (treeOf b h) s
 unfolding forest
 snoc b [] h s = refl
 snoc b (x ∷ hs) h s = ap (plant (treeOf b x)) (snoc b hs h s)
 
-below-snoc : (n : ℕ) (hs : List ℕ) (h : ℕ) → Below n hs → h < n → Below n (hs ++ (h ∷ []))
+pub below-snoc : (n : ℕ) (hs : List ℕ) (h : ℕ) → Below n hs → h < n → Below n (hs ++ (h ∷ []))
 below-snoc n [] h b l = (l, tt)
 below-snoc n (x ∷ hs) h b l = (b .0, below-snoc n hs h (b .1) l)
 

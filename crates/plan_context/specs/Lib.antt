@@ -2,7 +2,10 @@ pub mod View
 pub mod Laws
 pub mod Facts
 pub mod Nodes
+pub mod ProperRecords
 pub mod Kids
+pub mod From
+pub mod ChildLoop
 pub mod Handles
 pub mod Rebuild
 pub mod Own

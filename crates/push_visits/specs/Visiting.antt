@@ -1,22 +1,21 @@
 -- What a visit reads from the arena is what the decision asks. Assumes nothing.
 use mathlib.Core.Path.{_≡_, refl, sym, ap, ap₂, _∙_, subst}
-use mathlib.Core.Bool.{true, _&&_}
-use mathlib.Core.List.{List, [], _∷_, map}
-use Prim.Native.Nat.{ℕ, zero, suc, _*_, _/_, _≤_, _<_}
+use mathlib.Core.Bool.{true}
+use mathlib.Core.List.{List, [], _∷_}
+use Prim.Native.Nat.{ℕ, suc, _*_, _/_, _≤_, _<_}
 use native.Mathlib.Omega.{arith}
-use lib.Dec.{eqb, leb}
+use lib.Dec.{eqb}
 use lib.ListN.{length, getD}
-use borrow.Author.Tests.{eqb-true, leb-true}
+use borrow.Author.Tests.{eqb-true}
 use Rattle.row_order.specs.Lists.{All}
 use Rattle.plan.specs.Forest.{none, tree, roots}
 use Rattle.plan.specs.Op.{Op, source, filter, projection, union, repartition, coalesce, sortOp, mergeOp, globalLimit, localLimit, sortMergeJoin, hashJoin, outputRequirement, partialSort, Plan}
-use Rattle.plan.specs.WellFormed.{fieldsOk, childrenOk, unionOk, columnsOk, width, nodeOk, joinWidth}
+use Rattle.plan.specs.WellFormed.{childrenOk, width, joinWidth}
 use Rattle.plan.specs.declared.JoinType.{JoinType}
 use Rattle.plan.specs.declared.Fetch.{Fetch}
 use Rattle.plan_codec.specs.Decode.{decode}
 use Rattle.record_fields.specs.Proper.{Proper, pairsOf}
 use Rattle.record_fields.specs.Encoded.{proper}
-use Rattle.semantics.specs.theorems.common.Bools.{and-left, and-right}
 use Rattle.semantics.specs.Facts.{Facts, at0, at1, facts, factsOp, nothing}
 use Rattle.semantics.specs.theorems.facts.Fits.{join-width}
 use Rattle.semantics.specs.Properties.{remark, fetches, fetchOp}
@@ -25,14 +24,13 @@ use Rattle.row_facts.specs.Asked.{told, FactRow}
 use Rattle.arena.specs.Arena.{index, slot, keptPart}
 use Rattle.arena.specs.Laws.{index-even, below-at}
 use Rattle.walks.specs.Marks.{strip, known, fact, fetchT}
-use Rattle.walks.specs.theorems.common.Trees.{Ok}
-use Rattle.walks.specs.theorems.common.NewNodes.{narrow}
 use Rattle.walks.specs.PushdownSorts as walk
 use Rattle.plan_context.specs.View.{treeIn, treeOf, forest, Arena}
 use Rattle.plan_context.specs.Laws.{here, facts-at, length-facts}
 use Rattle.plan_context.specs.Facts.{Tells, tells}
 use Rattle.plan_context.specs.Nodes.{Counts, counts-of}
 use Rattle.plan_context.specs.Nodes as nodes
+use Rattle.plan_context.specs.ProperRecords.{record-proper}
 use Rattle.push_requirements.specs.Pushing.{JoinRows, Seen}
 use Rattle.sort_pushdown.specs.declared.Visit.{Visit}
 use Rattle.sort_pushdown.specs.Decisions.{Visited}
@@ -59,15 +57,7 @@ module _ (a : List ℕ) (ua i : ℕ) (g : Arena a ua) (l : i < ua) where
         let t : Tells (treeOf a (2 * i)) r = tells a (2 * i) (here a ua (2 * i) g (omega arith)) r (f ∙ ap (keptPart a) (sym (index-even i))) in
         record { row = t .row; usable = t .usable; is = λ z. absurd (omega arith) }
 
--- ---- widths
-
-width-at : (c : Plan) → Ok c → (i : ℕ) → getD (map (λ F. F .width) (facts c)) i 0 ≤ 32
-width-at none h i = omega arith
-width-at (tree o c r) h zero = leb-true (factsOp o (facts c) .width) 32 (narrow o (facts c) (h .0))
-width-at (tree o c r) h (suc i) = width-at r (h .2) i
-
-columns-of : (o : Op) (ws : List ℕ) → nodeOk o ws ≡ true → columnsOk o ws ≡ true
-columns-of o ws e = and-left (columnsOk o ws) (leb (width o ws) 32) (and-right (unionOk o ws) (columnsOk o ws && leb (width o ws) 32) (and-right (fieldsOk o && childrenOk o (length ws)) (unionOk o ws && (columnsOk o ws && leb (width o ws) 32)) e))
+-- ---- a node's facts and its operator
 
 pub roots-long : (c : Plan) → length (facts c) ≡ length (roots c)
 roots-long none = refl
@@ -104,10 +94,7 @@ module _ (a : List ℕ) (ua i : ℕ) (g : Arena a ua) (l : i < ua) where
   rule = subst (Counts (decode (slot a i .rec))) (length-facts a (slot a i .kids)) (counts-of (decode (slot a i .rec)) (known (forest a (slot a i .kids))) (shown a ua i g l .ok .0))
 
   pub proper-at : Proper (slot a i .rec)
-  proper-at =
-      let s = shown a ua i g l in
-      proper (slot a i .rec) (length (slot a i .kids)) (map (λ F. F .width) (known (forest a (slot a i .kids)))) (s .canon) (rule .fields) (columns-of (decode (slot a i .rec)) _ (s .ok .0)) (width-at (strip (forest a (slot a i .kids))) (s .ok .1) 0)
-      (width-at (strip (forest a (slot a i .kids))) (s .ok .1) 1)
+  proper-at = let s = shown a ua i g l in record-proper (slot a i .rec) (length (slot a i .kids)) (forest a (slot a i .kids)) (s .canon) (s .ok)
 
   pub own-tells : (r : List ℕ) → r ≡ keptPart a i → FactRow r × (told r ≡ factsOp (decode (slot a i .rec)) (known (forest a (slot a i .kids))))
   own-tells r f =

@@ -6,7 +6,7 @@ use Prim.Native.Nat.{ℕ, zero, suc, _+_, _*_, _≤_, _<_}
 use native.Mathlib.Omega.{arith}
 use native.Mathlib.Numerals.{add-one}
 use lib.ListN.{length, getD, take, drop, set, length-append, drop-of-length-le}
-use lib.Seq.{drop-cons, length-take-le}
+use lib.Seq.{length-take-le}
 use Rattle.row_order.specs.Iso.{Key}
 use Rattle.plan.specs.Forest.{Forest, none, tree, size, roots}
 use Rattle.plan.specs.Op.{Op, Plan}
@@ -17,7 +17,7 @@ use Rattle.plan.specs.declared.Refusal.the-variants.{Accepted, TooManyNodes, Co
 use Rattle.plan_format.specs.Record.{children}
 use Rattle.plan_codec.specs.Decode.{decode}
 use Rattle.semantics.specs.Facts.{facts, factsOp, isNil, knownOrder}
-use Rattle.semantics.specs.Properties.{fetches, rebuilt}
+use Rattle.semantics.specs.Properties.{fetches}
 use Rattle.key_lists.specs.Keys.{orderOf, Real}
 use Rattle.row_facts.specs.Asked.{told}
 use Rattle.arena.specs.Arena.{index, slot, keptPart}
@@ -37,6 +37,7 @@ use Rattle.plan_context.specs.Laws.{facts-at, length-facts, same-trans}
 use Rattle.plan_context.specs.Facts.{size-strip}
 use Rattle.plan_context.specs.Records.{planT}
 use Rattle.plan_context.specs.Kids.{kids-none, kids-more, kids-forest, plus-none}
+use Rattle.plan_context.specs.ChildLoop.{drop-size, drop-next, no-more}
 use Rattle.sort_pushdown.specs.declared.Visit.{Visit}
 use Rattle.sort_pushdown.specs.declared.Decision.{Decision}
 use Rattle.sort_pushdown.specs.declared.NewNodes.{NewNodes}
@@ -102,12 +103,6 @@ fetches-at a [] j h = absurd (omega arith)
 fetches-at a (k ∷ hs) zero h = refl
 fetches-at a (k ∷ hs) (suc j) h = fetches-at a hs j (omega arith)
 
-drop-size : (a hs : List ℕ) (j : ℕ) → size (forest a (drop j hs)) ≤ size (forest a hs)
-unfolding forest
-drop-size a hs zero = omega arith
-drop-size a [] (suc j) = omega arith
-drop-size a (x ∷ hs) (suc j) = let y = drop-size a hs j in omega arith
-
 -- ---- the children
 module _ (a ks : List ℕ) (q : ℕ → walk.Visit) (n : ℕ) (b₀ : List ℕ) (v : ℕ) where
   pub visiting-none : (kids : List ℕ) → Arena b₀ v → length kids ≡ 8 → Visiting a ks q n b₀ v 0 v n kids b₀
@@ -131,8 +126,7 @@ module _ (a ks : List ℕ) (q : ℕ → walk.Visit) (n : ℕ) (b₀ : List ℕ) 
     rest = forest a (drop (j + 1) ks)
 
     pub split : forest a (drop j ks) ≡ plant (treeOf a (getD ks j 0)) (forest a (drop (j + 1) ks))
-    unfolding forest
-    split = ap (forest a) (drop-cons ks j 0 l) ∙ ap (λ i. plant (treeOf a (getD ks j 0)) (forest a (drop i ks))) (sym (add-one j))
+    split = drop-next a ks j l ∙ ap (λ i. plant (treeOf a (getD ks j 0)) (forest a (drop i ks))) (sym (add-one j))
 
     next : countDown q n (strip (forest a ks)) ≡ bind (bind (countedT (q j) m (treeIn a (index (getD ks j 0)))) (λ u k. bind (countDown (from q (j + 1)) k (strip (forest a (drop (j + 1) ks)))) (λ s l. counted (plant u s) l))) (λ s l. counted (forest b (take j kids) ⊕ s) l)
     next =
@@ -189,8 +183,7 @@ module _ (a ks : List ℕ) (q : ℕ → walk.Visit) (n : ℕ) (b₀ : List ℕ) 
         p .is ∙ ap (λ d. bind (countDown (from q j) m (strip (forest a d))) (λ s l. counted (forest b (take j kids) ⊕ s) l)) gone ∙ ap (λ f. counted f m) (plus-none (forest b (take j kids)))
 
     pub visiting-pure : forest b (take j kids) ≡ walk.pushdownSorts q (strip (forest a ks))
-    unfolding forest
-    visiting-pure = sym (plus-none (forest b (take j kids))) ∙ ap (λ d. forest b (take j kids) ⊕ walk.pushdownSorts (from q j) (strip (forest a d))) (sym gone) ∙ p .pure
+    visiting-pure = no-more a ks b (take j kids) j (λ f. walk.pushdownSorts (from q j) (strip f)) (walk.pushdownSorts q (strip (forest a ks))) l refl (p .pure)
 
     pub visiting-sizes : (w ≤ v + 3 * size (forest a ks)) × (n ≤ m + size (forest a ks)) × (m ≤ n + 2 * size (forest a ks)) × (size (forest b (take j kids)) ≤ 3 * size (forest a ks))
     visiting-sizes = let x = p .left in let y = p .low in let z = p .high in let u = p .few in (omega arith, omega arith, omega arith, omega arith)

@@ -31,8 +31,10 @@ use Rattle.walks.specs.theorems.preserve.Kept.{strip-first, breakEach-kept}
 use Rattle.plan_context.specs.View.{treeOf, forest, Grown, Puts}
 use Rattle.plan_context.specs.Handles.{Marks}
 use Rattle.replace_with_order_preserving_variants.specs.Kinds.{op-ind, treated-5, treated-8}
-use Rattle.replace_with_order_preserving_variants.specs.Marking.{from, from-first, from-next, marks-ok}
-use Rattle.replace_with_order_preserving_variants.specs.Entering.{Enters, Going, view, same-slot, olds, split, going-more, news, going-puts, going-end}
+use Rattle.replace_with_order_preserving_variants.specs.Marking.{marks-ok}
+use Rattle.plan_context.specs.From.{from, from-first, from-next}
+use Rattle.plan_context.specs.ChildLoop.{view, same-slot, same-kids, split}
+use Rattle.replace_with_order_preserving_variants.specs.Entering.{Enters, Going, going-more, news, going-puts, going-end}
 use Rattle.replace_with_order_preserving_variants.specs.Replacing.{grown-as, cond-le, first-size, single, remark-ok, replaced-puts, replaced-grown}
 
 -- ---- which children are entered
@@ -218,9 +220,9 @@ module _ (m₀ : List ℕ) (u h : ℕ) (p : Enters m₀ u h) where
         → Grown m w m' r (breakOne b (treeOf m k)) (w + sizeT (treeOf m k)) → Going (eachOf m₀ h) m₀ u h (j + 1) (r .used) (set kids j (r .root)) m'
     break-more l k e b eb =
         let asked : b ≡ q₀ j =
-        (eb ∙ (λ i. enters (decode (same-slot m₀ u h p (eachOf m₀ h) j w kids m q i .rec)) (known (olds m₀ u h p (eachOf m₀ h) j w kids m q i)) j)) in
+        (eb ∙ (λ i. enters (decode (same-slot (p .arena) (p .here) (q .made) i .rec)) (known (same-kids (p .arena) (p .here) (q .made) i)) j)) in
         going-more m₀ u h p (eachOf m₀ h) j w kids m q l k e (breakOne b (treeOf m k))
-        (ap (breakEach (from q₀ j)) (split m₀ u h p (eachOf m₀ h) j w kids m q l k e)
+        (ap (breakEach (from q₀ j)) (split (p .arena) (p .here) (q .made) l e)
         ∙ ap₂ (λ x g. plant (breakOne x (treeOf m k)) (breakEach g (forest m₀ (drop (suc j) (slot m₀ (index h) .kids))))) (from-first q₀ j ∙ sym asked)
         (from-next q₀ j))
 
@@ -228,16 +230,16 @@ module _ (m₀ : List ℕ) (u h : ℕ) (p : Enters m₀ u h) where
     module _ (n : ℕ) (e : n ≡ j) (c : n ≡ length (slot m₀ (index h) .kids)) where
       pub break-puts : Puts m w (slot m (index h) .rec) (take n kids)
       break-puts =
-          let x = view m₀ u h p .ok in let y = ok-fit (tree o (strip c₀) none) (x .0, x .1, tt) in
+          let x = view (p .arena) (p .here) .ok in let y = ok-fit (tree o (strip c₀) none) (x .0, x .1, tt) in
           going-puts m₀ u h p (eachOf m₀ h) j w kids m q n e c refl (each-size q₀ c₀)
           (kept-node {a = false} {b = true} {h = true} o o false false c₀ (breakEach q₀ c₀) (like-refl o) (y .0) (breakEach-kept q₀ c₀ (y .1)) .ok refl x)
 
       broke : Broke m (index h) (take n kids) ≡ planWithOrderBreakingVariants (treeOf m₀ h)
       broke =
-          (λ i. breakBy (shape (decode (same-slot m₀ u h p (eachOf m₀ h) j w kids m q i .rec))) (record { op = decode (same-slot m₀ u h p (eachOf m₀ h) j w kids m q i .rec); mark = true })
-          (olds m₀ u h p (eachOf m₀ h) j w kids m q i) (news m₀ u h p (eachOf m₀ h) j w kids m q n e c refl i))
+          (λ i. breakBy (shape (decode (same-slot (p .arena) (p .here) (q .made) i .rec))) (record { op = decode (same-slot (p .arena) (p .here) (q .made) i .rec); mark = true })
+          (same-kids (p .arena) (p .here) (q .made) i) (news m₀ u h p (eachOf m₀ h) j w kids m q n e c refl i))
           ∙ by-mark true (marked h) o c₀ (breakEach q₀ c₀) (shape o)
-          ∙ sym (ap (λ t. planWithOrderBreakingVariants (setMark (marked h) t)) (view m₀ u h p .tree))
+          ∙ sym (ap (λ t. planWithOrderBreakingVariants (setMark (marked h) t)) (view (p .arena) (p .here) .tree))
 
       pub break-end : (b : Bool) → b ≡ true → (m' : List ℕ) (r : At) → Grown m w m' r (Broke m (index h) (take n kids)) (w + 1)
           → Grown m₀ u m' r (breakOne b (treeOf m₀ h)) (u + sizeT (treeOf m₀ h))

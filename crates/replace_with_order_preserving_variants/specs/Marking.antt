@@ -2,7 +2,7 @@
 use mathlib.Core.Path.{_≡_, refl, sym, ap, ap₂, _∙_, subst}
 use mathlib.Core.Bool.{Bool, true, false, cond, _&&_, _||_}
 use mathlib.Core.List.{List, [], _∷_, map}
-use Prim.Native.Nat.{ℕ, zero, suc, _+_, _*_, _≤_, _<_}
+use Prim.Native.Nat.{ℕ, suc, _+_, _*_, _≤_, _<_}
 use native.Mathlib.Omega.{arith}
 use native.Mathlib.Numerals.{add-one}
 use lib.ListN.{length, getD, take, drop, set, drop-of-length-le}
@@ -26,22 +26,10 @@ use Rattle.walks.specs.theorems.preserve.Kept.{strip-masked}
 use Rattle.plan_context.specs.View.{treeOf, forest, mostSlots, Arena, Grown, Puts}
 use Rattle.plan_context.specs.Laws.{fewer, tree-same}
 use Rattle.plan_context.specs.Handles.{Marks}
-use Rattle.plan_context.specs.Kids.{Kids, kids-none, kids-more, kids-forest, plus-none}
+use Rattle.plan_context.specs.Kids.{Kids, kids-none, kids-more, kids-forest}
+use Rattle.plan_context.specs.From.{from, from-first, from-next}
+use Rattle.plan_context.specs.ChildLoop.{no-more}
 use Rattle.replace_with_order_preserving_variants.specs.Nodes.{shown, kid-below}
-
--- ---- what is asked of the children from number j on
-
-abbrev pub from : (ℕ → Bool) → ℕ → ℕ → Bool
-from q zero = q
-from q (suc j) = from (λ i. q (suc i)) j
-
-pub from-first : (q : ℕ → Bool) (j : ℕ) → from q j 0 ≡ q j
-from-first q zero = refl
-from-first q (suc j) = from-first (λ i. q (suc i)) j
-
-pub from-next : (q : ℕ → Bool) (j : ℕ) → (λ i. from q j (suc i)) ≡ from q (suc j)
-from-next q zero = refl
-from-next q (suc j) = from-next (λ i. q (suc i)) j
 
 -- ---- marks of handles
 
@@ -147,16 +135,13 @@ module _ (m : List ℕ) (i : ℕ) (p : ℕ → Bool) (a : Arena m (i + 1)) where
           }
 
     pub cutting-all : length (slot m i .kids) ≤ j → Cut m i p kids
-    unfolding forest
     cutting-all l =
         let o = q .low in
         let n : length (slot m i .kids) ≡ j = omega arith in
-        let d : drop j hs ≡ [] = drop-of-length-le hs {i = j} l in
         record {
           wide = q .made .wide;
           below = subst (λ z. Below (2 * (i + 1)) (take z kids)) (sym n) (q .made .below);
-          is = ap (λ z. forest m (take z kids)) n ∙ sym (plus-none (forest m (take j kids)))
-              ∙ ap (λ z. forest m (take j kids) ⊕ masked (from p j) (forest m z)) (sym d) ∙ q .is;
+          is = ap (λ z. forest m (take z kids)) n ∙ no-more m hs m (take j kids) j (masked (from p j)) (masked p (forest m hs)) l refl (q .is);
         }
 
 -- ---- the mark of node i over them
@@ -351,14 +336,11 @@ module _ (m₀ : List ℕ) (u : ℕ) (ks : List ℕ) (p : Updating m₀ u ks) wh
           }
 
     pub going-all : length ks ≤ j → Updated m₀ u ks m w kids
-    unfolding forest
     going-all l =
         let o = q .low in let z = q .left in
         let n : j ≡ length ks = omega arith in
-        let d : drop j ks ≡ [] = drop-of-length-le ks {i = j} l in
         record {
           made = subst (λ x. Kids m₀ u x w kids m) n (q .made);
-          is = ap (λ x. forest m (take x kids)) (sym n) ∙ sym (plus-none (forest m (take j kids)))
-              ∙ ap (λ x. forest m (take j kids) ⊕ carryEach (forest m₀ x)) (sym d) ∙ q .is;
+          is = ap (λ x. forest m (take x kids)) (sym n) ∙ no-more m₀ ks m (take j kids) j carryEach (carryEach (forest m₀ ks)) l refl (q .is);
           room = omega arith;
         }

@@ -1,48 +1,24 @@
 -- What a node in a slot shows to those that ask its record and the rows of its children.
 use mathlib.Core.Path.{_≡_, sym, ap, _∙_}
-use mathlib.Core.Bool.{false, _&&_}
-use mathlib.Core.List.{List, map}
-use Prim.Native.Nat.{ℕ, zero, suc, _+_, _*_, _≤_, _<_}
+use mathlib.Core.Bool.{false}
+use mathlib.Core.List.{List}
+use Prim.Native.Nat.{ℕ, _+_, _*_, _≤_, _<_}
 use native.Mathlib.Omega.{arith}
-use borrow.Author.Tests.{leb-true}
-use lib.Dec.{leb}
 use lib.ListN.{length, getD}
-use Rattle.scan.specs.Below.{and-left, and-right}
-use Rattle.plan.specs.Forest.{Forest, none, tree}
-use Rattle.plan.specs.Op.{Plan}
-use Rattle.plan.specs.WellFormed.{fieldsOk, childrenOk, unionOk, columnsOk, width}
 use Rattle.plan_format.specs.Record.{children}
 use Rattle.plan_codec.specs.Decode.{decode}
-use Rattle.plan_codec.specs.Encode.{encode}
-use Rattle.semantics.specs.Facts.{facts, nothing}
+use Rattle.semantics.specs.Facts.{nothing}
 use Rattle.record_fields.specs.Proper.{Proper}
-use Rattle.record_fields.specs.Encoded.{proper}
 use Rattle.row_facts.specs.Asked.{told}
 use Rattle.node_properties.specs.Nodes.{Among}
-use Rattle.walks.specs.Marks.{Marked, known, strip, node, fact}
-use Rattle.walks.specs.theorems.common.Trees.{Ok, OkT}
-use Rattle.walks.specs.theorems.common.NewNodes.{narrow}
+use Rattle.walks.specs.Marks.{known, node, fact}
 use Rattle.arena.specs.Arena.{slotSize, slot}
 use Rattle.arena.specs.Laws.{below-at, index-even}
 use Rattle.plan_context.specs.View.{treeIn, treeOf, forest, Arena, Here}
 use Rattle.plan_context.specs.Laws.{here, facts-at, length-facts}
 use Rattle.plan_context.specs.Nodes.{Seen, seen, counts-of}
 use Rattle.plan_context.specs.Facts.{Tells}
-
--- no node of a plan is wider than 32 columns
-widths-small : (f : Plan) → Ok f → (j : ℕ) → getD (map (λ F. F .width) (facts f)) j 0 ≤ 32
-widths-small none h j = omega arith
-widths-small (tree o c r) h zero = leb-true _ 32 (narrow o (facts c) (h .0))
-widths-small (tree o c r) h (suc j) = widths-small r (h .2) j
-
--- the record of a plan's node
-pub record-proper : (r : List ℕ) (n : ℕ) (c : Forest Marked) → r ≡ encode n (decode r) → OkT (node (decode r) false c) → Proper r
-record-proper r n c e k =
-    let o = decode r in
-    let ws = map (λ F. F .width) (known c) in
-    let x = and-right (fieldsOk o && childrenOk o (length ws)) (unionOk o ws && (columnsOk o ws && leb (width o ws) 32)) (k .0) in
-    let y = and-left (columnsOk o ws) (leb (width o ws) 32) (and-right (unionOk o ws) (columnsOk o ws && leb (width o ws) 32) x) in
-    proper r n ws e (counts-of o (known c) (k .0) .fields) y (widths-small (strip c) (k .1) 0) (widths-small (strip c) (k .1) 1)
+use Rattle.plan_context.specs.ProperRecords.{record-proper}
 
 module _ (m : List ℕ) (i : ℕ) (a : Arena m (i + 1)) where
   pub shown : Seen m i

@@ -38,7 +38,8 @@ use Rattle.plan_context.specs.Facts.{Tells}
 use Rattle.plan_context.specs.Handles.{Marks}
 use Rattle.replace_with_order_preserving_variants.specs.Kinds.{op-ind, treated, one-kid, treated-5, treated-6}
 use Rattle.replace_with_order_preserving_variants.specs.Marking.{isFetchedCoalesce, nothing-left}
-use Rattle.replace_with_order_preserving_variants.specs.Entering.{Enters, Going, view, same-slot, olds, split, going-next, going-more, news, going-puts, going-end}
+use Rattle.plan_context.specs.ChildLoop.{view, same-slot, same-kids, split}
+use Rattle.replace_with_order_preserving_variants.specs.Entering.{Enters, Going, going-next, going-more, news, going-puts, going-end}
 use Rattle.replace_with_order_preserving_variants.specs.Replacing.{grown-as, cond-le, first-size, single, remark-ok, replaced-puts, replaced-grown, rebuilt-grown}
 
 -- ---- kinds
@@ -272,7 +273,7 @@ module _ (m₀ : List ℕ) (u h : ℕ) (spr spm : Bool) (f : Fetch) (p : Preserv
   now : marked h ≡ true → preserveOne spr spm f (treeOf m₀ h)
       ≡ preserveBy (shape (decode (slot m₀ (index h) .rec))) spr spm f (record { op = decode (slot m₀ (index h) .rec); mark = true })
       (forest m₀ (slot m₀ (index h) .kids)) (preserveEach spr spm f (forest m₀ (slot m₀ (index h) .kids)))
-  now z = ap₂ (λ x s. preserveOne spr spm f (setMark x s)) z (view m₀ u h E .tree)
+  now z = ap₂ (λ x s. preserveOne spr spm f (setMark x s)) z (view (E .arena) (E .here) .tree)
 
   -- a fetched coalesce stays too, unmarked
   pub fetched-stays : marked h ≡ true → isFetchedCoalesce (decode (slot m₀ (index h) .rec)) ≡ true → (r : ℕ) → Marks h false r
@@ -284,7 +285,7 @@ module _ (m₀ : List ℕ) (u h : ℕ) (spr spm : Bool) (f : Fetch) (p : Preserv
         old = refl;
         more = omega arith;
         here = omega arith;
-        tree = k .tree m₀ ∙ ap (setMark false) (view m₀ u h E .tree) ∙ sym (by-fetched spr spm f true c₀ (preserveEach spr spm f c₀) o e) ∙ sym (now z);
+        tree = k .tree m₀ ∙ ap (setMark false) (view (E .arena) (E .here) .tree) ∙ sym (by-fetched spr spm f true c₀ (preserveEach spr spm f c₀) o e) ∙ sym (now z);
         room = omega arith;
       }
 
@@ -299,13 +300,13 @@ module _ (m₀ : List ℕ) (u h : ℕ) (spr spm : Bool) (f : Fetch) (p : Preserv
         → Going (eachOf spr spm f) m₀ u h (j + 1) (r .used) (set kids j (r .root)) m'
     preserve-more l k e =
         going-more m₀ u h E (eachOf spr spm f) j w kids m q l k e (preserveOne spr spm f (treeOf m k))
-        (ap (preserveEach spr spm f) (split m₀ u h E (eachOf spr spm f) j w kids m q l k e))
+        (ap (preserveEach spr spm f) (split (E .arena) (E .here) (q .made) l e))
 
     -- all children are done
     module _ (n : ℕ) (e : n ≡ j) (c : n ≡ length (slot m₀ (index h) .kids)) where
       fit : FitsA (arity (decode (slot m₀ (index h) .rec))) (count (strip (forest m₀ (slot m₀ (index h) .kids))))
           × Fit (strip (forest m₀ (slot m₀ (index h) .kids)))
-      fit = let x = view m₀ u h E .ok in let y = ok-fit (tree o (strip c₀) none) (x .0, x .1, tt) in (y .0, y .1)
+      fit = let x = view (E .arena) (E .here) .ok in let y = ok-fit (tree o (strip c₀) none) (x .0, x .1, tt) in (y .0, y .1)
 
       all-kept : KeepsAll false (isAll f) (fetchOk f) (forest m₀ (slot m₀ (index h) .kids)) (preserveEach spr spm f (forest m₀ (slot m₀ (index h) .kids)))
       all-kept = preserveEach-kept spr spm f c₀ (fit .1)
@@ -313,23 +314,23 @@ module _ (m₀ : List ℕ) (u h : ℕ) (spr spm : Bool) (f : Fetch) (p : Preserv
       pub preserve-puts : Puts m w (slot m (index h) .rec) (take n kids)
       preserve-puts =
           going-puts m₀ u h E (eachOf spr spm f) j w kids m q n e c refl (each-size spr spm f c₀)
-          (kept-node {a = false} {b = isAll f} {h = fetchOk f} o o false false c₀ (preserveEach spr spm f c₀) (like-refl o) (fit .0) all-kept .ok (p .fetch) (view m₀ u h E .ok))
+          (kept-node {a = false} {b = isAll f} {h = fetchOk f} o o false false c₀ (preserveEach spr spm f c₀) (like-refl o) (fit .0) all-kept .ok (p .fetch) (view (E .arena) (E .here) .ok))
 
       became : Became m (index h) (take n kids) spr spm f
           ≡ preserveBy (shape (decode (slot m₀ (index h) .rec))) spr spm f (record { op = decode (slot m₀ (index h) .rec); mark = true })
           (forest m₀ (slot m₀ (index h) .kids)) (preserveEach spr spm f (forest m₀ (slot m₀ (index h) .kids)))
       became =
-          λ i. preserveBy (shape (decode (same-slot m₀ u h E (eachOf spr spm f) j w kids m q i .rec))) spr spm f
-          (record { op = decode (same-slot m₀ u h E (eachOf spr spm f) j w kids m q i .rec); mark = true })
-          (olds m₀ u h E (eachOf spr spm f) j w kids m q i) (news m₀ u h E (eachOf spr spm f) j w kids m q n e c refl i)
+          λ i. preserveBy (shape (decode (same-slot (E .arena) (E .here) (q .made) i .rec))) spr spm f
+          (record { op = decode (same-slot (E .arena) (E .here) (q .made) i .rec); mark = true })
+          (same-kids (E .arena) (E .here) (q .made) i) (news m₀ u h E (eachOf spr spm f) j w kids m q n e c refl i)
 
       pub preserve-ok : OkT (Became m (index h) (take n kids) spr spm f)
       preserve-ok =
-          subst OkT (sym became) (preserveBy-kept spr spm f true c₀ (preserveEach spr spm f c₀) o (fit .0) (fit .1) all-kept .ok (p .fetch) (view m₀ u h E .ok))
+          subst OkT (sym became) (preserveBy-kept spr spm f true c₀ (preserveEach spr spm f c₀) o (fit .0) (fit .1) all-kept .ok (p .fetch) (view (E .arena) (E .here) .ok))
 
       pub preserve-plain : (b : Bool) → b ≡ isFetchedCoalesce (decode (slot m₀ (index h) .rec)) → b ≡ false
           → isFetchedCoalesce (decode (slot m (index h) .rec)) ≡ false
-      preserve-plain b x y = ap (λ z. isFetchedCoalesce (decode (z .rec))) (same-slot m₀ u h E (eachOf spr spm f) j w kids m q) ∙ sym x ∙ y
+      preserve-plain b x y = ap (λ z. isFetchedCoalesce (decode (z .rec))) (same-slot (E .arena) (E .here) (q .made)) ∙ sym x ∙ y
 
       pub preserve-end : marked h ≡ true → (m' : List ℕ) (r : At) → Grown m w m' r (Became m (index h) (take n kids) spr spm f) (w + 1)
           → Grown m₀ u m' r (preserveOne spr spm f (treeOf m₀ h)) (u + sizeT (treeOf m₀ h))

@@ -38,7 +38,7 @@ use Rattle.plan_context.specs.Facts.{Tells}
 use Rattle.plan_context.specs.Nodes.{counts-of, few-any}
 use Rattle.plan_context.specs.Covering.{one}
 use Rattle.replace_with_order_preserving_variants.specs.declared.Settings.{Settings}
-use Rattle.replace_with_order_preserving_variants.specs.Nodes.{record-proper}
+use Rattle.plan_context.specs.ProperRecords.{record-proper}
 use Rattle.replace_with_order_preserving_variants.specs.Kinds.{op-ind, one-kid, treated-7}
 use Rattle.replace_with_order_preserving_variants.specs.Marking.{Carrying, Updating, Updated, marks-ok, carry-size}
 use Rattle.replace_with_order_preserving_variants.specs.Preserving.{Preserves}

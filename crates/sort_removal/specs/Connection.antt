@@ -1,7 +1,7 @@
 -- Which nodes are connected to a sort below them.
 use mathlib.Core.Path.{_≡_, refl, sym, ap, ap₂, _∙_, subst}
 use mathlib.Core.Bool.{Bool, true, false, cond, _&&_, _||_}
-use mathlib.Core.List.{List, [], _∷_, _++_}
+use mathlib.Core.List.{List, [], _∷_}
 use Prim.Native.Nat.{ℕ, zero, suc, _+_, _*_, _≤_, _<_}
 use native.Mathlib.Omega.{arith}
 use native.Mathlib.Numerals.{add-one}
@@ -23,7 +23,7 @@ use Rattle.walks.specs.Terms.{_⊕_}
 use Rattle.walks.specs.EnsureSorting.{connected, connectedEach}
 use Rattle.plan_context.specs.View.{treeOf, forest, Arena}
 use Rattle.plan_context.specs.Handles.{Marks}
-use Rattle.plan_context.specs.Kids.{plus-none}
+use Rattle.plan_context.specs.Kids.{snoc, plus-none}
 use Rattle.sort_removal.specs.Standing.{Standing, tree-is}
 
 -- The node maintains the order of child j, and wants none of it
@@ -171,11 +171,6 @@ pub record Connecting (m : List ℕ) (u : ℕ) (ks₀ : List ℕ) (j : ℕ) (ks 
 pub connecting-none : (m : List ℕ) (u : ℕ) (ks : List ℕ) → Below (2 * u) ks → Connecting m u ks 0 ks
 unfolding forest
 connecting-none m u ks b = record { is = refl; below = b; count = refl; low = omega arith }
-
-snoc : (b : List ℕ) (hs : List ℕ) (h : ℕ) (s : Forest Marked) → forest b (hs ++ (h ∷ [])) ⊕ s ≡ forest b hs ⊕ plant (treeOf b h) s
-unfolding forest
-snoc b [] h s = refl
-snoc b (x ∷ hs) h s = ap (plant (treeOf b x)) (snoc b hs h s)
 
 below-set : (n : ℕ) (ks : List ℕ) (j x : ℕ) → Below n ks → x < n → Below n (set ks j x)
 below-set n [] j x b l = tt

@@ -33,11 +33,11 @@ use Rattle.plan_context.specs.View.{treeOf, forest, mostSlots, Arena, Grown, Pu
 use Rattle.plan_context.specs.Laws.{facts-at}
 use Rattle.plan_context.specs.Nodes.{Seen}
 use Rattle.plan_context.specs.Facts.{Tells}
-use Rattle.plan_context.specs.Handles.{Marks}
+use Rattle.plan_context.specs.Handles.{Marks, first-kid}
+use Rattle.plan_context.specs.Kids.{below-snoc}
 use Rattle.plan_context.specs.Covering.{Under, cover-puts, cover-grown, ok-of}
-use Rattle.sort_removal.specs.Standing.{Standing, view as shown, tree-is, own-over, own-proper, sort-op, one-kid, kid-standing}
+use Rattle.sort_removal.specs.Standing.{Standing, view as shown, tree-is, is-here, own-over, own-proper, sort-op, one-kid, kid-standing}
 use Rattle.sort_removal.specs.Connection.{take-all}
-use Rattle.sort_removal.specs.Removing.{first-is}
 
 -- ---- a tree without its mark and its children's
 
@@ -72,10 +72,6 @@ unmark-snoc b ks hs y h e t = both b ks y ∙ ap₂ (λ f g. glue f (plant g non
     split : (hs : List ℕ) → unmark (forest b (hs ++ (h ∷ []))) ≡ glue (unmark (forest b hs)) (plant (setMark false (treeOf b h)) none)
     split [] = refl
     split (k ∷ hs) = ap (plant (setMark false (treeOf b k))) (split hs)
-
-below-snoc : (n : ℕ) (hs : List ℕ) (h : ℕ) → Below n hs → h < n → Below n (hs ++ (h ∷ []))
-below-snoc n [] h b l = (l, tt)
-below-snoc n (x ∷ hs) h b l = (b .0, below-snoc n hs h (b .1) l)
 
 unmark-size : (c : Forest Marked) → size (unmark c) ≡ size c
 unmark-size none = refl
@@ -185,11 +181,8 @@ module _ (b : List ℕ) (w h : ℕ) (p : Immediates b w h) where
   sort-some = let l = only in omega arith
 
   module _ (k : ℕ) (hk : k ≡ getD (slot b (index h) .kids) 0 0) where
-    kid-is : treeOf b k ≡ kid0 (treeOf b h) (treeOf b h .kids)
-    kid-is = ap (treeOf b) hk ∙ first-is b (slot b (index h) .kids) t sort-some ∙ ap (λ y. kid0 t (y .kids)) (sym (tree-is b w h standing))
-
     at-kid : immediateAt b h ≡ analyzeImmediateSortRemoval (fromBytes (slot b (index h) .rec) .preserve) (fromBytes (slot b (index h) .rec) .keys) (fromBytes (slot b (index h) .rec) .fetch) (treeOf b h) (treeOf b k)
-    at-kid = ap (analyzeImmediateSortRemoval (x .preserve) (x .keys) (x .fetch) t) (sym kid-is)
+    at-kid = ap (analyzeImmediateSortRemoval (x .preserve) (x .keys) (x .fetch) t) (sym (first-kid b h (is-here b w h standing) sort-some k hk))
 
     pub sort-kid : Standing b w k
     sort-kid = kid-standing b w h standing 0 sort-some k hk

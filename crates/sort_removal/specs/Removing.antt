@@ -2,7 +2,7 @@
 use mathlib.Core.Path.{_≡_, refl, sym, ap, ap₂, _∙_, subst}
 use mathlib.Core.Bool.{Bool, true, false, cond, not, _||_}
 use mathlib.Core.List.{List, [], _∷_, map}
-use Prim.Native.Nat.{ℕ, zero, suc, _+_, _*_, _≤_, _<_}
+use Prim.Native.Nat.{ℕ, suc, _+_, _*_, _≤_, _<_}
 use native.Mathlib.Omega.{arith}
 use lib.Dec.{eqb}
 use lib.ListN.{length, getD}
@@ -29,7 +29,7 @@ use Rattle.walks.specs.EnsureSorting.{connectedEach, updateSortCtxChildrenData,
 use Rattle.walks.specs.theorems.ensure.Kept.{removeKids-kept, strip-connected}
 use Rattle.plan_context.specs.View.{treeOf, forest, mostNodes, mostSlots, Arena, Grown, Puts}
 use Rattle.plan_context.specs.Nodes.{Seen, counts-of}
-use Rattle.plan_context.specs.Handles.{Marks}
+use Rattle.plan_context.specs.Handles.{Marks, kid-is}
 use Rattle.sort_removal.specs.Standing.{Standing, view, tree-is, own-over, own-proper, merge-op, part-op, one-kid}
 use Rattle.sort_removal.specs.Connection.{Connected}
 use Rattle.sort_removal.specs.Sizes.{kids-size, connected-size}
@@ -37,20 +37,6 @@ use Rattle.sort_removal.specs.Sizes.{kids-size, connected-size}
 -- One root of removeKids
 abbrev pub removeOne : Bool → Tree → Tree
 removeOne s t = cond (t .top .mark) (removeTop s (t .top) (t .kids) (removeKids (singles (opT t)) (t .kids))) t
-
--- ---- requirements of the children from number j on
-
-abbrev pub from : {A : Type 0} → (ℕ → A) → ℕ → ℕ → A
-from q zero = q
-from q (suc j) = from (λ i. q (suc i)) j
-
-pub from-first : {A : Type 0} (q : ℕ → A) (j : ℕ) → from q j 0 ≡ q j
-from-first q zero = refl
-from-first q (suc j) = from-first (λ i. q (suc i)) j
-
-pub from-next : {A : Type 0} (q : ℕ → A) (j : ℕ) → (λ i. from q j (suc i)) ≡ from q (suc j)
-from-next q zero = refl
-from-next q (suc j) = from-next (λ i. q (suc i)) j
 
 -- ---- a tree stays as 01's rules want it
 
@@ -212,11 +198,6 @@ marked-grown b w b' a t top g y r m =
     let h = g .here in let s = m .slot in
     record { arena = g .arena; old = g .old; more = g .more; here = omega arith; tree = m .tree b' ∙ ap (setMark y) (g .tree); room = g .room }
 
-pub first-is : (m ks : List ℕ) (d : Tree) → 0 < length ks → treeOf m (getD ks 0 0) ≡ kid0 d (forest m ks)
-unfolding forest
-first-is m [] d g = absurd (omega arith)
-first-is m (k ∷ ks) d g = refl
-
 module _ (b : List ℕ) (w h : ℕ) (ks : List ℕ) (q : Bool) (p : Overs b w h ks q) where
   abbrev c : Forest Marked
   c = forest b (slot b (index h) .kids)
@@ -290,7 +271,7 @@ module _ (b : List ℕ) (w h : ℕ) (ks : List ℕ) (q : Bool) (p : Overs b w h 
           more = omega arith;
           here = omega arith;
           tree = m .tree b
-              ∙ ap₂ setMark (z ∙ ap not (p .asked)) (first-is b ks (rebuild (mergeOp (x .keys) (x .fetch)) (not (needs c)) (updatedBy (needs c) d)) merge-some ∙ ap (kid0 (rebuild (mergeOp (x .keys) (x .fetch)) (not (needs c)) (updatedBy (needs c) d))) (p .is))
+              ∙ ap₂ setMark (z ∙ ap not (p .asked)) (kid-is b ks (rebuild (mergeOp (x .keys) (x .fetch)) (not (needs c)) (updatedBy (needs c) d)) merge-some ∙ ap (kid0 (rebuild (mergeOp (x .keys) (x .fetch)) (not (needs c)) (updatedBy (needs c) d))) (p .is))
               ∙ sym (ap (λ k. removeBy (shape k) (record { op = k; mark = true }) c d) merges ∙ by-merge c d (x .keys) (x .fetch));
           room = omega arith;
         }

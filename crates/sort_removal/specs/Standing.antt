@@ -1,63 +1,40 @@
 -- A node that stands in a slot of the arena: what its record and its children's handles show.
-use mathlib.Core.Path.{_≡_, refl, sym, ap, _∙_, subst}
+use mathlib.Core.Path.{_≡_, sym, ap, _∙_, subst}
 use mathlib.Core.Bool.{Bool, true, false}
-use mathlib.Core.List.{List, map}
+use mathlib.Core.List.{List}
 use Prim.Native.Nat.{ℕ, _+_, _*_, _≤_, _<_}
 use native.Mathlib.Omega.{arith}
-use borrow.Author.Tests.{eqb-true, eq-eqb, leb-true}
-use lib.Dec.{eqb, leb}
+use borrow.Author.Tests.{eqb-true, eq-eqb}
+use lib.Dec.{eqb}
 use lib.ListN.{length, getD}
 use Rattle.row_order.specs.Order.{no-bool}
-use Rattle.row_order.specs.Lists.{All, all-cons, all-nil}
-use Rattle.plan.specs.Forest.{none, tree}
-use Rattle.plan.specs.Op.{Op, sortOp, mergeOp, repartition, Plan}
+use Rattle.plan.specs.Op.{Op, sortOp, mergeOp, repartition}
 use Rattle.plan.specs.Numbers.{kindOf, code}
-use Rattle.plan.specs.WellFormed.{childrenOk, columnsOk, nodeOk}
+use Rattle.plan.specs.WellFormed.{childrenOk}
 use Rattle.plan.specs.declared.Kind.{Kind}
 use Rattle.plan.specs.declared.Kind.the-variants.{Repartition, Sort, Merge}
 use Rattle.plan_format.specs.Record.{children}
 use Rattle.plan_codec.specs.Decode.{fromBytes, operatorOf, decode}
-use Rattle.semantics.specs.theorems.common.Bools.{and-left, and-right}
-use Rattle.semantics.specs.Facts.{Facts, facts, nothing}
+use Rattle.semantics.specs.Facts.{Facts}
 use Rattle.semantics.specs.Properties.{maintains}
 use Rattle.record_fields.specs.Proper.{Proper}
-use Rattle.record_fields.specs.Encoded as encoded
 use Rattle.row_facts.specs.Asked.{told}
 use Rattle.node_properties.specs.Nodes.{Among}
-use Rattle.walks.specs.Marks.{fact, known, node, opT, setMark, strip}
-use Rattle.walks.specs.theorems.common.Trees.{Ok}
-use Rattle.walks.specs.theorems.common.Lists.{all-nth}
-use Rattle.walks.specs.theorems.common.NewNodes.{narrow, nth-width}
+use Rattle.walks.specs.Marks.{fact, known, node, opT, setMark}
 use Rattle.arena.specs.Arena.{slotSize, index, marked, slot}
 use Rattle.arena.specs.Laws.{below-at, below-more}
 use Rattle.plan_context.specs.View.{treeOf, forest, Arena, Here, Over}
 use Rattle.plan_context.specs.Laws.{here, theres, facts-at, length-facts}
 use Rattle.plan_context.specs.Nodes.{rule, Seen, seen}
 use Rattle.plan_context.specs.Facts.{Tells}
+use Rattle.plan_context.specs.ProperRecords.{over-proper}
 
 -- The tree at the handle h is one of the arena's
 pub record Standing (m : List ℕ) (u h : ℕ) : Type 0 where
   pub arena : Arena m u
   pub here : h < 2 * u
 
--- ---- records of nodes are proper
-
-columns-of : (o : Op) (ws : List ℕ) → nodeOk o ws ≡ true → columnsOk o ws ≡ true
-columns-of o ws e = search (and-left, and-right)
-
-abbrev Narrow : Facts → Type 0
-Narrow F = leb (F .width) 32 ≡ true
-
-narrow-all : (f : Plan) → Ok f → All Narrow (facts f)
-narrow-all none h = all-nil
-narrow-all (tree o c r) h = all-cons (narrow o (facts c) (h .0)) (narrow-all r (h .2))
-
-pub over-proper : (m r ks : List ℕ) → Over m r ks → Proper r
-over-proper m r ks a =
-    let fs : List Facts = known (forest m ks) in
-    let w : (j : ℕ) → getD (map (λ F. F .width) (known (forest m ks))) j 0 ≤ 32 =
-    (λ j. let x = leb-true (getD (known (forest m ks)) j nothing .width) 32 (all-nth nothing refl (narrow-all (strip (forest m ks)) (a .ok .1)) j) in let y = nth-width (known (forest m ks)) j in omega arith) in
-    encoded.proper r (length ks) (map (λ F. F .width) (known (forest m ks))) (a .canon) (rule m r ks a .fields) (columns-of (decode r) (map (λ F. F .width) (known (forest m ks))) (a .ok .0)) (w 0) (w 1)
+-- ---- records
 
 -- the operator of a kind
 op-of : (r : List ℕ) (k : Kind) → kindOf (getD r 0 0) ≡ k → decode r ≡ operatorOf k (fromBytes r)

@@ -10,8 +10,9 @@ use Rattle.record_fields.specs.Proper.{Proper}
 use Rattle.arena.specs.Arena.{index, slot}
 use Rattle.walks.specs.Marks.{sizeT}
 use Rattle.plan_context.specs.View.{treeOf}
+use Rattle.plan_context.specs.ChildLoop.{node-room, few-kids}
 use Rattle.parallelize_sorts.specs.Shown.{node-proper}
-use Rattle.parallelize_sorts.specs.Removing.{Going, own, shown, own-asks, stays, first-lifts, first-grown, others, going-none, node-room, few-kids, going-next, going-more, end-puts, end-grown}
+use Rattle.parallelize_sorts.specs.Removing.{Going, own, shown, own-asks, stays, first-lifts, first-grown, others, going-none, going-next, going-more, end-puts, end-grown}
 use borrow.Fn.Kinds.{In}
 use borrow.Fn.PlainCycle.{Measures, is, falls, and}
 use Rattle.parallelize_sorts.proofs.bottlenecks.remove_bottleneck_in_subplan_impl.Reads as reads
@@ -86,7 +87,7 @@ loop-holds : (t : ℕ) → lts.Need-loop-holds (calls t) (given t) reads.Post In
 loop-holds t c = ((c .child-count) .ensures ∙ shown ((c .before .before .before .before .before .before .before .before .before .before .before .before) .args .m .now) ((c .before .before .before .before .before .before .before .before .before .before .before .before) .args .u) ((c .before .before .before .before .before .before .before .before .before .before .before .before) .args .h) ((c .before .before .before .before .before .before .before .before .before .before .before .before) .pre .1) .count, omega arith, going-none ((c .before .before .before .before .before .before .before .before .before .before .before .before) .args .m .now) ((c .before .before .before .before .before .before .before .before .before .before .before .before) .args .u) ((c .before .before .before .before .before .before .before .before .before .before .before .before) .args .h) ((c .before .before .before .before .before .before .before .before .before .before .before .before) .pre .1) (replicate 8 0) refl)
 
 child-requires : (t : ℕ) → lts.Need-child-requires (calls t) (given t) reads.Post Inv-loop μ-loop
-child-requires t c κs = let i₀ = (c .before .before .loop) .inv .0 in let i₁ = (c .before .before .loop) .inv .1 in let f = few-kids ((c .before .before .before .before .before .before .before .before .before .before .before .before .before .before .before) .args .m .now) ((c .before .before .before .before .before .before .before .before .before .before .before .before .before .before .before) .args .u) ((c .before .before .before .before .before .before .before .before .before .before .before .before .before .before .before) .args .h) ((c .before .before .before .before .before .before .before .before .before .before .before .before .before .before .before) .pre .1) ((c .before .before .loop) .j) ((c .before .before .loop) .w) ((c .before .before .loop) .kids) ((c .before .before .loop) .m) ((c .before .before .loop) .inv .2) in let f₀ = f .0 in let f₁ = f .1 in let wd = (c .before .before .loop) .inv .2 .made .wide in let x = (c .before .loop-test) .taken in (node-room ((c .before .before .before .before .before .before .before .before .before .before .before .before .before .before .before) .args .m .now) ((c .before .before .before .before .before .before .before .before .before .before .before .before .before .before .before) .args .u) ((c .before .before .before .before .before .before .before .before .before .before .before .before .before .before .before) .args .h) ((c .before .before .before .before .before .before .before .before .before .before .before .before .before .before .before) .pre .1) ((c .before .before .loop) .j) ((c .before .before .loop) .w) ((c .before .before .loop) .kids) ((c .before .before .loop) .m) ((c .before .before .loop) .inv .2), omega arith, f .0)
+child-requires t c κs = let i₀ = (c .before .before .loop) .inv .0 in let i₁ = (c .before .before .loop) .inv .1 in let f = few-kids ((c .before .before .before .before .before .before .before .before .before .before .before .before .before .before .before) .pre .1 .arena) ((c .before .before .before .before .before .before .before .before .before .before .before .before .before .before .before) .pre .1 .here) ((c .before .before .loop) .inv .2 .made) in let f₀ = f .0 in let f₁ = f .1 in let wd = (c .before .before .loop) .inv .2 .made .wide in let x = (c .before .loop-test) .taken in (node-room ((c .before .before .before .before .before .before .before .before .before .before .before .before .before .before .before) .pre .1 .arena) ((c .before .before .before .before .before .before .before .before .before .before .before .before .before .before .before) .pre .1 .here) ((c .before .before .loop) .inv .2 .made), omega arith, f .0)
 
 slice-aggregate-wants-single : (t : ℕ) → lts.Need-slice-aggregate-wants-single (calls t) (given t) reads.Post Inv-loop μ-loop
 slice-aggregate-wants-single t c = search needs
@@ -98,13 +99,13 @@ remove-bottleneck-in-subplan-impl-requires : (t : ℕ) → lts.Need-remove-bottl
 remove-bottleneck-in-subplan-impl-requires t c κs = let i₀ = (c .before .before .before .before .before .before .loop) .inv .0 in let x = (c .before .before .before .before .before .loop-test) .taken in let q = going-next ((c .before .before .before .before .before .before .before .before .before .before .before .before .before .before .before .before .before .before .before) .args .m .now) ((c .before .before .before .before .before .before .before .before .before .before .before .before .before .before .before .before .before .before .before) .args .u) ((c .before .before .before .before .before .before .before .before .before .before .before .before .before .before .before .before .before .before .before) .args .h) ((c .before .before .before .before .before .before .before .before .before .before .before .before .before .before .before .before .before .before .before) .pre .1) ((c .before .before .before .before .before .before .loop) .j) ((c .before .before .before .before .before .before .loop) .w) ((c .before .before .before .before .before .before .loop) .kids) ((c .before .before .before .before .before .before .loop) .m) ((c .before .before .before .before .before .before .loop) .inv .2) (omega arith) ((c .before .before .before .child) .result) ((c .before .before .before .child) .ensures) in let q₀ = q .0 in let g = (c .before .before .before .before .before .before .before .before .before .before .before .before .before .before .before .before .before .before .before) .pre .0 in (omega arith, q .1)
 
 mul-kids : (t : ℕ) → lts.Need-mul-kids (calls t) (given t) reads.Post Inv-loop μ-loop
-mul-kids t c = let i₀ = (c .before .before .before .before .before .before .before .before .before .loop) .inv .0 in let i₁ = (c .before .before .before .before .before .before .before .before .before .loop) .inv .1 in let f = few-kids ((c .before .before .before .before .before .before .before .before .before .before .before .before .before .before .before .before .before .before .before .before .before .before) .args .m .now) ((c .before .before .before .before .before .before .before .before .before .before .before .before .before .before .before .before .before .before .before .before .before .before) .args .u) ((c .before .before .before .before .before .before .before .before .before .before .before .before .before .before .before .before .before .before .before .before .before .before) .args .h) ((c .before .before .before .before .before .before .before .before .before .before .before .before .before .before .before .before .before .before .before .before .before .before) .pre .1) ((c .before .before .before .before .before .before .before .before .before .loop) .j) ((c .before .before .before .before .before .before .before .before .before .loop) .w) ((c .before .before .before .before .before .before .before .before .before .loop) .kids) ((c .before .before .before .before .before .before .before .before .before .loop) .m) ((c .before .before .before .before .before .before .before .before .before .loop) .inv .2) in let f₀ = f .0 in let f₁ = f .1 in let wd = (c .before .before .before .before .before .before .before .before .before .loop) .inv .2 .made .wide in let x = (c .before .before .before .before .before .before .before .before .loop-test) .taken in omega arith
+mul-kids t c = let i₀ = (c .before .before .before .before .before .before .before .before .before .loop) .inv .0 in let i₁ = (c .before .before .before .before .before .before .before .before .before .loop) .inv .1 in let f = few-kids ((c .before .before .before .before .before .before .before .before .before .before .before .before .before .before .before .before .before .before .before .before .before .before) .pre .1 .arena) ((c .before .before .before .before .before .before .before .before .before .before .before .before .before .before .before .before .before .before .before .before .before .before) .pre .1 .here) ((c .before .before .before .before .before .before .before .before .before .loop) .inv .2 .made) in let f₀ = f .0 in let f₁ = f .1 in let wd = (c .before .before .before .before .before .before .before .before .before .loop) .inv .2 .made .wide in let x = (c .before .before .before .before .before .before .before .before .loop-test) .taken in omega arith
 
 array-write-kids : (t : ℕ) → lts.Need-array-write-kids (calls t) (given t) reads.Post Inv-loop μ-loop
-array-write-kids t c = let i₀ = (c .before .before .before .before .before .before .before .before .before .loop) .inv .0 in let i₁ = (c .before .before .before .before .before .before .before .before .before .loop) .inv .1 in let f = few-kids ((c .before .before .before .before .before .before .before .before .before .before .before .before .before .before .before .before .before .before .before .before .before .before) .args .m .now) ((c .before .before .before .before .before .before .before .before .before .before .before .before .before .before .before .before .before .before .before .before .before .before) .args .u) ((c .before .before .before .before .before .before .before .before .before .before .before .before .before .before .before .before .before .before .before .before .before .before) .args .h) ((c .before .before .before .before .before .before .before .before .before .before .before .before .before .before .before .before .before .before .before .before .before .before) .pre .1) ((c .before .before .before .before .before .before .before .before .before .loop) .j) ((c .before .before .before .before .before .before .before .before .before .loop) .w) ((c .before .before .before .before .before .before .before .before .before .loop) .kids) ((c .before .before .before .before .before .before .before .before .before .loop) .m) ((c .before .before .before .before .before .before .before .before .before .loop) .inv .2) in let f₀ = f .0 in let f₁ = f .1 in let wd = (c .before .before .before .before .before .before .before .before .before .loop) .inv .2 .made .wide in let x = (c .before .before .before .before .before .before .before .before .loop-test) .taken in omega arith
+array-write-kids t c = let i₀ = (c .before .before .before .before .before .before .before .before .before .loop) .inv .0 in let i₁ = (c .before .before .before .before .before .before .before .before .before .loop) .inv .1 in let f = few-kids ((c .before .before .before .before .before .before .before .before .before .before .before .before .before .before .before .before .before .before .before .before .before .before) .pre .1 .arena) ((c .before .before .before .before .before .before .before .before .before .before .before .before .before .before .before .before .before .before .before .before .before .before) .pre .1 .here) ((c .before .before .before .before .before .before .before .before .before .loop) .inv .2 .made) in let f₀ = f .0 in let f₁ = f .1 in let wd = (c .before .before .before .before .before .before .before .before .before .loop) .inv .2 .made .wide in let x = (c .before .before .before .before .before .before .before .before .loop-test) .taken in omega arith
 
 add-j : (t : ℕ) → lts.Need-add-j (calls t) (given t) reads.Post Inv-loop μ-loop
-add-j t c = let i₀ = (c .before .before .before .before .before .before .before .before .before .loop) .inv .0 in let i₁ = (c .before .before .before .before .before .before .before .before .before .loop) .inv .1 in let f = few-kids ((c .before .before .before .before .before .before .before .before .before .before .before .before .before .before .before .before .before .before .before .before .before .before) .args .m .now) ((c .before .before .before .before .before .before .before .before .before .before .before .before .before .before .before .before .before .before .before .before .before .before) .args .u) ((c .before .before .before .before .before .before .before .before .before .before .before .before .before .before .before .before .before .before .before .before .before .before) .args .h) ((c .before .before .before .before .before .before .before .before .before .before .before .before .before .before .before .before .before .before .before .before .before .before) .pre .1) ((c .before .before .before .before .before .before .before .before .before .loop) .j) ((c .before .before .before .before .before .before .before .before .before .loop) .w) ((c .before .before .before .before .before .before .before .before .before .loop) .kids) ((c .before .before .before .before .before .before .before .before .before .loop) .m) ((c .before .before .before .before .before .before .before .before .before .loop) .inv .2) in let f₀ = f .0 in let f₁ = f .1 in let wd = (c .before .before .before .before .before .before .before .before .before .loop) .inv .2 .made .wide in let x = (c .before .before .before .before .before .before .before .before .loop-test) .taken in omega arith
+add-j t c = let i₀ = (c .before .before .before .before .before .before .before .before .before .loop) .inv .0 in let i₁ = (c .before .before .before .before .before .before .before .before .before .loop) .inv .1 in let f = few-kids ((c .before .before .before .before .before .before .before .before .before .before .before .before .before .before .before .before .before .before .before .before .before .before) .pre .1 .arena) ((c .before .before .before .before .before .before .before .before .before .before .before .before .before .before .before .before .before .before .before .before .before .before) .pre .1 .here) ((c .before .before .before .before .before .before .before .before .before .loop) .inv .2 .made) in let f₀ = f .0 in let f₁ = f .1 in let wd = (c .before .before .before .before .before .before .before .before .before .loop) .inv .2 .made .wide in let x = (c .before .before .before .before .before .before .before .before .loop-test) .taken in omega arith
 
 loop-less : (t : ℕ) → lts.Need-loop-less (calls t) (given t) reads.Post Inv-loop μ-loop
 loop-less t c = let x = (c .before .before .before .before .before .before .before .before .loop-test) .taken in omega arith
@@ -116,10 +117,10 @@ slice-aggregate-without-idle : (t : ℕ) → lts.Need-slice-aggregate-without-id
 slice-aggregate-without-idle t c = search needs
 
 array-share-prefix-kids : (t : ℕ) → lts.Need-array-share-prefix-kids (calls t) (given t) reads.Post Inv-loop μ-loop
-array-share-prefix-kids t c = let i₀ = (c .before .before .before .loop) .inv .0 in let i₁ = (c .before .before .before .loop) .inv .1 in let f = few-kids ((c .before .before .before .before .before .before .before .before .before .before .before .before .before .before .before .before) .args .m .now) ((c .before .before .before .before .before .before .before .before .before .before .before .before .before .before .before .before) .args .u) ((c .before .before .before .before .before .before .before .before .before .before .before .before .before .before .before .before) .args .h) ((c .before .before .before .before .before .before .before .before .before .before .before .before .before .before .before .before) .pre .1) ((c .before .before .before .loop) .j) ((c .before .before .before .loop) .w) ((c .before .before .before .loop) .kids) ((c .before .before .before .loop) .m) ((c .before .before .before .loop) .inv .2) in let f₀ = f .0 in let f₁ = f .1 in let wd = (c .before .before .before .loop) .inv .2 .made .wide in let x = (c .before .before .loop-test) .left in omega arith
+array-share-prefix-kids t c = let i₀ = (c .before .before .before .loop) .inv .0 in let i₁ = (c .before .before .before .loop) .inv .1 in let f = few-kids ((c .before .before .before .before .before .before .before .before .before .before .before .before .before .before .before .before) .pre .1 .arena) ((c .before .before .before .before .before .before .before .before .before .before .before .before .before .before .before .before) .pre .1 .here) ((c .before .before .before .loop) .inv .2 .made) in let f₀ = f .0 in let f₁ = f .1 in let wd = (c .before .before .before .loop) .inv .2 .made .wide in let x = (c .before .before .loop-test) .left in omega arith
 
 slice-aggregate-without-idle-2 : (t : ℕ) → lts.Need-slice-aggregate-without-idle-2 (calls t) (given t) reads.Post Inv-loop μ-loop
-slice-aggregate-without-idle-2 t c = let i₀ = (c .before .before .before .before .loop) .inv .0 in let i₁ = (c .before .before .before .before .loop) .inv .1 in let f = few-kids ((c .before .before .before .before .before .before .before .before .before .before .before .before .before .before .before .before .before) .args .m .now) ((c .before .before .before .before .before .before .before .before .before .before .before .before .before .before .before .before .before) .args .u) ((c .before .before .before .before .before .before .before .before .before .before .before .before .before .before .before .before .before) .args .h) ((c .before .before .before .before .before .before .before .before .before .before .before .before .before .before .before .before .before) .pre .1) ((c .before .before .before .before .loop) .j) ((c .before .before .before .before .loop) .w) ((c .before .before .before .before .loop) .kids) ((c .before .before .before .before .loop) .m) ((c .before .before .before .before .loop) .inv .2) in let f₀ = f .0 in let f₁ = f .1 in let wd = (c .before .before .before .before .loop) .inv .2 .made .wide in let x = (c .before .before .before .loop-test) .left in sym (length-take-le _ ((c .before .before .before .before .loop) .kids) (omega arith))
+slice-aggregate-without-idle-2 t c = let i₀ = (c .before .before .before .before .loop) .inv .0 in let i₁ = (c .before .before .before .before .loop) .inv .1 in let f = few-kids ((c .before .before .before .before .before .before .before .before .before .before .before .before .before .before .before .before .before) .pre .1 .arena) ((c .before .before .before .before .before .before .before .before .before .before .before .before .before .before .before .before .before) .pre .1 .here) ((c .before .before .before .before .loop) .inv .2 .made) in let f₀ = f .0 in let f₁ = f .1 in let wd = (c .before .before .before .before .loop) .inv .2 .made .wide in let x = (c .before .before .before .loop-test) .left in sym (length-take-le _ ((c .before .before .before .before .loop) .kids) (omega arith))
 
 without-idle-requires : (t : ℕ) → lts.Need-without-idle-requires (calls t) (given t) reads.Post Inv-loop μ-loop
 without-idle-requires t c κs = let i₀ = (c .before .before .before .before .loop) .inv .0 in let i₁ = (c .before .before .before .before .loop) .inv .1 in let x = (c .before .before .before .loop-test) .left in end-puts ((c .before .before .before .before .before .before .before .before .before .before .before .before .before .before .before .before .before) .args .m .now) ((c .before .before .before .before .before .before .before .before .before .before .before .before .before .before .before .before .before) .args .u) ((c .before .before .before .before .before .before .before .before .before .before .before .before .before .before .before .before .before) .args .h) ((c .before .before .before .before .before .before .before .before .before .before .before .before .before .before .before .before .before) .pre .1) ((c .before .before .before .before .loop) .j) ((c .before .before .before .before .loop) .w) ((c .before .before .before .before .loop) .kids) ((c .before .before .before .before .loop) .m) ((c .before .before .before .before .loop) .inv .2) _ (omega arith) i₀ _ ((c .before .before .before .before .before .before .before .before .before .before .before .read64) .ensures ∙ (c .before .before .before .before .before .before .before .before .before .before .before .before .record-at) .ensures)

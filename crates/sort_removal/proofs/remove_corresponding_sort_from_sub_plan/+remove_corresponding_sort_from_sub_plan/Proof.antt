@@ -11,7 +11,8 @@ use Rattle.arena.specs.Arena.{index, slot}
 use Rattle.walks.specs.Marks.{sizeT}
 use Rattle.plan_context.specs.View.{treeOf}
 use Rattle.sort_removal.specs.Standing.{view, slot-room, own-proper, is-code, not-code}
-use Rattle.sort_removal.specs.Recursion.{Going, standing, unmarked, going-none, same-slot, node-room, few-kids, going-next, going-more, going-rems, end-asks, going-end}
+use Rattle.plan_context.specs.ChildLoop.{same-slot, node-room, few-kids}
+use Rattle.sort_removal.specs.Recursion.{Going, standing, unmarked, going-none, going-next, going-more, going-rems, end-asks, going-end}
 use borrow.Fn.Kinds.{In}
 use borrow.Fn.PlainCycle.{Measures, is, falls, and}
 use Rattle.sort_removal.proofs.remove_corresponding_sort_from_sub_plan.remove_corresponding_sort_from_sub_plan.Reads as remove-corresponding-sort-from-sub-plan
@@ -168,7 +169,7 @@ remove-corresponding-sort-from-sub-plan-loop-holds :
     remove-corresponding-sort-from-sub-plan.Post
     remove-corresponding-sort-from-sub-plan-Inv-loop
     remove-corresponding-sort-from-sub-plan-μ-loop
-remove-corresponding-sort-from-sub-plan-loop-holds t c = let s = c .before .before .before .before .before .before .before .before .before .before .before in let g = going-none (s .args .m .now) (s .args .u) (s .args .h) (s .pre .1) (replicate 8 0) refl in (c .child-count .ensures ∙ few-kids (s .args .m .now) (s .args .u) (s .args .h) (s .pre .1) 0 (s .args .u) (replicate 8 0) (s .args .m .now) g .1, omega arith, g)
+remove-corresponding-sort-from-sub-plan-loop-holds t c = let s = c .before .before .before .before .before .before .before .before .before .before .before in let g = going-none (s .args .m .now) (s .args .u) (s .args .h) (s .pre .1) (replicate 8 0) refl in (c .child-count .ensures ∙ few-kids (s .pre .1 .arena) (s .pre .1 .here) (g .made) .1, omega arith, g)
 
 remove-corresponding-sort-from-sub-plan-child-requires :
     (t : ℕ) → remove-corresponding-sort-from-sub-plan-lts.Need-child-requires (calls t)
@@ -176,7 +177,7 @@ remove-corresponding-sort-from-sub-plan-child-requires :
     remove-corresponding-sort-from-sub-plan.Post
     remove-corresponding-sort-from-sub-plan-Inv-loop
     remove-corresponding-sort-from-sub-plan-μ-loop
-remove-corresponding-sort-from-sub-plan-child-requires t c κs = let s = c .before .before .before .before .before .before .before .before .before .before .before .before .before .before in let l = c .before .before .loop in let i₀ = l .inv .0 in let i₁ = l .inv .1 in let x = c .before .loop-test .taken in let f = few-kids (s .args .m .now) (s .args .u) (s .args .h) (s .pre .1) (l .j) (l .w) (l .kids) (l .m) (l .inv .2) in let f₀ = f .0 in let f₁ = f .1 in let wd = l .inv .2 .made .wide in (node-room (s .args .m .now) (s .args .u) (s .args .h) (s .pre .1) (l .j) (l .w) (l .kids) (l .m) (l .inv .2), omega arith, f .0)
+remove-corresponding-sort-from-sub-plan-child-requires t c κs = let s = c .before .before .before .before .before .before .before .before .before .before .before .before .before .before in let l = c .before .before .loop in let i₀ = l .inv .0 in let i₁ = l .inv .1 in let x = c .before .loop-test .taken in let f = few-kids (s .pre .1 .arena) (s .pre .1 .here) (l .inv .2 .made) in let f₀ = f .0 in let f₁ = f .1 in let wd = l .inv .2 .made .wide in (node-room (s .pre .1 .arena) (s .pre .1 .here) (l .inv .2 .made), omega arith, f .0)
 
 remove-corresponding-sort-from-sub-plan-slice-aggregate-wants-single :
     (t : ℕ) → remove-corresponding-sort-from-sub-plan-lts.Need-slice-aggregate-wants-single (calls t)
@@ -209,7 +210,7 @@ remove-corresponding-sort-from-sub-plan-mul-kids :
     remove-corresponding-sort-from-sub-plan.Post
     remove-corresponding-sort-from-sub-plan-Inv-loop
     remove-corresponding-sort-from-sub-plan-μ-loop
-remove-corresponding-sort-from-sub-plan-mul-kids t c = let s = c .before .before .before .before .before .before .before .before .before .before .before .before .before .before .before .before .before .before .before .before .before in let l = c .before .before .before .before .before .before .before .before .before .loop in let i₀ = l .inv .0 in let i₁ = l .inv .1 in let x = c .before .before .before .before .before .before .before .before .loop-test .taken in let f = few-kids (s .args .m .now) (s .args .u) (s .args .h) (s .pre .1) (l .j) (l .w) (l .kids) (l .m) (l .inv .2) in let f₀ = f .0 in let f₁ = f .1 in let wd = l .inv .2 .made .wide in omega arith
+remove-corresponding-sort-from-sub-plan-mul-kids t c = let s = c .before .before .before .before .before .before .before .before .before .before .before .before .before .before .before .before .before .before .before .before .before in let l = c .before .before .before .before .before .before .before .before .before .loop in let i₀ = l .inv .0 in let i₁ = l .inv .1 in let x = c .before .before .before .before .before .before .before .before .loop-test .taken in let f = few-kids (s .pre .1 .arena) (s .pre .1 .here) (l .inv .2 .made) in let f₀ = f .0 in let f₁ = f .1 in let wd = l .inv .2 .made .wide in omega arith
 
 remove-corresponding-sort-from-sub-plan-array-write-kids :
     (t : ℕ) → remove-corresponding-sort-from-sub-plan-lts.Need-array-write-kids (calls t)
@@ -217,7 +218,7 @@ remove-corresponding-sort-from-sub-plan-array-write-kids :
     remove-corresponding-sort-from-sub-plan.Post
     remove-corresponding-sort-from-sub-plan-Inv-loop
     remove-corresponding-sort-from-sub-plan-μ-loop
-remove-corresponding-sort-from-sub-plan-array-write-kids t c = let s = c .before .before .before .before .before .before .before .before .before .before .before .before .before .before .before .before .before .before .before .before .before in let l = c .before .before .before .before .before .before .before .before .before .loop in let i₀ = l .inv .0 in let i₁ = l .inv .1 in let x = c .before .before .before .before .before .before .before .before .loop-test .taken in let f = few-kids (s .args .m .now) (s .args .u) (s .args .h) (s .pre .1) (l .j) (l .w) (l .kids) (l .m) (l .inv .2) in let f₀ = f .0 in let f₁ = f .1 in let wd = l .inv .2 .made .wide in omega arith
+remove-corresponding-sort-from-sub-plan-array-write-kids t c = let s = c .before .before .before .before .before .before .before .before .before .before .before .before .before .before .before .before .before .before .before .before .before in let l = c .before .before .before .before .before .before .before .before .before .loop in let i₀ = l .inv .0 in let i₁ = l .inv .1 in let x = c .before .before .before .before .before .before .before .before .loop-test .taken in let f = few-kids (s .pre .1 .arena) (s .pre .1 .here) (l .inv .2 .made) in let f₀ = f .0 in let f₁ = f .1 in let wd = l .inv .2 .made .wide in omega arith
 
 remove-corresponding-sort-from-sub-plan-add-j :
     (t : ℕ) → remove-corresponding-sort-from-sub-plan-lts.Need-add-j (calls t)
@@ -225,7 +226,7 @@ remove-corresponding-sort-from-sub-plan-add-j :
     remove-corresponding-sort-from-sub-plan.Post
     remove-corresponding-sort-from-sub-plan-Inv-loop
     remove-corresponding-sort-from-sub-plan-μ-loop
-remove-corresponding-sort-from-sub-plan-add-j t c = let s = c .before .before .before .before .before .before .before .before .before .before .before .before .before .before .before .before .before .before .before .before .before in let l = c .before .before .before .before .before .before .before .before .before .loop in let i₀ = l .inv .0 in let i₁ = l .inv .1 in let x = c .before .before .before .before .before .before .before .before .loop-test .taken in let f = few-kids (s .args .m .now) (s .args .u) (s .args .h) (s .pre .1) (l .j) (l .w) (l .kids) (l .m) (l .inv .2) in let f₀ = f .0 in let f₁ = f .1 in let wd = l .inv .2 .made .wide in omega arith
+remove-corresponding-sort-from-sub-plan-add-j t c = let s = c .before .before .before .before .before .before .before .before .before .before .before .before .before .before .before .before .before .before .before .before .before in let l = c .before .before .before .before .before .before .before .before .before .loop in let i₀ = l .inv .0 in let i₁ = l .inv .1 in let x = c .before .before .before .before .before .before .before .before .loop-test .taken in let f = few-kids (s .pre .1 .arena) (s .pre .1 .here) (l .inv .2 .made) in let f₀ = f .0 in let f₁ = f .1 in let wd = l .inv .2 .made .wide in omega arith
 
 remove-corresponding-sort-from-sub-plan-loop-less :
     (t : ℕ) → remove-corresponding-sort-from-sub-plan-lts.Need-loop-less (calls t)
@@ -257,7 +258,7 @@ remove-corresponding-sort-from-sub-plan-array-borrow-prefix-kids :
     remove-corresponding-sort-from-sub-plan.Post
     remove-corresponding-sort-from-sub-plan-Inv-loop
     remove-corresponding-sort-from-sub-plan-μ-loop
-remove-corresponding-sort-from-sub-plan-array-borrow-prefix-kids t c = let s = c .before .before .before .before .before .before .before .before .before .before .before .before .before .before .before in let l = c .before .before .before .loop in let i₀ = l .inv .0 in let i₁ = l .inv .1 in let x = c .before .before .loop-test .left in let f = few-kids (s .args .m .now) (s .args .u) (s .args .h) (s .pre .1) (l .j) (l .w) (l .kids) (l .m) (l .inv .2) in let f₀ = f .0 in let f₁ = f .1 in let wd = l .inv .2 .made .wide in omega arith
+remove-corresponding-sort-from-sub-plan-array-borrow-prefix-kids t c = let s = c .before .before .before .before .before .before .before .before .before .before .before .before .before .before .before in let l = c .before .before .before .loop in let i₀ = l .inv .0 in let i₁ = l .inv .1 in let x = c .before .before .loop-test .left in let f = few-kids (s .pre .1 .arena) (s .pre .1 .here) (l .inv .2 .made) in let f₀ = f .0 in let f₁ = f .1 in let wd = l .inv .2 .made .wide in omega arith
 
 remove-corresponding-sort-from-sub-plan-slice-aggregate-remove-by-2 :
     (t : ℕ) → remove-corresponding-sort-from-sub-plan-lts.Need-slice-aggregate-remove-by-2 (calls t)
@@ -265,7 +266,7 @@ remove-corresponding-sort-from-sub-plan-slice-aggregate-remove-by-2 :
     remove-corresponding-sort-from-sub-plan.Post
     remove-corresponding-sort-from-sub-plan-Inv-loop
     remove-corresponding-sort-from-sub-plan-μ-loop
-remove-corresponding-sort-from-sub-plan-slice-aggregate-remove-by-2 t c = let s = c .before .before .before .before .before .before .before .before .before .before .before .before .before .before .before .before in let l = c .before .before .before .before .loop in let i₀ = l .inv .0 in let i₁ = l .inv .1 in let x = c .before .before .before .loop-test .left in let f = few-kids (s .args .m .now) (s .args .u) (s .args .h) (s .pre .1) (l .j) (l .w) (l .kids) (l .m) (l .inv .2) in let f₀ = f .0 in let f₁ = f .1 in let wd = l .inv .2 .made .wide in sym (length-take-le _ (l .kids) (omega arith))
+remove-corresponding-sort-from-sub-plan-slice-aggregate-remove-by-2 t c = let s = c .before .before .before .before .before .before .before .before .before .before .before .before .before .before .before .before in let l = c .before .before .before .before .loop in let i₀ = l .inv .0 in let i₁ = l .inv .1 in let x = c .before .before .before .loop-test .left in let f = few-kids (s .pre .1 .arena) (s .pre .1 .here) (l .inv .2 .made) in let f₀ = f .0 in let f₁ = f .1 in let wd = l .inv .2 .made .wide in sym (length-take-le _ (l .kids) (omega arith))
 
 remove-corresponding-sort-from-sub-plan-remove-by-requires :
     (t : ℕ) → remove-corresponding-sort-from-sub-plan-lts.Need-remove-by-requires (calls t)
@@ -273,7 +274,7 @@ remove-corresponding-sort-from-sub-plan-remove-by-requires :
     remove-corresponding-sort-from-sub-plan.Post
     remove-corresponding-sort-from-sub-plan-Inv-loop
     remove-corresponding-sort-from-sub-plan-μ-loop
-remove-corresponding-sort-from-sub-plan-remove-by-requires t c κs = let s = c .before .before .before .before .before .before .before .before .before .before .before .before .before .before .before .before in let l = c .before .before .before .before .loop in let i₀ = l .inv .0 in let i₁ = l .inv .1 in let x = c .before .before .before .loop-test .left in (going-rems (s .args .m .now) (s .args .u) (s .args .h) (s .pre .1) (l .j) (l .w) (l .kids) (l .m) (l .inv .2) _ (omega arith) i₀, (c .before .before .before .before .before .before .before .before .before .before .read64 .ensures ∙ c .before .before .before .before .before .before .before .before .before .before .before .record-at .ensures) ∙ ap (λ k. k .rec) (sym (same-slot (s .args .m .now) (s .args .u) (s .args .h) (s .pre .1) (l .j) (l .w) (l .kids) (l .m) (l .inv .2))), not-code (decode (c .before .before .before .before .before .before .before .before .before .before .read64 .result)) 7 _ (c .before .before .before .before .before .before .before .before .is-sort .ensures) (c .before .before .before .before .before .before .before .if2 .left))
+remove-corresponding-sort-from-sub-plan-remove-by-requires t c κs = let s = c .before .before .before .before .before .before .before .before .before .before .before .before .before .before .before .before in let l = c .before .before .before .before .loop in let i₀ = l .inv .0 in let i₁ = l .inv .1 in let x = c .before .before .before .loop-test .left in (going-rems (s .args .m .now) (s .args .u) (s .args .h) (s .pre .1) (l .j) (l .w) (l .kids) (l .m) (l .inv .2) _ (omega arith) i₀, (c .before .before .before .before .before .before .before .before .before .before .read64 .ensures ∙ c .before .before .before .before .before .before .before .before .before .before .before .record-at .ensures) ∙ ap (λ k. k .rec) (sym (same-slot (s .pre .1 .arena) (s .pre .1 .here) (l .inv .2 .made))), not-code (decode (c .before .before .before .before .before .before .before .before .before .before .read64 .result)) 7 _ (c .before .before .before .before .before .before .before .before .is-sort .ensures) (c .before .before .before .before .before .before .before .if2 .left))
 
 remove-corresponding-sort-from-sub-plan-with-single-stream-requires :
     (t : ℕ) → remove-corresponding-sort-from-sub-plan-lts.Need-with-single-stream-requires (calls t)
