@@ -1,14 +1,4 @@
-// This crate is its specs: what is demanded, as theorems. One function ties them to the code.
-ghost use mathlib.Core.Path.{_≡_};
-ghost use mathlib.Core.Bool.{true};
-ghost use Rattle.demands.specs.CheckedFiles.{Holding, FeedsInOrder};
-
-// Whether a file holds a plan that passes the order check. If it does, no run of the plan, over rows that keep its declared facts,
-// feeds an operator out of order.
-pub fn feeds_in_order(plan: &[u8]) -> bool
-    ensures { λ r. ⌜ (r ≡ true → Holding (now (plan .entry)) FeedsInOrder) ⌝ }
-{
-    let mut passes = 0;
-    let number = sort_placement::check_order(plan, &mut passes);
-    number == 0 && passes == 1
+// This crate is its specs: what is demanded, as theorems. Crate feeds_in_order ties them to the code. A crate needs a function.
+pub fn nothing() -> u64 {
+    0
 }

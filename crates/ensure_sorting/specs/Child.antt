@@ -18,7 +18,7 @@ use Rattle.key_lists.specs.Keys.{keysIn, keysOf, orderOf, Real}
 use Rattle.key_lists.specs.declared.Keys.{Keys}
 use Rattle.key_lists.specs.declared.Order.{Order}
 use Rattle.key_lists.specs.declared.Order.the-variants.{Unordered, By}
-use Rattle.row_facts.specs.Asked.{told}
+use Rattle.asked_facts.specs.Asked.{told}
 use Rattle.arena.specs.Arena.{slotSize}
 use Rattle.arena.specs.declared.At.{At}
 use Rattle.walks.specs.Marks.{Tree, strip, plant, cover, opT, fact, sizeT, setMark}
@@ -33,8 +33,8 @@ use Rattle.walks.specs.EnsureSorting.{connected, updateSortCtxChildrenData, upd
 use Rattle.plan_context.specs.View.{treeOf, mostNodes, mostSlots, Arena, Grown}
 use Rattle.plan_context.specs.Facts.{Tells}
 use Rattle.plan_context.specs.Handles.{Marks}
-use Rattle.plan_context.specs.Covering.{Under, ok-of}
-use Rattle.plan_context.specs.Opening.{grown-none, grown-more, grown-then}
+use Rattle.plan_updates.specs.Covering.{Under, ok-of}
+use Rattle.plan_updates.specs.Opening.{grown-none, grown-more, grown-then}
 use Rattle.utils.specs.Sorting.{Sortable}
 use Rattle.sort_removal.specs.Standing.{Standing}
 use Rattle.sort_removal.specs.Sizes.{kids-size}

@@ -23,7 +23,7 @@ use Rattle.semantics.specs.Properties.{rebuilt}
 use Rattle.key_lists.specs.Keys.{keysOf, Keyed}
 use Rattle.key_lists.specs.declared.Keys.{Keys}
 use Rattle.record_fields.specs.Proper.{Proper}
-use Rattle.row_facts.specs.Asked.{told}
+use Rattle.asked_facts.specs.Asked.{told}
 use Rattle.arena.specs.Arena.{slotSize, index, slot, Below}
 use Rattle.arena.specs.declared.At.{At}
 use Rattle.arena.specs.Laws.{below-at}
@@ -36,7 +36,7 @@ use Rattle.plan_context.specs.Laws.{here, facts-at}
 use Rattle.plan_context.specs.Nodes.{counts-of}
 use Rattle.plan_context.specs.Facts.{Tells}
 use Rattle.plan_context.specs.Handles.{kid-is}
-use Rattle.plan_context.specs.Putting.{put-over}
+use Rattle.plan_updates.specs.Putting.{put-over}
 use Rattle.sort_removal.specs.Standing.{Standing, view, own-proper, merge-op, one-kid}
 use Rattle.sort_removal.specs.Connection.{Connected}
 use Rattle.sort_removal.specs.Sizes.{connected-size}

@@ -37,9 +37,9 @@ use Rattle.walks.specs.theorems.ensure.Kept.{ensureEach-kept}
 use Rattle.plan_context.specs.View.{treeOf, forest, mostNodes, mostSlots, Arena, Grown}
 use Rattle.plan_context.specs.Laws.{facts-at, length-facts, same-trans}
 use Rattle.plan_context.specs.Nodes.{Seen}
-use Rattle.plan_context.specs.Kids.{Kids, kids-none, kids-more, kids-forest}
-use Rattle.plan_context.specs.From.{from, from-first, from-next}
-use Rattle.plan_context.specs.ChildLoop.{drop-size, half, view, same-slot, same-tree, kid-below, kid-same, split, counted, new-below, new-kids}
+use Rattle.plan_updates.specs.Kids.{Kids, kids-none, kids-more, kids-forest}
+use Rattle.plan_updates.specs.From.{from, from-first, from-next}
+use Rattle.plan_updates.specs.ChildLoop.{drop-size, half, view, same-slot, same-tree, kid-below, kid-same, split, counted, new-below, new-kids}
 use Rattle.utils.specs.Sorting.{Sortable}
 use Rattle.sort_removal.specs.Standing.{Standing, tree-is}
 use Rattle.sort_removal.specs.Connection.{count-roots}

@@ -20,7 +20,7 @@ use Rattle.plan_codec.specs.Encode.{encode}
 use Rattle.semantics.specs.Facts.{facts, isNil, met, at0, knownOrder}
 use Rattle.key_lists.specs.Keys.{orderOf, Ordered}
 use Rattle.key_lists.specs.declared.Order.{Order}
-use Rattle.row_facts.specs.Asked.{told}
+use Rattle.asked_facts.specs.Asked.{told}
 use Rattle.arena.specs.Arena.{slotSize, index, slot}
 use Rattle.arena.specs.declared.At.{At}
 use Rattle.walks.specs.Marks.{Tree, strip, known, node, opT, fact, shape}
@@ -31,8 +31,8 @@ use Rattle.plan_context.specs.View.{treeOf, forest, mostNodes, mostSlots, Arena
 use Rattle.plan_context.specs.Laws.{facts-at}
 use Rattle.plan_context.specs.Nodes.{few-over}
 use Rattle.plan_context.specs.Facts.{Tells}
-use Rattle.plan_context.specs.Opened.{stepRoom, Opened}
-use Rattle.plan_context.specs.Opening.{opened-over, grown-none, grown-more, grown-then}
+use Rattle.plan_updates.specs.Opened.{stepRoom, Opened}
+use Rattle.plan_updates.specs.Opening.{opened-over, grown-none, grown-more, grown-then}
 use Rattle.sort_removal.specs.Standing.{Standing, view, tree-is, op-is, own-proper, sort-op, is-code, not-code}
 use Rattle.sort_removal.specs.Connection.{Connected}
 use Rattle.sort_removal.specs.Sizes.{connected-size}

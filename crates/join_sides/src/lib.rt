@@ -1,5 +1,7 @@
 // expr_source_side: on which side of a join the columns of an order stand; and orders moved back to a join's right side or through a
 // projection, and compared key by key (sort_pushdown.rs).
+use asked_facts::asked::lowest_equal;
+use asked_facts::asked::width;
 use key_lists::Keys;
 use key_lists::appended;
 use key_lists::drop_repeats;
@@ -9,8 +11,6 @@ use key_lists::same_key;
 use key_lists::with_column;
 use node_properties::child_column;
 use plan::JoinType;
-use row_facts::asked::lowest_equal;
-use row_facts::asked::width;
 use row_order::column;
 ghost use mathlib.Core.Path.{_≡_};
 ghost use mathlib.Core.List.{List, map};
@@ -27,7 +27,7 @@ ghost use Rattle.plan_codec.specs.Decode.{decode};
 ghost use Rattle.semantics.specs.Facts as sem;
 ghost use Rattle.key_lists.specs.Keys.{keysOf, Keyed};
 ghost use Rattle.record_fields.specs.Proper.{Proper};
-ghost use Rattle.row_facts.specs.Asked.{told, FactRow};
+ghost use Rattle.asked_facts.specs.Asked.{told, FactRow};
 ghost use Rattle.walks.specs.SortPushdown.{atColumn, onSide, eitherSide, exprSourceSide, noneEqual, addOffsetToPhysicalSortExprs, remapRequirementThroughProjection};
 ghost use Rattle.join_sides.specs.Sides.{sideColumn, lowestFrom, Valids, SideIs, Roomy};
 

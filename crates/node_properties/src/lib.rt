@@ -1,5 +1,8 @@
-// What the walks ask of a node's record (semantics, Properties): kinds, wanted orders and distributions, what it maintains, its fetch
-// and skip, boundedness, partitioning. A match on kinds stands here, and in the facts of a node, and nowhere else.
+// What the walks ask of a node's record (semantics, Properties): kinds, wanted orders and distributions, what it maintains, its fetch,
+// partitioning. A match on kinds stands here, and in the facts of a node, and nowhere else.
+use asked_facts::asked::equally_long;
+use asked_facts::asked::is_ordered;
+use asked_facts::asked::keeps_order;
 use byte_rows::wide;
 use key_lists::Keys;
 use key_lists::Order;
@@ -15,7 +18,6 @@ use record_fields::FETCH;
 use record_fields::KIND;
 use record_fields::MARKS;
 use record_fields::ROLE;
-use record_fields::SKIP;
 use record_fields::STREAMS;
 use record_fields::TAIL;
 use record_fields::WIDTH;
@@ -24,9 +26,6 @@ use record_fields::key_list;
 use record_fields::kind_of;
 use record_fields::preserves;
 use record_fields::right_key_list;
-use row_facts::asked::equally_long;
-use row_facts::asked::is_ordered;
-use row_facts::asked::keeps_order;
 ghost use mathlib.Core.Path.{_≡_};
 ghost use mathlib.Core.Bool.{Bool·beq};
 ghost use mathlib.Core.List.{List, [], _∷_};
@@ -42,12 +41,12 @@ ghost use Rattle.semantics.specs.Properties as node;
 ghost use Rattle.key_lists.specs.Keys.{keysOf, Keyed, Ordered};
 ghost use Rattle.plan_codec.specs.Decode.{decode, fromBytes, fetchOf, distributionOf};
 ghost use Rattle.record_fields.specs.Proper.{pairsOf, Proper};
-ghost use Rattle.row_facts.specs.Asked.{told, FactRow};
+ghost use Rattle.asked_facts.specs.Asked.{told, FactRow};
 ghost use Rattle.walks.specs.ParallelizeSorts.{samePartitioning};
 ghost use Rattle.walks.specs.OutputRequirements.{outputFetch};
 ghost use Rattle.node_properties.specs.Nodes.{Among};
 
-// ---- kinds: is_sort, is_union, is_sort_preserving_merge, is_coalesce_partitions, is_repartition and is_limit of utils.rs
+// ---- kinds: is_sort, is_sort_preserving_merge, is_coalesce_partitions, is_repartition and is_limit of utils.rs
 
 pub fn is_projection(r: &[u8]) -> bool
     requires { ⌜ Proper (now r) ⌝ }
@@ -449,8 +448,6 @@ pub fn cardinality_equal(r: &[u8]) -> bool
         Kind::PartialSort => false,
     }
 }
-
-// ---- boundedness
 
 // ---- partitionings
 

@@ -32,12 +32,12 @@ use Rattle.walks.specs.theorems.common.Skeleton.{pass-ease}
 use Rattle.walks.specs.theorems.parallelize.Kept.{without-self-kept}
 use Rattle.walks.specs.ParallelizeSorts.{withoutSelf, parallelBy, parallelizeSorts, updateCoalesceCtxChildren}
 use Rattle.plan_context.specs.View.{treeOf, forest, mostSlots, Arena, Grown, Here, Puts}
-use Rattle.plan_context.specs.Covering.{Under, cover-puts, cover-grown, ok-of}
+use Rattle.plan_updates.specs.Covering.{Under, cover-puts, cover-grown, ok-of}
 use Rattle.plan_context.specs.Laws.{here}
 use Rattle.plan_context.specs.Nodes.{rule}
-use Rattle.plan_context.specs.ProperRecords.{record-proper}
-use Rattle.plan_context.specs.Opened.{Opened, stepRoom}
-use Rattle.plan_context.specs.Opening.{opened-over, grown-more, grown-then}
+use Rattle.plan_updates.specs.ProperRecords.{record-proper}
+use Rattle.plan_updates.specs.Opened.{Opened, stepRoom}
+use Rattle.plan_updates.specs.Opening.{opened-over, grown-more, grown-then}
 use Rattle.utils.specs.Sorting.{Sortable}
 use Rattle.parallelize_sorts.specs.declared.SortExprs.{SortExprs}
 use Rattle.parallelize_sorts.specs.Connecting.{some-first}

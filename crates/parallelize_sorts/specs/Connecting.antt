@@ -15,7 +15,7 @@ use Rattle.walks.specs.Marks.{headMark}
 use Rattle.walks.specs.Utils.{isCoalescePartitions}
 use Rattle.walks.specs.ParallelizeSorts.{anyMarkAt, bottleneck, updateCoalesceCtxChildren}
 use Rattle.plan_context.specs.View.{forest}
-use Rattle.plan_context.specs.From.{from, from-first, from-next}
+use Rattle.plan_updates.specs.From.{from, from-first, from-next}
 
 -- Each of the first j children is unmarked, or p does not hold of it
 abbrev pub UnmarkedBefore : (ℕ → Bool) → List ℕ → ℕ → Type 0

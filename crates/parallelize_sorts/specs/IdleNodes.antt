@@ -35,9 +35,9 @@ use Rattle.plan_context.specs.Facts.{Tells}
 use Rattle.plan_context.specs.Handles.{Marks, kid-is}
 use Rattle.plan_context.specs.Laws.{facts-at, fewer}
 use Rattle.plan_context.specs.Nodes.{seen, rule}
-use Rattle.plan_context.specs.ProperRecords.{record-proper}
-use Rattle.plan_context.specs.Opening.{grown-none}
-use Rattle.plan_context.specs.Putting.{put-over}
+use Rattle.plan_updates.specs.ProperRecords.{record-proper}
+use Rattle.plan_updates.specs.Opening.{grown-none}
+use Rattle.plan_updates.specs.Putting.{put-over}
 use Rattle.parallelize_sorts.specs.Shown.{view, node-proper, tree-of, kid-asks, kid-low, kid-older}
 use Rattle.parallelize_sorts.specs.Skipping.{Skips}
 use Rattle.parallelize_sorts.specs.Sizes.{lift-size}

@@ -21,12 +21,12 @@ use Rattle.walks.specs.theorems.common.Keeps.{kept-node, like-refl, KeepsAll}
 use Rattle.walks.specs.theorems.parallelize.Kept.{removeBottleneckInSubplanImpl-kept}
 use Rattle.walks.specs.ParallelizeSorts.{bottleneck, firstIs, withoutSelf, liftFirst, removeBottleneckInSubplanImpl, firstBottleneckRemoved, removeBottleneckInSubplan, withoutIdle, skipSame}
 use Rattle.plan_context.specs.View.{treeOf, forest, mostSlots, Arena, Grown, Puts}
-use Rattle.plan_context.specs.Kids.{Kids, kids-none, kids-more, kids-forest}
-use Rattle.plan_context.specs.From.{from, from-first, from-next}
-use Rattle.plan_context.specs.ChildLoop.{drop-size, half, up-to, view, whole, kid-below, split, counted, new-below, new-kids}
+use Rattle.plan_updates.specs.Kids.{Kids, kids-none, kids-more, kids-forest}
+use Rattle.plan_updates.specs.From.{from, from-first, from-next}
+use Rattle.plan_updates.specs.ChildLoop.{drop-size, half, up-to, view, whole, kid-below, split, counted, new-below, new-kids}
 use Rattle.plan_context.specs.Laws.{same-trans}
 use Rattle.plan_context.specs.Nodes.{Seen}
-use Rattle.plan_context.specs.Opening.{grown-none, grown-more}
+use Rattle.plan_updates.specs.Opening.{grown-none, grown-more}
 use Rattle.parallelize_sorts.specs.Shown.{tree-of}
 use Rattle.parallelize_sorts.specs.Skipping.{Skips}
 use Rattle.parallelize_sorts.specs.Sizes.{skip-size, one-size, each-size}

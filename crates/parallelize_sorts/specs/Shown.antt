@@ -14,7 +14,7 @@ use Rattle.arena.specs.Laws.{below-at}
 use Rattle.walks.specs.Marks.{known, node, setMark}
 use Rattle.plan_context.specs.View.{treeOf, forest, Arena}
 use Rattle.plan_context.specs.Nodes.{counts-of, Seen, seen}
-use Rattle.plan_context.specs.ProperRecords.{record-proper}
+use Rattle.plan_updates.specs.ProperRecords.{record-proper}
 use Rattle.plan_context.specs.Laws.{length-facts, fewer}
 
 module _ (m : List ℕ) (i : ℕ) (a : Arena m (i + 1)) where

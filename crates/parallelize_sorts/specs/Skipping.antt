@@ -16,7 +16,7 @@ use Rattle.walks.specs.theorems.common.Keeps.{pass-one}
 use Rattle.walks.specs.theorems.parallelize.Kept.{bottleneck-pass, part-pass}
 use Rattle.walks.specs.ParallelizeSorts.{bottleneck, samePartitioning, skipSame}
 use Rattle.plan_context.specs.View.{treeOf, forest, Arena}
-use Rattle.plan_context.specs.ChildLoop.{up-to}
+use Rattle.plan_updates.specs.ChildLoop.{up-to}
 use Rattle.parallelize_sorts.specs.Shown.{counted, kid-asks, kid-low, tree-of}
 
 -- The tree at h is a coalesce without a fetch

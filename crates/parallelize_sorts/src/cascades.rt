@@ -2,6 +2,7 @@
 use crate::SortExprs;
 use crate::bottlenecks::remove_bottleneck_in_subplan;
 use arena::At;
+use asked_facts::asked::several_streams;
 use new_records::coalesce_record;
 use new_records::merge_record;
 use node_properties::fetch;
@@ -11,8 +12,7 @@ use node_properties::is_sort_preserving_merge;
 use node_properties::keys;
 use node_properties::preserve_mark;
 use plan_context::kept::row;
-use plan_context::putting::put_over;
-use row_facts::asked::several_streams;
+use plan_updates::putting::put_over;
 use utils::add_sort_above_with_check;
 ghost use mathlib.Core.Path.{_≡_};
 ghost use mathlib.Core.Bool.{true, false};

@@ -14,7 +14,7 @@ use key_lists::Keys;
 use node_properties::is_coalesce_partitions;
 use plan::Fetch;
 use plan_context::handles::set_mark;
-use plan_context::putting::put_again;
+use plan_updates::putting::put_again;
 ghost use mathlib.Core.Bool.{false};
 ghost use Prim.Native.Nat.{suc, _+_, _<_};
 ghost use Rattle.plan.specs.Forest.{size};
@@ -22,7 +22,7 @@ ghost use Rattle.plan_codec.specs.Decode.{decode};
 ghost use Rattle.walks.specs.Marks.{node};
 ghost use Rattle.walks.specs.ParallelizeSorts.{parallelizeSorts};
 ghost use Rattle.plan_context.specs.View.{forest, Grown, Puts};
-ghost use Rattle.plan_context.specs.Opened.{Opened, stepRoom};
+ghost use Rattle.plan_updates.specs.Opened.{Opened, stepRoom};
 
 // The keys and the fetch of a sort or a merge.
 pub struct SortExprs {

@@ -20,7 +20,7 @@ use Rattle.facts.specs.Saying.{says-unknown}
 use Rattle.facts.specs.declared.Facts.{Facts as Coded}
 use Rattle.facts.specs.Known.{known as told, Coherent, Says}
 use Rattle.fact_slots.specs.Slots.{loaded}
-use Rattle.row_facts.specs.Asked.{FactRow}
+use Rattle.asked_facts.specs.Asked.{FactRow}
 use Rattle.arena.specs.Arena.{keptSize, index, keptPart}
 use Rattle.arena.specs.Keeping.{kept-long}
 use Rattle.plan_context.specs.View.{treeOf, forest, mostNodes, Here}

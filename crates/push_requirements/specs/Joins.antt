@@ -16,7 +16,7 @@ use Rattle.semantics.specs.Properties.{keptSide, wanted}
 use Rattle.key_lists.specs.declared.Keys.{Keys}
 use Rattle.key_lists.specs.declared.Order.{Order}
 use Rattle.key_lists.specs.Keys.{keysOf, keysIn, Keyed, Ordered}
-use Rattle.row_facts.specs.Asked.{told}
+use Rattle.asked_facts.specs.Asked.{told}
 use Rattle.join_facts.specs.declared.KeptSide.{KeptSide}
 use Rattle.join_facts.specs.Joining.{Placeable, keptOf}
 use Rattle.join_facts.specs.Orders.{placeable}

@@ -17,7 +17,7 @@ use Rattle.key_lists.specs.declared.Keys.{Keys}
 use Rattle.key_lists.specs.declared.Order.{Order}
 use Rattle.key_lists.specs.Keys.{keysOf, orderOf, Real}
 use Rattle.fact_slots.specs.Slots.{loaded}
-use Rattle.row_facts.specs.Asked.{told, FactRow}
+use Rattle.asked_facts.specs.Asked.{told, FactRow}
 use Rattle.join_facts.specs.Joining.{Sides}
 use Rattle.walks.specs.SortPushdown as walk
 use Rattle.push_requirements.specs.declared.ParentRequirements.{ParentRequirements}

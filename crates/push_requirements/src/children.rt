@@ -2,6 +2,9 @@
 use crate::Pushed;
 use crate::joins::handle_hash_join;
 use crate::joins::try_pushdown_requirements_to_join;
+use asked_facts::asked::compatible;
+use asked_facts::asked::known_order;
+use asked_facts::asked::width;
 use join_sides::none_equal;
 use join_sides::remap_requirement_through_projection;
 use key_lists::Keys;
@@ -19,9 +22,6 @@ use plan::Fetch;
 use plan::Kind;
 use record_fields::KIND;
 use record_fields::kind_of;
-use row_facts::asked::compatible;
-use row_facts::asked::known_order;
-use row_facts::asked::width;
 ghost use mathlib.Core.Path.{_≡_};
 ghost use mathlib.Core.Bool.{cond, not, _&&_, _||_};
 ghost use mathlib.Core.List.{List};
@@ -36,7 +36,7 @@ ghost use Rattle.record_fields.specs.Proper.{Proper};
 ghost use Rattle.semantics.specs.Facts as sem;
 ghost use Rattle.semantics.specs.Properties.{fetchOp};
 ghost use Rattle.key_lists.specs.Keys.{keysOf};
-ghost use Rattle.row_facts.specs.Asked.{told, FactRow};
+ghost use Rattle.asked_facts.specs.Asked.{told, FactRow};
 ghost use Rattle.walks.specs.SortPushdown as walk;
 ghost use Rattle.push_requirements.specs.Pushing.{Pushes, Asked, Seen};
 

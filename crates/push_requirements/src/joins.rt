@@ -1,6 +1,10 @@
 // How an order goes past a join.
 use crate::Pushed;
 use crate::requirements::keys_in;
+use asked_facts::asked::compatible;
+use asked_facts::asked::known_order;
+use asked_facts::asked::meets;
+use asked_facts::asked::width;
 use join_facts::join_order;
 use join_facts::sort_merge_kept;
 use join_sides::JoinSide;
@@ -14,10 +18,6 @@ use key_lists::order_of;
 use node_properties::hash_keeps;
 use node_properties::wanted_order;
 use plan::JoinType;
-use row_facts::asked::compatible;
-use row_facts::asked::known_order;
-use row_facts::asked::meets;
-use row_facts::asked::width;
 ghost use mathlib.Core.Path.{_≡_};
 ghost use mathlib.Core.Bool.{true, _&&_};
 ghost use Prim.Native.Nat.{ℕ, _-_, _<_, _≤_};
@@ -28,7 +28,7 @@ ghost use Rattle.plan_codec.specs.Decode.{decode};
 ghost use Rattle.semantics.specs.Facts as sem;
 ghost use Rattle.semantics.specs.Properties.{keptSide};
 ghost use Rattle.key_lists.specs.Keys.{keysOf};
-ghost use Rattle.row_facts.specs.Asked.{told, FactRow};
+ghost use Rattle.asked_facts.specs.Asked.{told, FactRow};
 ghost use Rattle.walks.specs.SortPushdown as walk;
 ghost use Rattle.push_requirements.specs.Pushing.{Pushes, JoinRows};
 

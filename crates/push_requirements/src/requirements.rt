@@ -1,16 +1,16 @@
 // Fetches, distributions and orders of requirements.
+use asked_facts::asked::one_stream;
+use asked_facts::asked::several_streams;
 use key_lists::Keys;
 use key_lists::Order;
 use key_lists::no_keys;
 use node_properties::is_single;
 use plan::Distribution;
 use plan::Fetch;
-use row_facts::asked::one_stream;
-use row_facts::asked::several_streams;
 ghost use mathlib.Core.Path.{_≡_};
 ghost use Prim.Native.Nat.{min};
 ghost use Rattle.key_lists.specs.Keys.{Keyed, orderOf, Real};
-ghost use Rattle.row_facts.specs.Asked.{told, FactRow};
+ghost use Rattle.asked_facts.specs.Asked.{told, FactRow};
 ghost use Rattle.walks.specs.SortPushdown.{minFetch, strongerDistribution};
 ghost use Rattle.walks.specs.PushdownSorts.{effectiveDist};
 ghost use Rattle.walks.specs.Utils.{needsMerge};

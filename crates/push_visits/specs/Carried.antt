@@ -12,14 +12,14 @@ use Rattle.semantics.specs.Properties.{rebuilt}
 use Rattle.key_lists.specs.declared.Order.{Order}
 use Rattle.key_lists.specs.Keys.{Real}
 use Rattle.fact_slots.specs.Slots.{loaded}
-use Rattle.row_facts.specs.Asked.{told, FactRow}
+use Rattle.asked_facts.specs.Asked.{told, FactRow}
 use Rattle.arena.specs.Arena.{slotSize, index, slot, Below}
 use Rattle.walks.specs.Marks.{Marked, Tree, strip, known, fact, node, kid0, rebuild, cover}
 use Rattle.walks.specs.theorems.common.Trees.{OkT}
 use Rattle.walks.specs.theorems.push.WellFormed.{VisitFits}
 use Rattle.plan_context.specs.View.{treeOf, forest, mostSlots, Arena}
 use Rattle.plan_context.specs.Facts.{Usable}
-use Rattle.plan_context.specs.Covering.{Under}
+use Rattle.plan_updates.specs.Covering.{Under}
 use Rattle.sort_pushdown.specs.declared.Visit.{Visit}
 use Rattle.sort_pushdown.specs.declared.Decision.{Decision}
 use Rattle.sort_pushdown.specs.Decisions.{visitOf, topsOf}

@@ -23,7 +23,7 @@ use Rattle.key_lists.specs.declared.Keys.{Keys}
 use Rattle.key_lists.specs.declared.Order.{Order}
 use Rattle.key_lists.specs.declared.Order.the-variants.{Unordered, By}
 use Rattle.key_lists.specs.Keys.{keysIn, keysOf, orderOf, Real}
-use Rattle.row_facts.specs.Asked.{told}
+use Rattle.asked_facts.specs.Asked.{told}
 use Rattle.node_properties.specs.Kinds.{op-of}
 use Rattle.arena.specs.Arena.{slot}
 use Rattle.arena.specs.Laws.{below-at}
@@ -35,10 +35,10 @@ use Rattle.walks.specs.theorems.common.Trees.{Ok, OkT}
 use Rattle.plan_context.specs.View.{treeOf, forest, Arena, Grown, Over, Puts}
 use Rattle.plan_context.specs.Laws.{length-facts}
 use Rattle.plan_context.specs.Nodes.{counts-of}
-use Rattle.plan_context.specs.Covering.{cover-puts, cover-grown, ok-of}
-use Rattle.plan_context.specs.Opening.{grown-none, grown-then}
-use Rattle.plan_context.specs.Putting.{put-over}
-use Rattle.plan_context.specs.Rebuilt.{rebuilt-puts, rebuilt-grown}
+use Rattle.plan_updates.specs.Covering.{cover-puts, cover-grown, ok-of}
+use Rattle.plan_updates.specs.Opening.{grown-none, grown-then}
+use Rattle.plan_updates.specs.Putting.{put-over}
+use Rattle.plan_updates.specs.Rebuilt.{rebuilt-puts, rebuilt-grown}
 use Rattle.sort_pushdown.specs.declared.Decision.{Decision}
 use Rattle.sort_pushdown.specs.Decisions.{topsOf}
 use Rattle.push_visits.specs.Carried.{RowOf, opBy, belowBy, carriedBy, Topping, Carries}

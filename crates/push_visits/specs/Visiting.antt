@@ -20,7 +20,7 @@ use Rattle.semantics.specs.Facts.{Facts, at0, at1, facts, factsOp, nothing}
 use Rattle.semantics.specs.theorems.facts.Fits.{join-width}
 use Rattle.semantics.specs.Properties.{remark, fetches, fetchOp}
 use Rattle.key_lists.specs.Keys.{orderOf}
-use Rattle.row_facts.specs.Asked.{told, FactRow}
+use Rattle.asked_facts.specs.Asked.{told, FactRow}
 use Rattle.arena.specs.Arena.{index, slot, keptPart}
 use Rattle.arena.specs.Laws.{index-even, below-at}
 use Rattle.walks.specs.Marks.{strip, known, fact, fetchT}
@@ -30,7 +30,7 @@ use Rattle.plan_context.specs.Laws.{here, facts-at, length-facts}
 use Rattle.plan_context.specs.Facts.{Tells, tells}
 use Rattle.plan_context.specs.Nodes.{Counts, counts-of}
 use Rattle.plan_context.specs.Nodes as nodes
-use Rattle.plan_context.specs.ProperRecords.{record-proper}
+use Rattle.plan_updates.specs.ProperRecords.{record-proper}
 use Rattle.push_requirements.specs.Pushing.{JoinRows, Seen}
 use Rattle.sort_pushdown.specs.declared.Visit.{Visit}
 use Rattle.sort_pushdown.specs.Decisions.{Visited}

@@ -14,7 +14,7 @@ use Rattle.walks.specs.PushdownSorts as walk
 use Rattle.walks.specs.Counted.{Answer, refused, answered, answerOf, Counted, stopped, counted, bind, constantSort, overflows, afterwards, countDown}
 use Rattle.plan_context.specs.View.{treeOf, forest, mostSlots, Arena, Grown}
 use Rattle.plan_context.specs.Records.{planT}
-use Rattle.plan_context.specs.Kids.{Kids}
+use Rattle.plan_updates.specs.Kids.{Kids}
 use Rattle.sort_pushdown.specs.declared.Visit.{Visit}
 use Rattle.sort_pushdown.specs.declared.Decision.{Decision}
 use Rattle.sort_pushdown.specs.declared.Step.{Step}

@@ -19,7 +19,7 @@ use Rattle.plan_codec.specs.Decode.{decode}
 use Rattle.semantics.specs.Facts.{facts, factsOp, isNil, knownOrder}
 use Rattle.semantics.specs.Properties.{fetches}
 use Rattle.key_lists.specs.Keys.{orderOf, Real}
-use Rattle.row_facts.specs.Asked.{told}
+use Rattle.asked_facts.specs.Asked.{told}
 use Rattle.arena.specs.Arena.{index, slot, keptPart}
 use Rattle.arena.specs.Laws.{below-at}
 use Rattle.arena.specs.declared.At.{At}
@@ -36,8 +36,8 @@ use Rattle.plan_context.specs.View.{treeIn, treeOf, forest, Arena, Grown}
 use Rattle.plan_context.specs.Laws.{facts-at, length-facts, same-trans}
 use Rattle.plan_context.specs.Facts.{size-strip}
 use Rattle.plan_context.specs.Records.{planT}
-use Rattle.plan_context.specs.Kids.{kids-none, kids-more, kids-forest, plus-none}
-use Rattle.plan_context.specs.ChildLoop.{drop-size, drop-next, no-more}
+use Rattle.plan_updates.specs.Kids.{kids-none, kids-more, kids-forest, plus-none}
+use Rattle.plan_updates.specs.ChildLoop.{drop-size, drop-next, no-more}
 use Rattle.sort_pushdown.specs.declared.Visit.{Visit}
 use Rattle.sort_pushdown.specs.declared.Decision.{Decision}
 use Rattle.sort_pushdown.specs.declared.NewNodes.{NewNodes}

@@ -32,8 +32,8 @@ use Rattle.plan_context.specs.View.{treeOf, forest, Grown, Puts}
 use Rattle.plan_context.specs.Handles.{Marks}
 use Rattle.replace_with_order_preserving_variants.specs.Kinds.{op-ind, treated-5, treated-8}
 use Rattle.replace_with_order_preserving_variants.specs.Marking.{marks-ok}
-use Rattle.plan_context.specs.From.{from, from-first, from-next}
-use Rattle.plan_context.specs.ChildLoop.{view, same-slot, same-kids, split}
+use Rattle.plan_updates.specs.From.{from, from-first, from-next}
+use Rattle.plan_updates.specs.ChildLoop.{view, same-slot, same-kids, split}
 use Rattle.replace_with_order_preserving_variants.specs.Entering.{Enters, Going, going-more, news, going-puts, going-end}
 use Rattle.replace_with_order_preserving_variants.specs.Replacing.{grown-as, cond-le, first-size, single, remark-ok, replaced-puts, replaced-grown}
 

@@ -16,8 +16,8 @@ use Rattle.walks.specs.Marks.{Marked, Tree, node, plant, sizeT}
 use Rattle.walks.specs.Terms.{_⊕_}
 use Rattle.walks.specs.theorems.common.Trees.{OkT}
 use Rattle.plan_context.specs.View.{treeOf, forest, mostSlots, Arena, Grown, Puts}
-use Rattle.plan_context.specs.Kids.{Kids, kids-none, kids-more, kids-forest}
-use Rattle.plan_context.specs.ChildLoop.{half, view, whole, same-slot, kid-below, split, counted, new-below, new-kids}
+use Rattle.plan_updates.specs.Kids.{Kids, kids-none, kids-more, kids-forest}
+use Rattle.plan_updates.specs.ChildLoop.{half, view, whole, same-slot, kid-below, split, counted, new-below, new-kids}
 use Rattle.replace_with_order_preserving_variants.specs.Replacing.{made-then}
 
 -- What it asks: nothing is added, so there is room for as many nodes as the tree has

@@ -26,9 +26,9 @@ use Rattle.walks.specs.theorems.preserve.Kept.{strip-masked}
 use Rattle.plan_context.specs.View.{treeOf, forest, mostSlots, Arena, Grown, Puts}
 use Rattle.plan_context.specs.Laws.{fewer, tree-same}
 use Rattle.plan_context.specs.Handles.{Marks}
-use Rattle.plan_context.specs.Kids.{Kids, kids-none, kids-more, kids-forest}
-use Rattle.plan_context.specs.From.{from, from-first, from-next}
-use Rattle.plan_context.specs.ChildLoop.{no-more}
+use Rattle.plan_updates.specs.Kids.{Kids, kids-none, kids-more, kids-forest}
+use Rattle.plan_updates.specs.From.{from, from-first, from-next}
+use Rattle.plan_updates.specs.ChildLoop.{no-more}
 use Rattle.replace_with_order_preserving_variants.specs.Nodes.{shown, kid-below}
 
 -- ---- marks of handles

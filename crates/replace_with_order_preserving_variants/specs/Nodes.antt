@@ -9,7 +9,7 @@ use Rattle.plan_format.specs.Record.{children}
 use Rattle.plan_codec.specs.Decode.{decode}
 use Rattle.semantics.specs.Facts.{nothing}
 use Rattle.record_fields.specs.Proper.{Proper}
-use Rattle.row_facts.specs.Asked.{told}
+use Rattle.asked_facts.specs.Asked.{told}
 use Rattle.node_properties.specs.Nodes.{Among}
 use Rattle.walks.specs.Marks.{known, node, fact}
 use Rattle.arena.specs.Arena.{slotSize, slot}
@@ -18,7 +18,7 @@ use Rattle.plan_context.specs.View.{treeIn, treeOf, forest, Arena, Here}
 use Rattle.plan_context.specs.Laws.{here, facts-at, length-facts}
 use Rattle.plan_context.specs.Nodes.{Seen, seen, counts-of}
 use Rattle.plan_context.specs.Facts.{Tells}
-use Rattle.plan_context.specs.ProperRecords.{record-proper}
+use Rattle.plan_updates.specs.ProperRecords.{record-proper}
 
 module _ (m : List ℕ) (i : ℕ) (a : Arena m (i + 1)) where
   pub shown : Seen m i

@@ -23,7 +23,7 @@ use Rattle.key_lists.specs.Keys.{keysIn, keysOf, orderOf, Real, Ordered}
 use Rattle.key_lists.specs.declared.Keys.{Keys}
 use Rattle.key_lists.specs.declared.Order.{Order}
 use Rattle.key_lists.specs.declared.Order.the-variants.{Unordered, By}
-use Rattle.row_facts.specs.Asked.{told}
+use Rattle.asked_facts.specs.Asked.{told}
 use Rattle.arena.specs.Arena.{index, marked, slot}
 use Rattle.arena.specs.declared.At.{At}
 use Rattle.walks.specs.Marks.{Marked, Tree, strip, known, at, node, opT, fact, sizeT, setMark, Shape, aSort, aMerge, aRepartition, aCoalesce, another, shape, rebuild}
@@ -38,7 +38,7 @@ use Rattle.plan_context.specs.Facts.{Tells}
 use Rattle.plan_context.specs.Handles.{Marks}
 use Rattle.replace_with_order_preserving_variants.specs.Kinds.{op-ind, treated, one-kid, treated-5, treated-6}
 use Rattle.replace_with_order_preserving_variants.specs.Marking.{isFetchedCoalesce, nothing-left}
-use Rattle.plan_context.specs.ChildLoop.{view, same-slot, same-kids, split}
+use Rattle.plan_updates.specs.ChildLoop.{view, same-slot, same-kids, split}
 use Rattle.replace_with_order_preserving_variants.specs.Entering.{Enters, Going, going-next, going-more, news, going-puts, going-end}
 use Rattle.replace_with_order_preserving_variants.specs.Replacing.{grown-as, cond-le, first-size, single, remark-ok, replaced-puts, replaced-grown, rebuilt-grown}
 

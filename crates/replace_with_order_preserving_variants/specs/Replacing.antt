@@ -20,10 +20,10 @@ use Rattle.walks.specs.OrderPreserving.{markFirst}
 use Rattle.walks.specs.theorems.preserve.Kept.{strip-first}
 use Rattle.plan_context.specs.View.{treeOf, forest, Grown, Puts}
 use Rattle.plan_context.specs.Laws.{same-trans}
-use Rattle.plan_context.specs.Kids.{Kids}
+use Rattle.plan_updates.specs.Kids.{Kids}
 use Rattle.plan_context.specs.Nodes.{rule, counts-of}
-use Rattle.plan_context.specs.Putting.{put-over}
-use Rattle.plan_context.specs.Covering.{one}
+use Rattle.plan_updates.specs.Putting.{put-over}
+use Rattle.plan_updates.specs.Covering.{one}
 use Rattle.plan_context.specs.Handles.{Marks}
 use Rattle.replace_with_order_preserving_variants.specs.Kinds.{treated, one-kid}
 use Rattle.replace_with_order_preserving_variants.specs.Marking.{marks-ok}

@@ -20,7 +20,7 @@ use Rattle.semantics.specs.Properties.{cuts}
 use Rattle.record_fields.specs.Proper.{Proper}
 use Rattle.key_lists.specs.Keys.{keysOf, Keyed}
 use Rattle.key_lists.specs.declared.Keys.{Keys}
-use Rattle.row_facts.specs.Asked.{told}
+use Rattle.asked_facts.specs.Asked.{told}
 use Rattle.arena.specs.Arena.{slotSize, marked}
 use Rattle.arena.specs.declared.At.{At}
 use Rattle.walks.specs.Marks.{Marked, Tree, strip, known, node, opT, fact, sizeT, unmark, kid0, headMark, shape}
@@ -32,13 +32,13 @@ use Rattle.walks.specs.theorems.preserve.Kept.{strip-carry}
 use Rattle.plan_context.specs.declared.Summary.{Summary}
 use Rattle.plan_context.specs.View.{treeOf, forest, mostSlots, Sums, Grown, Here, Puts}
 use Rattle.plan_context.specs.Laws.{here, fewer, same-trans, forest-same, length-facts}
-use Rattle.plan_context.specs.Opened.{stepRoom, Opened}
-use Rattle.plan_context.specs.Opening.{grown-then}
+use Rattle.plan_updates.specs.Opened.{stepRoom, Opened}
+use Rattle.plan_updates.specs.Opening.{grown-then}
 use Rattle.plan_context.specs.Facts.{Tells}
 use Rattle.plan_context.specs.Nodes.{counts-of, few-any}
-use Rattle.plan_context.specs.Covering.{one}
+use Rattle.plan_updates.specs.Covering.{one}
 use Rattle.replace_with_order_preserving_variants.specs.declared.Settings.{Settings}
-use Rattle.plan_context.specs.ProperRecords.{record-proper}
+use Rattle.plan_updates.specs.ProperRecords.{record-proper}
 use Rattle.replace_with_order_preserving_variants.specs.Kinds.{op-ind, one-kid, treated-7}
 use Rattle.replace_with_order_preserving_variants.specs.Marking.{Carrying, Updating, Updated, marks-ok, carry-size}
 use Rattle.replace_with_order_preserving_variants.specs.Preserving.{Preserves}

@@ -34,7 +34,7 @@ use Rattle.plan_context.specs.Laws.{slot-same, tree-same, forest-same, same-tra
 use Rattle.plan_context.specs.Facts.{size-strip}
 use Rattle.plan_context.specs.Nodes.{counts-of}
 use Rattle.plan_context.specs.Records.{planT}
-use Rattle.plan_context.specs.Covering.{ok-of}
+use Rattle.plan_updates.specs.Covering.{ok-of}
 use Rattle.sort_removal.specs.Standing.{Standing, view, tree-is, own-over, own-proper, sort-op, one-kid}
 use Rattle.replace_with_partial_sort.specs.Replacing.{partial, becoming, Fitting}
 use Rattle.replace_with_partial_sort.specs.declared.Replaced.{Replaced as Told}

@@ -18,7 +18,7 @@ use Rattle.semantics.specs.Properties.{anyOf, endless, endlessOp}
 use Rattle.key_lists.specs.Keys.{keysOf, Keyed}
 use Rattle.key_lists.specs.Lists.{length-keys}
 use Rattle.key_lists.specs.declared.Keys.{Keys}
-use Rattle.row_facts.specs.Asked.{told, MetKeys}
+use Rattle.asked_facts.specs.Asked.{told, MetKeys}
 use Rattle.arena.specs.Arena.{index, slot}
 use Rattle.walks.specs.Marks.{Tree, strip, known, opT, fact}
 use Rattle.walks.specs.PartialSort.{commonPrefixLength, Replaced, pastTheEnd, becomes, ofPrefix, partialOf, replaceWithPartialSort}

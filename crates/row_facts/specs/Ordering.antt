@@ -17,7 +17,7 @@ use Rattle.facts.specs.Known.{known, Says}
 use Rattle.facts.specs.Saying.{says-ordered}
 use Rattle.fact_slots.specs.Slots.{le64, loaded, wordBytes}
 use Rattle.fact_slots.specs.Storing.{word-again}
-use Rattle.row_facts.specs.Asked.{told, FactRow}
+use Rattle.asked_facts.specs.Asked.{told, FactRow}
 use Rattle.row_facts.specs.Rows.{loaded-kept}
 
 module _ (o W : List ℕ) (h : 48 ≤ length o) (l : length W ≡ 8) where

@@ -1,11 +1,10 @@
 // The facts of a node from its record and its children's stored facts, over the bytes that its own slot keeps. Kinds that keep
 // constants and classes copy the child's bytes and change streams and order; no facts are taken apart for them.
-pub mod asked; // asked.rt: what the walks ask of a row
 
-use asked::keeps_order;
-use asked::meets;
-use asked::normal_form;
-use asked::one_stream;
+use asked_facts::asked::keeps_order;
+use asked_facts::asked::meets;
+use asked_facts::asked::normal_form;
+use asked_facts::asked::one_stream;
 use byte_rows::wide;
 use fact_slots::CLASSES;
 use fact_slots::ORDER;
@@ -43,7 +42,7 @@ ghost use Rattle.plan_codec.specs.Decode.{decode};
 ghost use Rattle.join_facts.specs.Joining.{Joinable};
 ghost use Rattle.node_facts.specs.Ready.{kidsOf, count, lentKeys, lentColumns, typeIn, onIn, Ready};
 ghost use Rattle.key_lists.specs.Keys.{keysOf};
-ghost use Rattle.row_facts.specs.Asked.{told, FactRow};
+ghost use Rattle.asked_facts.specs.Asked.{told, FactRow};
 ghost use Rattle.row_facts.specs.Over.{Over};
 
 // The first 48 bytes of s: by value, so that whoever stores them stores many at once.

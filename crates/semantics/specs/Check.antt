@@ -24,7 +24,7 @@ abbrev pub check : Plan → Bool
 check none = true
 check (tree o c r) = wantsMet o (facts c) && (check c && check r)
 
--- The same sentence node by node, child by child (Checks: check-met, met-check)
+-- The same sentence node by node, child by child (CheckIsMet: check-met, met-check)
 pub data EachMet : Plan → Type 0 where
   met-none : EachMet none
   met-tree : {o : Op} {c r : Plan} → ((i : ℕ) → met (getD (facts c) i nothing) (wanted o i) ≡ true) → EachMet c → EachMet r → EachMet (tree o c r)

@@ -11,9 +11,9 @@ use Rattle.plan_format.specs.Reading.{refusalOf}
 use Rattle.scan.specs.Bytes.{oneIf}
 use Rattle.plan_codec.specs.Reading.{plan, planOf, reading, refused}
 use Rattle.plan_codec.specs.Reading as codec
-use Rattle.sort_placement.specs.declared.calls.Call.the-variants.{CheckOrder}
-use Rattle.sort_placement.specs.Answers.{afterReading, checkAnswer, passesIn, refusalIn}
-use Rattle.sort_placement.specs.Calls.{resultOf}
+use Rattle.plan_calls.specs.declared.calls.Call.the-variants.{CheckOrder}
+use Rattle.plan_calls.specs.Answers.{afterReading, checkAnswer, passesIn, refusalIn}
+use Rattle.plan_calls.specs.Calls.{resultOf}
 
 module _ (s out : List ℕ) where
   abbrev read : Bool → codec.PlanOrRefusal

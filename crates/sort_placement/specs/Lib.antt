@@ -1,9 +1,3 @@
-pub mod Answers
-pub mod Filing
-pub mod PartialSorts
-pub mod Calls
-pub mod Calling
-pub mod Pushing
-pub mod PartialSorting
 pub mod Memory
 pub mod Checking
+pub mod Replies

@@ -13,12 +13,13 @@ use Rattle.plan_codec.specs.Reading.{reading}
 use Rattle.arena.specs.Arena.{slotSize}
 use Rattle.plan_arena.specs.ReadFile.{few-blocks, is-accepted}
 use Rattle.transform_up.specs.Tidying.{fullSlots}
-use Rattle.sort_placement.specs.declared.calls.Call.{Call}
-use Rattle.sort_placement.specs.declared.calls.Called.{Called}
-use Rattle.sort_placement.specs.declared.calls.Called.the-variants.{Done, NoRoom}
-use Rattle.sort_placement.specs.Answers.{Result, afterReading}
-use Rattle.sort_placement.specs.Calls.{resultOf, CalledAs, Answered}
-use Rattle.sort_placement.specs.Calling.{file-refused}
+use Rattle.plan_calls.specs.declared.calls.Call.{Call}
+use Rattle.plan_calls.specs.declared.calls.Called.{Called}
+use Rattle.plan_calls.specs.declared.calls.Called.the-variants.{Done, NoRoom}
+use Rattle.plan_calls.specs.Answers.{Result, afterReading}
+use Rattle.plan_calls.specs.Calls.{resultOf, CalledAs}
+use Rattle.sort_placement.specs.Replies.{Answered}
+use Rattle.plan_calls.specs.Calling.{file-refused}
 
 module _ (r : Called) (R : Result) (out out' : List ℕ) where
   -- an arena that is not full

@@ -1,9 +1,8 @@
 // The C exports, on numbers and byte slices. Each answers the number of its refusal, or 0; a refusal leaves what was lent alone, and bytes past the file that is written stay.
-pub mod calls;
 pub mod memory;
 
-use crate::calls::Call;
 use crate::memory::call;
+use plan_calls::calls::Call;
 use replace_with_order_preserving_variants::Settings;
 use transform_up::Walk;
 ghost use mathlib.Core.Path.{_≡_};
@@ -11,7 +10,7 @@ ghost use Rattle.plan.specs.Numbers.{numberOf};
 ghost use Rattle.plan_format.specs.Reading.{refusalOf};
 ghost use Rattle.plan_codec.specs.Reading.{reading};
 ghost use Rattle.walks.specs.Counted.{answered, ensured, parallelized, partiallySorted, preserved, pushed};
-ghost use Rattle.sort_placement.specs.Answers.{checkAnswer, settingsIn, rewrites, refusalIn, outputIn};
+ghost use Rattle.plan_calls.specs.Answers.{checkAnswer, settingsIn, rewrites, refusalIn, outputIn};
 
 // In `passes` 1 where the plan passes the order check, 0 where it doesn't.
 #[no_mangle]

@@ -1,14 +1,15 @@
 // Working memory: one ladder of arenas under all calls. A call that finds its arena too small takes the next larger one; of the largest it is proved that this cannot be.
-use crate::calls::Call;
-use crate::calls::Called;
-use crate::calls::call_in;
 use arena::SLOT;
+use plan_calls::calls::Call;
+use plan_calls::calls::Called;
+use plan_calls::calls::call_in;
 ghost use mathlib.Core.Path.{_≡_};
 ghost use Prim.Native.Nat.{_*_, _≤_, _<_};
 ghost use Rattle.plan_codec.specs.Reading.{reading};
 ghost use Rattle.plan_format.specs.Blocks.{blockCount};
-ghost use Rattle.sort_placement.specs.Answers.{afterReading};
-ghost use Rattle.sort_placement.specs.Calls.{resultOf, CalledAs, Answered};
+ghost use Rattle.plan_calls.specs.Answers.{afterReading};
+ghost use Rattle.plan_calls.specs.Calls.{resultOf, CalledAs};
+ghost use Rattle.sort_placement.specs.Replies.{Answered};
 
 // The bytes of so many slots.
 const SLOTS_7: usize = 7 * SLOT;

@@ -18,7 +18,7 @@ use Rattle.semantics.specs.Facts.{Facts, facts, compatible, isNil, met, nf, kno
 use Rattle.semantics.specs.Properties.{freshKeys, sortDist, fetches, rebuilt}
 use Rattle.key_lists.specs.declared.Order.{Order}
 use Rattle.key_lists.specs.Keys.{orderOf, Real}
-use Rattle.row_facts.specs.Asked.{told, FactRow}
+use Rattle.asked_facts.specs.Asked.{told, FactRow}
 use Rattle.push_requirements.specs.declared.ParentRequirements.{ParentRequirements as Coded}
 use Rattle.push_requirements.specs.Pushing.{required, JoinRows}
 use Rattle.walks.specs.Utils.{needsMerge, newMerge, newSort, sortAboveWithDistribution}

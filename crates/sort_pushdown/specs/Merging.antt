@@ -23,7 +23,7 @@ use Rattle.key_lists.specs.declared.Order.the-variants.{By}
 use Rattle.key_lists.specs.Keys.{keysOf, orderOf, Keyed, Real}
 use Rattle.facts.specs.Reading.{classes}
 use Rattle.fact_slots.specs.Slots.{loaded}
-use Rattle.row_facts.specs.Asked.{told}
+use Rattle.asked_facts.specs.Asked.{told}
 use Rattle.push_requirements.specs.declared.Pushed.the-variants.{Stop, Goes}
 use Rattle.push_requirements.specs.declared.Pushed.{Pushed as Answered}
 use Rattle.push_requirements.specs.Pushing.{Pushes, Going, Asked, Seen}

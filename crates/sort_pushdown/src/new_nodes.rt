@@ -1,18 +1,18 @@
 // New nodes over a node with the facts own.
 use crate::NewNodes;
+use asked_facts::asked::fresh_keys;
+use asked_facts::asked::several_streams;
 use key_lists::Keys;
 use key_lists::Order;
 use key_lists::order_of;
 use plan::Distribution;
 use plan::Fetch;
 use push_requirements::requirements::needs_merge;
-use row_facts::asked::fresh_keys;
-use row_facts::asked::several_streams;
 ghost use mathlib.Core.List.{[], _++_};
 ghost use Prim.Native.Nat.{_≤_};
 ghost use Rattle.plan.specs.declared.Distribution.the-variants as distribution;
 ghost use Rattle.key_lists.specs.Keys.{keysOf};
-ghost use Rattle.row_facts.specs.Asked.{told, FactRow};
+ghost use Rattle.asked_facts.specs.Asked.{told, FactRow};
 ghost use Rattle.walks.specs.Utils.{newMerge, sortAboveWithDistribution};
 ghost use Rattle.sort_pushdown.specs.Decisions.{Adds};
 

@@ -23,7 +23,7 @@ use Rattle.walks.specs.Terms.{_⊕_}
 use Rattle.walks.specs.EnsureSorting.{connected, connectedEach}
 use Rattle.plan_context.specs.View.{treeOf, forest, Arena}
 use Rattle.plan_context.specs.Handles.{Marks}
-use Rattle.plan_context.specs.Kids.{snoc, plus-none}
+use Rattle.plan_updates.specs.Kids.{snoc, plus-none}
 use Rattle.sort_removal.specs.Standing.{Standing, tree-is}
 
 -- The node maintains the order of child j, and wants none of it

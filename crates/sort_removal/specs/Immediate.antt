@@ -22,7 +22,7 @@ use Rattle.semantics.specs.Facts.{facts, factsOp, nf, knownOrder}
 use Rattle.key_lists.specs.Keys.{keysOf, Keyed}
 use Rattle.key_lists.specs.declared.Keys.{Keys}
 use Rattle.record_fields.specs.Proper.{Proper}
-use Rattle.row_facts.specs.Asked.{told}
+use Rattle.asked_facts.specs.Asked.{told}
 use Rattle.arena.specs.Arena.{slotSize, index, slot, Below}
 use Rattle.arena.specs.declared.At.{At}
 use Rattle.walks.specs.Marks.{Marked, Tree, strip, known, node, plant, over, opT, fact, sizeT, setMark, kid0, unmark}
@@ -34,8 +34,8 @@ use Rattle.plan_context.specs.Laws.{facts-at}
 use Rattle.plan_context.specs.Nodes.{Seen}
 use Rattle.plan_context.specs.Facts.{Tells}
 use Rattle.plan_context.specs.Handles.{Marks, first-kid}
-use Rattle.plan_context.specs.Kids.{below-snoc}
-use Rattle.plan_context.specs.Covering.{Under, cover-puts, cover-grown, ok-of}
+use Rattle.plan_updates.specs.Kids.{below-snoc}
+use Rattle.plan_updates.specs.Covering.{Under, cover-puts, cover-grown, ok-of}
 use Rattle.sort_removal.specs.Standing.{Standing, view as shown, tree-is, is-here, own-over, own-proper, sort-op, one-kid, kid-standing}
 use Rattle.sort_removal.specs.Connection.{take-all}
 

@@ -19,7 +19,7 @@ use Rattle.key_lists.specs.declared.Keys.{Keys}
 use Rattle.key_lists.specs.declared.Order.{Order}
 use Rattle.key_lists.specs.declared.Order.the-variants.{Unordered, By}
 use Rattle.plan.specs.Op.{mergeOp, coalesce}
-use Rattle.row_facts.specs.Asked.{told}
+use Rattle.asked_facts.specs.Asked.{told}
 use Rattle.arena.specs.Arena.{slotSize}
 use Rattle.arena.specs.declared.At.{At}
 use Rattle.walks.specs.Marks.{Tree, known, node, plant, over, opT, fact, fetchT, sizeT, setMark}
@@ -29,7 +29,7 @@ use Rattle.plan_context.specs.View.{treeOf, forest, mostNodes, mostSlots, Arena
 use Rattle.plan_context.specs.Nodes.{counts-of}
 use Rattle.plan_context.specs.Facts.{Tells}
 use Rattle.plan_context.specs.Handles.{Marks}
-use Rattle.plan_context.specs.Opening.{grown-none}
+use Rattle.plan_updates.specs.Opening.{grown-none}
 use Rattle.sort_removal.specs.Standing.{Standing}
 
 -- ---- the record of the new node

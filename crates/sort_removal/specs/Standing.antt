@@ -18,7 +18,7 @@ use Rattle.plan_codec.specs.Decode.{fromBytes, operatorOf, decode}
 use Rattle.semantics.specs.Facts.{Facts}
 use Rattle.semantics.specs.Properties.{maintains}
 use Rattle.record_fields.specs.Proper.{Proper}
-use Rattle.row_facts.specs.Asked.{told}
+use Rattle.asked_facts.specs.Asked.{told}
 use Rattle.node_properties.specs.Nodes.{Among}
 use Rattle.walks.specs.Marks.{fact, known, node, opT, setMark}
 use Rattle.arena.specs.Arena.{slotSize, index, marked, slot}
@@ -27,7 +27,7 @@ use Rattle.plan_context.specs.View.{treeOf, forest, Arena, Here, Over}
 use Rattle.plan_context.specs.Laws.{here, theres, facts-at, length-facts}
 use Rattle.plan_context.specs.Nodes.{rule, Seen, seen}
 use Rattle.plan_context.specs.Facts.{Tells}
-use Rattle.plan_context.specs.ProperRecords.{over-proper}
+use Rattle.plan_updates.specs.ProperRecords.{over-proper}
 
 -- The tree at the handle h is one of the arena's
 pub record Standing (m : List ℕ) (u h : ℕ) : Type 0 where

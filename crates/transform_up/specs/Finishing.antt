@@ -19,8 +19,8 @@ use Rattle.arena.specs.Arena.{slotSize, slot, Below}
 use Rattle.arena.specs.declared.At.{At}
 use Rattle.plan_context.specs.View.{treeOf, forest, Arena, Same, Grown, Over}
 use Rattle.plan_context.specs.Laws.{theres, same-trans}
-use Rattle.plan_context.specs.Rebuilt.{rebuilt-tree, rebuilt-over}
-use Rattle.plan_context.specs.Opened.{Opened, stepRoom}
+use Rattle.plan_updates.specs.Rebuilt.{rebuilt-tree, rebuilt-over}
+use Rattle.plan_updates.specs.Opened.{Opened, stepRoom}
 use Rattle.transform_up.specs.declared.Walk.{Walk}
 use Rattle.transform_up.specs.declared.Walked.{Walked}
 use Rattle.transform_up.specs.declared.Walked.the-variants.{Done, Stopped}

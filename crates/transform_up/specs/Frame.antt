@@ -27,7 +27,7 @@ use Rattle.plan_context.specs.View.{treeIn, treeOf, forest, Arena, Same, Grown}
 use Rattle.plan_context.specs.Laws.{same-trans, slot-same, in-same}
 use Rattle.plan_context.specs.Nodes.{Seen, seen}
 use Rattle.plan_context.specs.Facts.{size-strip}
-use Rattle.plan_context.specs.Kids.{Kids, kids-none, kids-more, kids-forest, plus-none}
+use Rattle.plan_updates.specs.Kids.{Kids, kids-none, kids-more, kids-forest, plus-none}
 use Rattle.transform_up.specs.declared.Walk.{Walk}
 use Rattle.transform_up.specs.declared.Walked.{Walked}
 use Rattle.transform_up.specs.declared.Walked.the-variants.{Done, Stopped}

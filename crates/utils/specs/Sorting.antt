@@ -29,8 +29,8 @@ use Rattle.key_lists.specs.declared.Keys.{Keys}
 use Rattle.arena.specs.declared.At.{At}
 use Rattle.plan_context.specs.View.{treeOf, forest, Arena, Grown, Puts}
 use Rattle.plan_context.specs.Facts.{Tells}
-use Rattle.plan_context.specs.Opening.{grown-none, grown-more, grown-then}
-use Rattle.plan_context.specs.Covering.{Under, cover-puts, cover-grown, ok-of}
+use Rattle.plan_updates.specs.Opening.{grown-none, grown-more, grown-then}
+use Rattle.plan_updates.specs.Covering.{Under, cover-puts, cover-grown, ok-of}
 
 -- Keys and a fetch that a sort over t can have
 pub record Sortable (t : Tree) (ks : List Key) (f : Fetch) : Type 0 where

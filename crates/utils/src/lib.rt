@@ -1,5 +1,8 @@
 // utils.rs: sorts put above a node. Its tests of kinds (is_sort and the others) are node_properties'.
 use arena::At;
+use asked_facts::asked::fresh_keys;
+use asked_facts::asked::meets;
+use asked_facts::asked::several_streams;
 use key_lists::Keys;
 use new_records::merge_record;
 use new_records::sort_record;
@@ -7,16 +10,13 @@ use node_properties::is_single;
 use plan::Distribution;
 use plan::Fetch;
 use plan_context::kept::row;
-use plan_context::putting::put_over;
-use row_facts::asked::fresh_keys;
-use row_facts::asked::meets;
-use row_facts::asked::several_streams;
+use plan_updates::putting::put_over;
 ghost use mathlib.Core.Bool.{false};
 ghost use Prim.Native.Nat.{_+_};
 ghost use Rattle.key_lists.specs.Keys.{keysOf};
 ghost use Rattle.walks.specs.Utils.{addSortAbove, addSortAboveWithDistribution, addSortAboveWithCheck};
 ghost use Rattle.plan_context.specs.View.{treeOf, Grown};
-ghost use Rattle.plan_context.specs.Covering.{Under};
+ghost use Rattle.plan_updates.specs.Covering.{Under};
 ghost use Rattle.utils.specs.Sorting.{Sortable};
 
 // A sort of the keys, less the constants and a column's later repeats, over the tree at h; of no keys, none.

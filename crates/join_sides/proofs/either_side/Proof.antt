@@ -3,7 +3,7 @@ use borrow.Author.Needs.{needs}
 use mathlib.Core.Path.{subst}
 use Prim.Native.Nat.{ℕ, _-_}
 use Rattle.key_lists.specs.Keys.{keysOf}
-use Rattle.row_facts.specs.Asked.{told}
+use Rattle.asked_facts.specs.Asked.{told}
 use Rattle.walks.specs.SortPushdown.{onSide}
 use Rattle.join_sides.specs.Sides.{Valids}
 use Rattle.join_sides.specs.Searching.{on-left, on-right, on-neither}

@@ -2,7 +2,7 @@
 use borrow.Author.Needs.{needs}
 use mathlib.Core.Path.{refl, subst}
 use Rattle.plan.specs.declared.JoinType.{JoinType}
-use Rattle.row_facts.specs.Asked.{told}
+use Rattle.asked_facts.specs.Asked.{told}
 use Rattle.join_sides.specs.Sides.{Roomy}
 use Rattle.join_sides.proofs.expr_source_side.Statement.{statement}
 use Rattle.join_sides.proofs.expr_source_side.Tie as tie

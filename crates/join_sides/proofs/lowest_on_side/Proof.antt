@@ -8,7 +8,7 @@ use borrow.Author.Count.{below-none, below-more}
 use borrow.Author.Tests.{eq-eqb, ne-eqb}
 use Rattle.semantics.specs.Facts.{cl}
 use Rattle.class_tables.specs.Lowest.{Nowhere}
-use Rattle.row_facts.specs.Asked.{told}
+use Rattle.asked_facts.specs.Asked.{told}
 use Rattle.join_sides.specs.Searching.{here, nowhere}
 use Rattle.join_sides.proofs.lowest_on_side.Statement.{statement}
 use Rattle.join_sides.proofs.lowest_on_side.Tie as tie

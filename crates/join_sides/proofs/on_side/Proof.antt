@@ -4,7 +4,7 @@ use native.Mathlib.Omega.{arith}
 use mathlib.Core.Path.{sym, ap, _∙_}
 use Rattle.semantics.specs.Facts.{cl}
 use Rattle.key_lists.specs.Keys.{keysIn, keysOf}
-use Rattle.row_facts.specs.Asked.{told}
+use Rattle.asked_facts.specs.Asked.{told}
 use Rattle.join_sides.specs.Sides.{sideColumn}
 use Rattle.join_sides.specs.Searching.{Siding, side-none, side-below, sided, unsided, all-sided}
 use Rattle.join_sides.proofs.on_side.Statement.{statement}

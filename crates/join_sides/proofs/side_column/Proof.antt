@@ -2,7 +2,7 @@
 use borrow.Author.Needs.{needs}
 use mathlib.Core.Path.{_∙_, ap}
 use Rattle.semantics.specs.Facts.{cl}
-use Rattle.row_facts.specs.Asked.{told}
+use Rattle.asked_facts.specs.Asked.{told}
 use Rattle.join_sides.specs.Sides.{lowestFrom}
 use Rattle.join_sides.specs.Searching.{before, there, behind}
 use Rattle.join_sides.proofs.side_column.Statement.{statement}

@@ -4,7 +4,7 @@ use mathlib.Core.Path.{refl, sym, ap, _∙_}
 use Rattle.plan.specs.declared.Kind.the-variants.{Source, Filter, Projection, Coalesce, Sort, Merge, GlobalLimit, LocalLimit, SortMergeJoin, HashJoin, OutputRequirement, PartialSort}
 use Rattle.semantics.specs.Facts.{smjKept, hashKept}
 use Rattle.semantics.specs.Properties.{maintains, keptSide}
-use Rattle.row_facts.specs.Asked.{told}
+use Rattle.asked_facts.specs.Asked.{told}
 use Rattle.node_properties.specs.Kinds.{asked-of}
 use Rattle.node_properties.specs.Maintaining.{union-maintains, repartition-maintains}
 use Rattle.node_properties.proofs.maintains.Statement.{statement}

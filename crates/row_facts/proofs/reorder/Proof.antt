@@ -12,7 +12,7 @@ use Rattle.semantics.specs.Facts as sem
 use Rattle.key_lists.specs.Keys.{keysOf}
 use Rattle.facts.specs.Known.{Says}
 use Rattle.fact_slots.specs.Slots.{loaded}
-use Rattle.row_facts.specs.Asked.{told}
+use Rattle.asked_facts.specs.Asked.{told}
 use Rattle.row_facts.specs.Ordering.{order-says}
 use Rattle.row_facts.proofs.reorder.Statement.{statement}
 use Rattle.row_facts.proofs.reorder.Tie as tie

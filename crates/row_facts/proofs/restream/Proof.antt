@@ -8,7 +8,7 @@ use lib.ListN.{drop, set, length-set}
 use Rattle.semantics.specs.Facts as sem
 use Rattle.facts.specs.Known.{Says}
 use Rattle.fact_slots.specs.Slots.{loaded}
-use Rattle.row_facts.specs.Asked.{told}
+use Rattle.asked_facts.specs.Asked.{told}
 use Rattle.row_facts.specs.Rows.{restream-says}
 use Rattle.row_facts.proofs.restream.Statement.{statement}
 use Rattle.row_facts.proofs.restream.Tie as tie

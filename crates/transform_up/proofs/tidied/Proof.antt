@@ -5,7 +5,7 @@ use Rattle.transform_up.proofs.tidied.Statement.{statement}
 use Rattle.transform_up.proofs.tidied.Tie as tie
 use Rattle.transform_up.proofs.tidied.Reads as reads
 use Rattle.transform_up.proofs.tidied.Lts as lts
-use Rattle.plan_context.proofs.copying.copy.Reads as copy-reads
+use Rattle.plan_updates.proofs.copying.copy.Reads as copy-reads
 
 returns : tie.Need-returns
 returns c = let s = c .before .before .before .before in let m = s .args .m .now in let v = s .args .v in let a = s .args .s in let k = s .args .c .now in as-is m v a k (s .pre) (c .if1 .taken)

@@ -10,7 +10,7 @@ use Rattle.record_fields.specs.Proper.{Proper}
 use Rattle.arena.specs.Arena.{index, slot}
 use Rattle.walks.specs.Marks.{sizeT}
 use Rattle.plan_context.specs.View.{treeOf}
-use Rattle.plan_context.specs.ChildLoop.{node-room, few-kids}
+use Rattle.plan_updates.specs.ChildLoop.{node-room, few-kids}
 use Rattle.parallelize_sorts.specs.Shown.{node-proper}
 use Rattle.parallelize_sorts.specs.Removing.{Going, own, shown, own-asks, stays, first-lifts, first-grown, others, going-none, going-next, going-more, end-puts, end-grown}
 use borrow.Fn.Kinds.{In}

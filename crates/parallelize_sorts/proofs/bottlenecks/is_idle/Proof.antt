@@ -5,7 +5,7 @@ use Rattle.plan_codec.specs.Decode.{decode}
 use Rattle.record_fields.specs.Proper.{Proper}
 use Rattle.walks.specs.ParallelizeSorts.{samePartitioning}
 use Rattle.plan_context.specs.View.{forest}
-use Rattle.plan_context.specs.ProperRecords.{over-proper}
+use Rattle.plan_updates.specs.ProperRecords.{over-proper}
 use Rattle.parallelize_sorts.specs.IdleNodes.{not-idle, one-child, child-here, child-proper, idle-is}
 use Rattle.parallelize_sorts.proofs.bottlenecks.is_idle.Statement.{statement}
 use Rattle.parallelize_sorts.proofs.bottlenecks.is_idle.Tie as tie

@@ -1,7 +1,7 @@
 use borrow.Author.Needs.{needs}
 use native.Mathlib.Omega.{arith}
 use mathlib.Core.Path.{refl}
-use Rattle.plan_context.specs.Putting.{put-over}
+use Rattle.plan_updates.specs.Putting.{put-over}
 use Rattle.parallelize_sorts.specs.IdleNodes.{idle-some, idle-grown, back-grown, root-small}
 use Rattle.parallelize_sorts.proofs.bottlenecks.without_idle.Statement.{statement}
 use Rattle.parallelize_sorts.proofs.bottlenecks.without_idle.Tie as tie

@@ -1,7 +1,7 @@
 -- `push_requirements::children::handle_merge` meets its contract. Assumes nothing.
 use borrow.Author.Needs.{needs}
 use Rattle.key_lists.specs.Keys.{keysOf}
-use Rattle.row_facts.specs.Asked.{told}
+use Rattle.asked_facts.specs.Asked.{told}
 use Rattle.push_requirements.specs.Answers.{merge-stop, merge-goes, merge-differs}
 use Rattle.push_requirements.proofs.children.handle_merge.Statement.{statement}
 use Rattle.push_requirements.proofs.children.handle_merge.Tie as tie

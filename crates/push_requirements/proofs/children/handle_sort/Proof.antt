@@ -2,7 +2,7 @@
 use borrow.Author.Needs.{needs}
 use mathlib.Core.Path.{sym, ap, _∙_}
 use Rattle.key_lists.specs.Keys.{keysOf}
-use Rattle.row_facts.specs.Asked.{told}
+use Rattle.asked_facts.specs.Asked.{told}
 use Rattle.push_requirements.specs.Answers.{go-stop, go-on}
 use Rattle.semantics.specs.Facts as sem
 use Rattle.push_requirements.proofs.children.handle_sort.Statement.{statement}

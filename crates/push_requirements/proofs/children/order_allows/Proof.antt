@@ -1,7 +1,7 @@
 -- `push_requirements::children::order_allows` meets its contract. Assumes nothing.
 use borrow.Author.Needs.{needs}
 use Rattle.key_lists.specs.Keys.{keysOf}
-use Rattle.row_facts.specs.Asked.{told}
+use Rattle.asked_facts.specs.Asked.{told}
 use Rattle.push_requirements.specs.Answers.{order-allows-none, order-allows-some}
 use Rattle.push_requirements.proofs.children.order_allows.Statement.{statement}
 use Rattle.push_requirements.proofs.children.order_allows.Tie as tie

@@ -2,7 +2,7 @@
 use borrow.Author.Needs.{needs}
 use mathlib.Core.Path.{_∙_}
 use Rattle.key_lists.specs.Keys.{keysOf}
-use Rattle.row_facts.specs.Asked.{told}
+use Rattle.asked_facts.specs.Asked.{told}
 use Rattle.push_requirements.specs.Joins.{reorder-none, reorder-some}
 use Rattle.push_requirements.proofs.joins.meets_reordered.Statement.{statement}
 use Rattle.push_requirements.proofs.joins.meets_reordered.Tie as tie

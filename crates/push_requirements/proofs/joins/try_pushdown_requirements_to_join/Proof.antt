@@ -3,7 +3,7 @@ use borrow.Author.Needs.{needs}
 use native.Mathlib.Omega.{arith}
 use mathlib.Core.Path.{sym, ap, _∙_}
 use Prim.Native.Nat.{ℕ}
-use Rattle.row_facts.specs.Asked.{told}
+use Rattle.asked_facts.specs.Asked.{told}
 use Rattle.join_sides.specs.Room.{roomy}
 use Rattle.push_requirements.specs.Joins.{left-keys, pushed-left, right-off, right-keys, right-inside, pushed-right, pushed-neither}
 use Rattle.plan.specs.WellFormed.{joinWidth}

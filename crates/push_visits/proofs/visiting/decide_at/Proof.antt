@@ -6,7 +6,7 @@ use mathlib.Core.List.{List}
 use Prim.Native.Nat.{ℕ, _/_, _<_}
 use Rattle.plan_codec.specs.Decode.{decode}
 use Rattle.semantics.specs.Properties.{fetchOp, fetches}
-use Rattle.row_facts.specs.Asked.{told}
+use Rattle.asked_facts.specs.Asked.{told}
 use Rattle.plan_context.specs.Laws.{here}
 use Rattle.push_requirements.specs.Pushing.{Seen}
 use Rattle.sort_pushdown.specs.Decisions.{Decides, Visited, visitOf}

@@ -7,7 +7,7 @@ use lib.Seq.{length-take-le}
 use Rattle.arena.specs.Arena.{slot}
 use Rattle.walks.specs.Marks.{sizeT}
 use Rattle.plan_context.specs.View.{treeOf}
-use Rattle.plan_context.specs.ChildLoop.{up-to, node-arena, few-kids, kid-there}
+use Rattle.plan_updates.specs.ChildLoop.{up-to, node-arena, few-kids, kid-there}
 use Rattle.replace_with_order_preserving_variants.specs.Entering.{Going, going-none, going-next, going-here}
 use Rattle.replace_with_order_preserving_variants.specs.Breaking.{eachOf, stays, break-more, break-puts, break-end}
 use Prim.Native.Nat.{ℕ, _<_}

@@ -6,7 +6,7 @@ use Rattle.plan.specs.Op.{coalesce}
 use Rattle.plan_codec.specs.Encode.{encode}
 use Rattle.arena.specs.Laws.{below-at}
 use Rattle.plan_context.specs.View.{forest}
-use Rattle.plan_context.specs.ProperRecords.{record-proper}
+use Rattle.plan_updates.specs.ProperRecords.{record-proper}
 use Rattle.replace_with_order_preserving_variants.specs.Breaking.{one-below, merge-puts, merge-broken}
 use Rattle.replace_with_order_preserving_variants.proofs.breaking.break_merge.Statement.{statement}
 use Rattle.replace_with_order_preserving_variants.proofs.breaking.break_merge.Tie as tie

@@ -8,7 +8,7 @@ use mathlib.Core.Bool.{true}
 use lib.ListN.{length}
 use Rattle.arena.specs.Arena.{slot}
 use Rattle.plan_context.specs.View.{forest}
-use Rattle.plan_context.specs.ProperRecords.{record-proper}
+use Rattle.plan_updates.specs.ProperRecords.{record-proper}
 use Rattle.replace_with_order_preserving_variants.specs.Nodes.{shown}
 use Rattle.replace_with_order_preserving_variants.specs.Replacing.{grown-as}
 use Rattle.replace_with_order_preserving_variants.specs.Preserving.{slot-arena}

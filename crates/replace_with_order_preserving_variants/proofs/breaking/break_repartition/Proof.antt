@@ -3,7 +3,7 @@ use native.Mathlib.Omega.{arith}
 use Prim.Native.Nat.{_*_}
 use Rattle.arena.specs.Laws.{below-at}
 use Rattle.plan_context.specs.Nodes.{proper}
-use Rattle.plan_context.specs.Putting.{put-over}
+use Rattle.plan_updates.specs.Putting.{put-over}
 use Rattle.replace_with_order_preserving_variants.specs.Preserving.{slot-arena, some-kid, one-child}
 use Rattle.replace_with_order_preserving_variants.specs.Breaking.{repartition-kept, repartition-puts, repartition-broken}
 use Rattle.replace_with_order_preserving_variants.proofs.breaking.break_repartition.Statement.{statement}

@@ -12,7 +12,7 @@ use Rattle.walks.specs.Marks.{sizeT}
 use Rattle.plan_context.specs.View.{treeOf}
 use Rattle.replace_with_order_preserving_variants.specs.Nodes.{slot-proper}
 use Rattle.replace_with_order_preserving_variants.specs.Marking.{isFetchedCoalesce}
-use Rattle.plan_context.specs.ChildLoop.{up-to, node-arena, few-kids}
+use Rattle.plan_updates.specs.ChildLoop.{up-to, node-arena, few-kids}
 use Rattle.replace_with_order_preserving_variants.specs.Entering.{Going, going-none, going-here}
 use Rattle.replace_with_order_preserving_variants.specs.Preserving.{eachOf, unmarked, fetched-stays, preserve-next, preserve-more, preserve-puts, preserve-ok, preserve-plain, preserve-end}
 use Prim.Native.Nat.{ℕ, _<_}

@@ -9,7 +9,7 @@ use lib.ListN.{length}
 use Rattle.arena.specs.Arena.{slot}
 use Rattle.walks.specs.theorems.common.Trees.{OkT}
 use Rattle.plan_context.specs.View.{forest}
-use Rattle.plan_context.specs.ProperRecords.{record-proper}
+use Rattle.plan_updates.specs.ProperRecords.{record-proper}
 use Rattle.replace_with_order_preserving_variants.specs.Nodes.{shown}
 use Rattle.replace_with_order_preserving_variants.specs.Replacing.{grown-as}
 use Rattle.replace_with_order_preserving_variants.specs.Preserving.{slot-arena, by-repartition, by-coalesce, by-other}

@@ -3,7 +3,7 @@ use native.Mathlib.Omega.{arith}
 use Prim.Native.Nat.{_*_}
 use Rattle.arena.specs.Laws.{below-at}
 use Rattle.plan_context.specs.Nodes.{proper}
-use Rattle.plan_context.specs.Putting.{put-over}
+use Rattle.plan_updates.specs.Putting.{put-over}
 use Rattle.replace_with_order_preserving_variants.specs.Preserving.{slot-arena, some-kid, one-child, repartition-kept, repartition-puts, repartition-marked}
 use Rattle.replace_with_order_preserving_variants.proofs.preserving.preserve_repartition.Statement.{statement}
 use Rattle.replace_with_order_preserving_variants.proofs.preserving.preserve_repartition.Tie as tie

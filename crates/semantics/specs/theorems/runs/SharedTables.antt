@@ -1,7 +1,7 @@
 -- Tables that facts and runs share, told by what every run of a small plan delivers, so that an error in one shows: whose order a join keeps
 -- (smjKept, hashKept: rows that match once, so a kept side fixes the order of all rows), whose streams it has (byRight), which left rows
 -- a hash join sees, and when a repartition keeps the known order (keepsOrder). Where no side is kept, and where a repartition does not
--- maintain, any order is a run: Wide.
+-- maintain, any order is a run: NotNarrower.
 use mathlib.Core.Path.{_≡_, refl, sym, ap, ap₂, _∙_, subst}
 use mathlib.Core.Bool.{Bool, true, false}
 use mathlib.Core.List.{List, [], _∷_, _++_, map}

@@ -4,9 +4,10 @@ use mathlib.Core.Path.{_≡_, refl, sym, ap, _∙_, subst}
 use Prim.Native.Nat.{_*_, _-_, _≤_}
 use Rattle.plan_codec.specs.Reading.{reading}
 use Rattle.plan.specs.Numbers.{numberOf}
-use Rattle.sort_placement.specs.Answers.{afterReading}
+use Rattle.plan_calls.specs.Answers.{afterReading}
 use lib.ListN.{length}
-use Rattle.sort_placement.specs.Calls.{resultOf, Answered, CalledAs}
+use Rattle.plan_calls.specs.Calls.{resultOf, CalledAs}
+use Rattle.sort_placement.specs.Replies.{Answered}
 use Rattle.sort_placement.specs.Memory.{done-answered, no-room-same, inside, outside}
 use Rattle.sort_placement.proofs.memory.call.Statement.{statement}
 use Rattle.sort_placement.proofs.memory.call.Tie as tie

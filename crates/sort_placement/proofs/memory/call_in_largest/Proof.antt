@@ -1,14 +1,14 @@
 use borrow.Author.Needs.{needs}
 use native.Mathlib.Omega.{arith}
 use Rattle.plan_codec.specs.Reading.{reading}
-use Rattle.sort_placement.specs.Answers.{afterReading}
-use Rattle.sort_placement.specs.Calls.{resultOf}
+use Rattle.plan_calls.specs.Answers.{afterReading}
+use Rattle.plan_calls.specs.Calls.{resultOf}
 use Rattle.sort_placement.specs.Memory.{done-answered, full-done}
 use Rattle.sort_placement.proofs.memory.call_in_largest.Statement.{statement}
 use Rattle.sort_placement.proofs.memory.call_in_largest.Tie as tie
 use Rattle.sort_placement.proofs.memory.call_in_largest.Reads as reads
 use Rattle.sort_placement.proofs.memory.call_in_largest.Lts as lts
-use Rattle.sort_placement.proofs.calls.call_in.Reads as call-in-reads
+use Rattle.plan_calls.proofs.calls.call_in.Reads as call-in-reads
 
 slice-aggregate-call-in : tie.Need-slice-aggregate-call-in
 slice-aggregate-call-in c = search needs

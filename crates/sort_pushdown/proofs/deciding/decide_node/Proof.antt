@@ -7,7 +7,7 @@ use Rattle.plan.specs.declared.Fetch.{Fetch}
 use Rattle.plan_codec.specs.Decode.{decode}
 use Rattle.semantics.specs.Properties.{fetches, wanted}
 use Rattle.key_lists.specs.Keys.{keysOf, Ordered}
-use Rattle.row_facts.specs.Asked.{told}
+use Rattle.asked_facts.specs.Asked.{told}
 use Rattle.push_requirements.specs.declared.Pushed.{Pushed}
 use Rattle.push_requirements.specs.declared.Pushed.the-variants.{Stop}
 use Rattle.push_requirements.specs.Pushing.{Pushes}

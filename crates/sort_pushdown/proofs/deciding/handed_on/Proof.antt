@@ -6,7 +6,7 @@ use mathlib.Core.List.{[]}
 use Rattle.plan.specs.declared.Distribution.{Distribution}
 use Rattle.plan_codec.specs.Decode.{decode}
 use Rattle.semantics.specs.Properties.{fetches}
-use Rattle.row_facts.specs.Asked.{told}
+use Rattle.asked_facts.specs.Asked.{told}
 use Rattle.sort_pushdown.specs.Decisions.{Asks}
 use Rattle.sort_pushdown.specs.Deciding.{stay-by, facts-like, handed-like}
 use Rattle.semantics.specs.Facts as sem

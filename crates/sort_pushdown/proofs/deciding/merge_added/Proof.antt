@@ -4,7 +4,7 @@ use mathlib.Core.Path.{subst}
 use Rattle.plan_codec.specs.Decode.{decode}
 use Rattle.semantics.specs.Properties.{fetches, rebuilt}
 use Rattle.key_lists.specs.Keys.{keysOf}
-use Rattle.row_facts.specs.Asked.{told}
+use Rattle.asked_facts.specs.Asked.{told}
 use Rattle.push_requirements.specs.declared.Pushed.{Pushed}
 use Rattle.push_requirements.specs.Pushing.{Pushes}
 use Rattle.sort_pushdown.specs.Merging.{asked-again, seen₁, limit₁, merge-goes, merge-stop}

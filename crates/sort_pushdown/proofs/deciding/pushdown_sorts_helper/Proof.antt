@@ -4,7 +4,7 @@ use mathlib.Core.Path.{sym, _∙_}
 use Rattle.plan.specs.declared.Kind.the-variants.{Sort}
 use Rattle.plan_codec.specs.Decode.{decode}
 use Rattle.semantics.specs.Properties.{rebuilt}
-use Rattle.row_facts.specs.Asked.{told}
+use Rattle.asked_facts.specs.Asked.{told}
 use Rattle.node_properties.specs.Kinds.{op-of, code-kind}
 use Rattle.sort_pushdown.specs.Decisions.{visitOf}
 use Rattle.sort_pushdown.specs.Merging.{seen-again, helper-touched, helper-node, helper-sort, sort-one, limit-again}

@@ -5,7 +5,7 @@ use mathlib.Core.Bool.{false}
 use Rattle.plan_codec.specs.Decode.{decode}
 use Rattle.semantics.specs.Properties.{fetches}
 use Rattle.key_lists.specs.Keys.{keysOf}
-use Rattle.row_facts.specs.Asked.{told}
+use Rattle.asked_facts.specs.Asked.{told}
 use Rattle.walks.specs.Utils.{sortAboveWithDistribution}
 use Rattle.sort_pushdown.specs.Decisions.{Adds}
 use Rattle.sort_pushdown.specs.Deciding.{stay-by, facts-like, own-like}

@@ -1,7 +1,7 @@
 -- `sort_pushdown::new_nodes::merge_and_sort` meets its contract. Assumes nothing.
 use borrow.Author.Needs.{needs}
 use Rattle.key_lists.specs.Keys.{keysOf}
-use Rattle.row_facts.specs.Asked.{told}
+use Rattle.asked_facts.specs.Asked.{told}
 use Rattle.sort_pushdown.specs.Deciding.{merge-above}
 use Rattle.sort_pushdown.proofs.new_nodes.merge_and_sort.Statement.{statement}
 use Rattle.sort_pushdown.proofs.new_nodes.merge_and_sort.Tie as tie

@@ -2,7 +2,7 @@
 use borrow.Author.Needs.{needs}
 use mathlib.Core.Path.{sym, _∙_}
 use Rattle.key_lists.specs.Keys.{keysOf}
-use Rattle.row_facts.specs.Asked.{told}
+use Rattle.asked_facts.specs.Asked.{told}
 use Rattle.sort_pushdown.specs.Deciding.{above-merge, above-sort}
 use Rattle.sort_pushdown.proofs.new_nodes.sort_above_with_distribution.Statement.{
   statement,

@@ -5,7 +5,7 @@ use mathlib.Core.Bool.{_||_}
 use mathlib.Core.List.{List}
 use Rattle.row_order.specs.Iso.{Key}
 use Rattle.plan.specs.Op.{sortOp}
-use Rattle.row_facts.specs.Asked.{told}
+use Rattle.asked_facts.specs.Asked.{told}
 use Rattle.walks.specs.Utils.{needsMerge}
 use Rattle.sort_pushdown.specs.Decisions.{visitOf}
 use Rattle.sort_pushdown.specs.Deciding.{if-so, if-not, requirement-is, requirement-few, requirement-some, requirement-none}

@@ -7,7 +7,7 @@ use Rattle.row_order.specs.Iso.{Key}
 use Rattle.plan.specs.declared.Distribution.the-variants.{Unspecified}
 use Rattle.plan_codec.specs.Decode.{decode}
 use Rattle.key_lists.specs.Keys.{orderOf}
-use Rattle.row_facts.specs.Asked.{told}
+use Rattle.asked_facts.specs.Asked.{told}
 use Rattle.walks.specs.Utils.{sortAboveWithDistribution}
 use Rattle.sort_pushdown.specs.Decisions.{Adds}
 use Rattle.sort_pushdown.specs.Deciding.{sort-cut, gone-by, parts}

@@ -7,7 +7,7 @@ use Rattle.plan.specs.declared.Fetch.{Fetch}
 use Rattle.plan.specs.declared.Distribution.the-variants.{Unspecified}
 use Rattle.plan_codec.specs.Decode.{decode}
 use Rattle.key_lists.specs.Keys.{orderOf}
-use Rattle.row_facts.specs.Asked.{told}
+use Rattle.asked_facts.specs.Asked.{told}
 use Rattle.walks.specs.SortPushdown.{minFetch}
 use Rattle.sort_pushdown.specs.Deciding.{stricter-is, sort-cut, gone-by, parts}
 use Rattle.sort_pushdown.proofs.sorts.sort_unnecessary.Statement.{statement}

@@ -1,7 +1,7 @@
 -- `sort_pushdown::sorts::stricter` meets its contract. Assumes nothing.
 use borrow.Author.Needs.{needs}
 use Rattle.key_lists.specs.Keys.{keysOf}
-use Rattle.row_facts.specs.Asked.{told}
+use Rattle.asked_facts.specs.Asked.{told}
 use Rattle.sort_pushdown.specs.Deciding.{stricter-own, stricter-parent}
 use Rattle.sort_pushdown.proofs.sorts.stricter.Statement.{statement}
 use Rattle.sort_pushdown.proofs.sorts.stricter.Tie as tie

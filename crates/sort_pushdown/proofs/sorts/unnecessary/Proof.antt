@@ -3,7 +3,7 @@ use mathlib.Core.Bool.{_||_}
 use borrow.Author.Needs.{needs}
 use mathlib.Core.Path.{ap, ap₂, _∙_}
 use Rattle.key_lists.specs.Keys.{keysOf}
-use Rattle.row_facts.specs.Asked.{told}
+use Rattle.asked_facts.specs.Asked.{told}
 use Rattle.semantics.specs.Facts as sem
 use Rattle.sort_pushdown.proofs.sorts.unnecessary.Statement.{statement}
 use Rattle.sort_pushdown.proofs.sorts.unnecessary.Tie as tie

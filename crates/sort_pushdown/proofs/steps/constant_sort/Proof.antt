@@ -3,7 +3,7 @@ use borrow.Author.Needs.{needs}
 use mathlib.Core.Path.{ap, ap₂, _∙_}
 use mathlib.Core.Bool.{not, _&&_}
 use Rattle.plan_codec.specs.Decode.{decode}
-use Rattle.row_facts.specs.Asked.{told}
+use Rattle.asked_facts.specs.Asked.{told}
 use Rattle.sort_pushdown.specs.Deciding.{sort-code, not-not}
 use Rattle.semantics.specs.Facts as sem
 use Rattle.sort_pushdown.proofs.steps.constant_sort.Statement.{statement}

@@ -4,7 +4,7 @@ use mathlib.Core.Path.{sym, ap, ap₂, _∙_}
 use mathlib.Core.Bool.{not, _&&_}
 use Prim.Native.Nat.{ℕ, _+_}
 use Rattle.plan_codec.specs.Decode.{decode}
-use Rattle.row_facts.specs.Asked.{told}
+use Rattle.asked_facts.specs.Asked.{told}
 use Rattle.walks.specs.Utils.{isSort}
 use Rattle.walks.specs.Counted.{tooMany}
 use Rattle.sort_pushdown.specs.Steps.{afterBy}

@@ -11,7 +11,7 @@ use Rattle.arena.specs.Arena.{index, slot}
 use Rattle.walks.specs.Marks.{sizeT}
 use Rattle.plan_context.specs.View.{treeOf}
 use Rattle.sort_removal.specs.Standing.{view, slot-room, own-proper, is-code, not-code}
-use Rattle.plan_context.specs.ChildLoop.{same-slot, node-room, few-kids}
+use Rattle.plan_updates.specs.ChildLoop.{same-slot, node-room, few-kids}
 use Rattle.sort_removal.specs.Recursion.{Going, standing, unmarked, going-none, going-next, going-more, going-rems, end-asks, going-end}
 use borrow.Fn.Kinds.{In}
 use borrow.Fn.PlainCycle.{Measures, is, falls, and}

@@ -1,0 +1,7 @@
+pub mod Answers
+pub mod Filing
+pub mod PartialSorts
+pub mod Calls
+pub mod Calling
+pub mod Pushing
+pub mod PartialSorting

@@ -1,0 +1,12 @@
+pub mod ProperRecords
+pub mod Kids
+pub mod From
+pub mod ChildLoop
+pub mod Rebuild
+pub mod Putting
+pub mod Rebuilt
+pub mod Covering
+pub mod Again
+pub mod Copy
+pub mod Opened
+pub mod Opening
