@@ -60,7 +60,8 @@ pub fn child(m: &[u8], i: usize, j: usize) -> usize
 // The numbers ks, in two bytes each, over the start of d.
 fn put_numbers(d: &mut [u8], ks: &[usize])
     requires { ⌜ (2 * length (now ks) ≤ length (now d)) × Below 65536 (now ks) ⌝ }
-    ensures { λ _. ⌜ (numbersIn (now (d .exit)) (length (now (ks .entry))) ≡ now (ks .entry)) × (drop (2 * length (now (ks .entry))) (now (d .exit)) ≡ drop (2 * length (now (ks .entry))) (now (d .entry))) ⌝ }
+    ensures { λ _. ⌜ (numbersIn (now (d .exit)) (length (now (ks .entry))) ≡ now (ks .entry))
+        × (drop (2 * length (now (ks .entry))) (now (d .exit)) ≡ drop (2 * length (now (ks .entry))) (now (d .entry))) ⌝ }
 {
     let mut j = 0;
     while j < ks.len() {

@@ -50,9 +50,11 @@ lengths-are a b = sym (ap₂ eqb (length-keys (getD a 1 0) (loaded a .order .wor
 
 -- ---- fresh keys
 
-pub fresh-is : (b : List ℕ) (s : ℕ) (k r : Keys) → FactRow b → s ≡ le32 b 4 → Keyed (nfBy (bit s) (λ c. c) [] (keysOf k)) r → Keyed (freshKeys (told b) [] (keysOf k)) r
+pub fresh-is : (b : List ℕ) (s : ℕ) (k r : Keys) → FactRow b → s ≡ le32 b 4 → Keyed (nfBy (bit s) (λ c. c) [] (keysOf k)) r
+    → Keyed (freshKeys (told b) [] (keysOf k)) r
 fresh-is b s k r f e h =
-    subst (λ (l : List Key). Keyed l r) (ap (λ (cs : ℕ → Bool). nfBy cs (λ c. c) [] (keysOf k)) (ap bit e ∙ isC-is (loaded b) (f .fine)) ∙ sym (fresh-normal (told b) [] (keysOf k))) h
+    subst (λ (l : List Key). Keyed l r) (ap (λ (cs : ℕ → Bool). nfBy cs (λ c. c) [] (keysOf k)) (ap bit e ∙ isC-is (loaded b) (f .fine))
+    ∙ sym (fresh-normal (told b) [] (keysOf k))) h
 
 -- ---- to reorder by a list and to ask for a second is to ask whether the first is compatible with the second
 

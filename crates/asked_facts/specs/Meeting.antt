@@ -30,7 +30,8 @@ pub record Fronting (F : Facts) (q ks : List Key) (s v m w n i : ℕ) : Type 0 w
   pub left : (j : ℕ) → prefixb (nfBy (isC F) (cl F) seen (take j (keysIn n w))) (keysIn m v) ≡ prefixb (nf F [] (take (i + j) ks)) q
   pub front : (j : ℕ) → j < i → prefixb (nf F [] (take (suc j) ks)) q ≡ true
 
-pub front-none : (F : Facts) (order k : Keys) (s : ℕ) → ((c : ℕ) → bit s c ≡ isC F c) → Fronting F (keysOf order) (keysOf k) s (order .word) (order .len) (k .word) (k .len) 0
+pub front-none : (F : Facts) (order k : Keys) (s : ℕ) → ((c : ℕ) → bit s c ≡ isC F c) → Fronting F (keysOf order) (keysOf k) s (order .word) (order .len)
+    (k .word) (k .len) 0
 front-none F order k s h =
     record {
       far = let e = length-keys (k .len) (k .word) in omega arith;
@@ -62,7 +63,8 @@ module _ (F : Facts) (q ks : List Key) (s v m w n i : ℕ) (g : Fronting F q ks 
     skip-here : (l : List Key) → nfBy (isC F) (cl F) (g .seen) (k ∷ l) ≡ nfBy (isC F) (cl F) (g .seen) l
     skip-here l = rw (dropped true f)
 
-    skip-left : (j : ℕ) → prefixb (nfBy (isC F) (cl F) (g .seen) (take j (keysIn (n - 1) (w / 256)))) (keysIn m v) ≡ prefixb (nf F [] (take (i + 1 + j) ks)) q
+    skip-left : (j : ℕ) → prefixb (nfBy (isC F) (cl F) (g .seen) (take j (keysIn (n - 1) (w / 256)))) (keysIn m v) ≡ prefixb
+        (nf F [] (take (i + 1 + j) ks)) q
     skip-left j =
         ap (λ l. prefixb l (keysIn m v)) (sym (skip-here (take j (keysIn (n - 1) (w / 256)))))
         ∙ ap (λ l. prefixb (nfBy (isC F) (cl F) (g .seen) (take (suc j) l)) (keysIn m v)) (sym (next n w h))
@@ -86,7 +88,8 @@ module _ (F : Facts) (q ks : List Key) (s v m w n i : ℕ) (g : Fronting F q ks 
 
     -- this key alone decides as the first i + 1 keys do
     alone : (b : Bool) → prefixb (withColumn (cl F (k .col)) k ∷ []) (keysIn m v) ≡ b → prefixb (nf F [] (take (i + 1) ks)) q ≡ b
-    alone b z = sym (g .left 1) ∙ ap (λ l. prefixb (nfBy (isC F) (cl F) (g .seen) (take 1 l)) (keysIn m v)) (next n w h) ∙ ap (λ l. prefixb l (keysIn m v)) (kept-here []) ∙ z
+    alone b z = sym (g .left 1) ∙ ap (λ l. prefixb (nfBy (isC F) (cl F) (g .seen) (take 1 l)) (keysIn m v)) (next n w h) ∙ ap (λ l. prefixb l (keysIn m v))
+        (kept-here []) ∙ z
 
     stopped : prefixb (nf F [] (take (i + 1) ks)) q ≡ false → Fronts F q ks i
     stopped z =
@@ -128,7 +131,8 @@ front-end F q ks s v m w n i g h = let e = g .far in record { few = omega arith;
 -- ---- all keys are met exactly if their number is
 
 -- fewer keys have a prefix of the normal form
-shorter : (cs : ℕ → Bool) (low : ℕ → ℕ) (n : ℕ) (seen : List ℕ) (ks q : List Key) → prefixb (nfBy cs low seen ks) q ≡ true → prefixb (nfBy cs low seen (take n ks)) q ≡ true
+shorter : (cs : ℕ → Bool) (low : ℕ → ℕ) (n : ℕ) (seen : List ℕ) (ks q : List Key) → prefixb (nfBy cs low seen ks) q ≡ true
+    → prefixb (nfBy cs low seen (take n ks)) q ≡ true
 shorter cs low zero seen ks q e = refl
 shorter cs low (suc n) seen [] q e = refl
 shorter cs low (suc n) seen (k ∷ ks) q e =
@@ -137,7 +141,8 @@ shorter cs low (suc n) seen (k ∷ ks) q e =
     Shorter : List ℕ → Type 0
     Shorter s = (q : List Key) → prefixb (nfBy cs low s ks) q ≡ true → prefixb (nfBy cs low s (take n ks)) q ≡ true
 
-    go : (b : Bool) (q : List Key) → prefixb (cond b (nfBy cs low seen ks) (withColumn (low (k .col)) k ∷ nfBy cs low (low (k .col) ∷ seen) ks)) q ≡ true → Shorter seen → Shorter (low (k .col) ∷ seen)
+    go : (b : Bool) (q : List Key) → prefixb (cond b (nfBy cs low seen ks) (withColumn (low (k .col)) k ∷ nfBy cs low (low (k .col) ∷ seen) ks)) q ≡ true
+        → Shorter seen → Shorter (low (k .col) ∷ seen)
         → prefixb (cond b (nfBy cs low seen (take n ks)) (withColumn (low (k .col)) k ∷ nfBy cs low (low (k .col) ∷ seen) (take n ks))) q ≡ true
     go true q e h g = h q e
     go false [] e h g = no-bool e

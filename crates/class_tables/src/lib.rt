@@ -218,7 +218,8 @@ fn has_one(set: u32, a: usize, b: usize) -> bool
 // The constants when columns a and b are equal: a class that holds a constant is all constant.
 pub fn linked_set(table: &[usize; 32], set: u32, a: usize, b: usize, width: usize) -> u32
     requires { ⌜ (a < 32) × (b < 32) × (width ≤ 32) ⌝ }
-    ensures { λ r. ⌜ Holding (λ c. bit set c || (below width (inClasses (now (table .entry)) (at (now (table .entry)) a) (at (now (table .entry)) b)) c && (bit set a || bit set b))) r ⌝ }
+    ensures { λ r. ⌜ Holding (λ c. bit set c || (below width (inClasses (now (table .entry)) (at (now (table .entry)) a) (at (now (table .entry)) b)) c
+        && (bit set a || bit set b))) r ⌝ }
 {
     if has_one(set, a, b) {
         let class = class_set(table, low(table, a), low(table, b), width);

@@ -52,14 +52,17 @@ bit-cut n c h =
 
 bit-above : (b w c : ℕ) → w ≤ c → bit (b * 2 ^ w) c ≡ bit b (c - w)
 bit-above b w c h =
-    let e : b * 2 ^ w / 2 ^ c ≡ b / 2 ^ (c - w) = ap (λ k. b * 2 ^ w / 2 ^ k) (let z : c ≡ w + (c - w) = omega arith in z) ∙ sym (shr-shr (b * 2 ^ w) w (c - w)) ∙ ap (λ x. x / 2 ^ (c - w)) (shl-shr b w) in
+    let e : b * 2 ^ w / 2 ^ c ≡ b / 2 ^ (c - w) = ap (λ k. b * 2 ^ w / 2 ^ k) (let z : c ≡ w + (c - w) = omega arith in z)
+    ∙ sym (shr-shr (b * 2 ^ w) w (c - w)) ∙ ap (λ x. x / 2 ^ (c - w)) (shl-shr b w) in
     rw e
 
 bit-under : (b w c : ℕ) → c < w → bit (b * 2 ^ w) c ≡ false
 bit-under b w c h =
     let k : ℕ = w - c - 1 in
-    let e : 2 ^ w ≡ 2 ^ k * 2 * 2 ^ c = ap (λ n. 2 ^ n) (let z : w ≡ k + 1 + c = omega arith in z) ∙ pow-add 2 (k + 1) c ∙ ap (λ x. x * 2 ^ c) (pow-add 2 k 1) in
-    let f : b * 2 ^ w ≡ b * 2 ^ k * 2 * 2 ^ c = ap (λ x. b * x) e ∙ sym (mul-assoc b (2 ^ k * 2) (2 ^ c)) ∙ ap (λ x. x * 2 ^ c) (sym (mul-assoc b (2 ^ k) 2)) in
+    let e : 2 ^ w ≡ 2 ^ k * 2 * 2 ^ c = ap (λ n. 2 ^ n) (let z : w ≡ k + 1 + c = omega arith in z) ∙ pow-add 2 (k + 1) c
+    ∙ ap (λ x. x * 2 ^ c) (pow-add 2 k 1) in
+    let f : b * 2 ^ w ≡ b * 2 ^ k * 2 * 2 ^ c = ap (λ x. b * x) e ∙ sym (mul-assoc b (2 ^ k * 2) (2 ^ c))
+    ∙ ap (λ x. x * 2 ^ c) (sym (mul-assoc b (2 ^ k) 2)) in
     rw (f, shl-shr (b * 2 ^ k * 2) c, mul-mod-left (b * 2 ^ k) 2)
 
 pub bit-shifted : (b w c : ℕ) → bit (b * 2 ^ w) c ≡ leb w c && bit b (c - w)

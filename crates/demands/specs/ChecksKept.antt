@@ -16,7 +16,8 @@ use Rattle.walks.specs.theorems.partial_sort.Kept.{partial-passes}
 pub parallelize-passes : (f g : Plan) → wellFormed f ≡ true → check f ≡ true → parallelized f ≡ answered g → check g ≡ true
 parallelize-passes f g e c h =
     let i : answerUp parallelizeSorts f ≡ answered g = sym (parallelized-is f) ∙ h in
-    subst (λ (x : Plan). check x ≡ true) (sym (up-answers parallelizeSorts f g i .1)) (parallelize-check f (well-ok f e) (up-whole parallelizeSorts f g i) c)
+    subst (λ (x : Plan). check x ≡ true) (sym (up-answers parallelizeSorts f g i .1))
+    (parallelize-check f (well-ok f e) (up-whole parallelizeSorts f g i) c)
 
 pub partial-sort-passes : (n : ℕ) (f g : Plan) → check f ≡ true → partiallySorted n f ≡ answered g → check g ≡ true
 partial-sort-passes n f g e h = partial-passes n f g e h

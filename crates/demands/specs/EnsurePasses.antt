@@ -22,5 +22,6 @@ ensure-passes f g e h =
     let p = up-answers ensureSorting f g (sym (ensured-is f) ∙ h) in
     subst (λ (x : Plan). check x ≡ true) (sym (p .1)) (ensure-check f (well-fit f e))
 
-pub ensure-feeds : (f g : Plan) → wellFormed f ≡ true → ensured f ≡ answered g → (E : Env) → Sources E 0 f → (out : Forest Streams) → Run E 0 0 g out → AllFed g out
+pub ensure-feeds : (f g : Plan) → wellFormed f ≡ true → ensured f ≡ answered g → (E : Env) → Sources E 0 f → (out : Forest Streams)
+    → Run E 0 0 g out → AllFed g out
 ensure-feeds f g e h E d out r = order-kept g (ensure-passes f g e h) E (sources-kept E f g (answer-plan ensuring f g e h) d) out r

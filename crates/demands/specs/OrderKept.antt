@@ -29,7 +29,8 @@ use Rattle.semantics.specs.theorems.sound.DeclaredKept.{declared-kept}
 -- order that the operator wants of child i
 abbrev pub FedInOrder : Op → List Streams → Type 0
 FedInOrder o children =
-    (i s : ℕ) → let stream = getD (getD children i []) s [] in (m n : ℕ) → m < n → n < length stream → before (wanted o i) (getD stream n []) (getD stream m []) ≡ false
+    (i s : ℕ) → let stream = getD (getD children i []) s [] in
+    (m n : ℕ) → m < n → n < length stream → before (wanted o i) (getD stream n []) (getD stream m []) ≡ false
 
 -- Every operator of a plan is fed so, by the streams that a run chose for every node
 abbrev pub AllFed : Plan → Forest Streams → Type 0

@@ -31,8 +31,10 @@ mayAddLimits pushing = false
 -- All of it: see SamePlan
 pub answer-plan : (w : Walk) (f g : Plan) → wellFormed f ≡ true → answer w f ≡ answered g → SamePlan (mayAddLimits w) f g
 answer-plan ensuring f g e h = subst (SamePlan true f) (sym (up-answers ensureSorting f g (sym (ensured-is f) ∙ h) .1)) (ensure-plan f (well-fit f e))
-answer-plan parallelizing f g e h = subst (SamePlan false f) (sym (up-answers parallelizeSorts f g (sym (parallelized-is f) ∙ h) .1)) (parallelize-plan f (well-fit f e))
-answer-plan (preserving s) f g e h = subst (SamePlan false f) (sym (up-answers (replaceWithOrderPreservingVariants s) f g (sym (preserved-is s f) ∙ h) .1)) (preserve-plan s f (well-fit f e))
+answer-plan parallelizing f g e h = subst (SamePlan false f) (sym (up-answers parallelizeSorts f g (sym (parallelized-is f) ∙ h) .1))
+    (parallelize-plan f (well-fit f e))
+answer-plan (preserving s) f g e h = subst (SamePlan false f) (sym (up-answers (replaceWithOrderPreservingVariants s) f g (sym (preserved-is s f) ∙ h) .1))
+    (preserve-plan s f (well-fit f e))
 answer-plan pushing f g e h = subst (SamePlan false f) (sym (down-answers f g (sym (pushed-is f (well-fit f e)) ∙ h) .1)) (push-plan f (well-fit f e))
 
 -- Each walk keeps the skeleton: without kinds 5 to 10 the two trees are one

@@ -51,7 +51,8 @@ up-numbered true b g = λ e. omega arith
 up-numbered false true g = tt
 up-numbered false false g = λ e. omega arith
 
-down-numbered : (a b d : Bool) (g : Plan) → Numbered (cond a (refused HasPartialSort) (cond b (cond d (refused ConstantSort) (answered g)) (refused TooManyNodes)))
+down-numbered : (a b d : Bool) (g : Plan)
+    → Numbered (cond a (refused HasPartialSort) (cond b (cond d (refused ConstantSort) (answered g)) (refused TooManyNodes)))
 down-numbered true b d g = λ e. omega arith
 down-numbered false true true g = λ e. omega arith
 down-numbered false true false g = tt
@@ -83,10 +84,12 @@ pub record Rewriting (w : Walk) (s out : List ℕ) : Type 0 where
 -- What the walk w's export is given and what it leaves, by its contract: the file, its answer, the output before and after
 module _ (w : Walk) (s out : List ℕ) (bytes : AllBytes s) where
   -- by what was read
-  read-as : (n : ℕ) (out' : List ℕ) → n ≡ 0 → (b : Bool) → eqb (numberOf (refusalOf s)) 0 ≡ b → reading s ≡ cond b (plan (planOf s)) (codec.refused (refusalOf s))
+  read-as : (n : ℕ) (out' : List ℕ) → n ≡ 0 → (b : Bool) → eqb (numberOf (refusalOf s)) 0 ≡ b → reading s ≡ cond b (plan (planOf s))
+      (codec.refused (refusalOf s))
       → n ≡ numberOf (refusalIn (rewrites (answer w) s) out) → out' ≡ outputIn (rewrites (answer w) s) out → Rewriting w s out'
   read-as n out' z false q r first second =
-      absurd (eqb-false (numberOf (refusalOf s)) 0 q (sym (ap (λ x. numberOf (refusalIn (afterReading (λ f. rewritten (answer w f)) x) out)) r) ∙ sym first ∙ z))
+      absurd (eqb-false (numberOf (refusalOf s)) 0 q (sym (ap (λ x. numberOf (refusalIn (afterReading (λ f. rewritten (answer w f)) x) out)) r) ∙ sym first
+      ∙ z))
   read-as n out' z true q r first second =
       walked (answer w (planOf s)) refl
       (first ∙ ap (λ x. numberOf (refusalIn (afterReading (λ f. rewritten (answer w f)) x) out)) r)
@@ -99,7 +102,8 @@ module _ (w : Walk) (s out : List ℕ) (bytes : AllBytes s) where
       fine = read-well-formed s (planOf s) bytes r
 
       -- by the room in the output
-      short : (g : Plan) → answer w (planOf s) ≡ answered g → (b : Bool) → n ≡ numberOf (cond b OutputTooShort Accepted) → out' ≡ cond b out (fileOfPlan g ++ drop (length (fileOfPlan g)) out) → Rewriting w s out'
+      short : (g : Plan) → answer w (planOf s) ≡ answered g → (b : Bool) → n ≡ numberOf (cond b OutputTooShort Accepted)
+          → out' ≡ cond b out (fileOfPlan g ++ drop (length (fileOfPlan g)) out) → Rewriting w s out'
       short g e true first second = absurd (let y : 0 ≡ 24 = sym z ∙ first in omega arith)
       short g e false first second =
           record {
@@ -109,7 +113,9 @@ module _ (w : Walk) (s out : List ℕ) (bytes : AllBytes s) where
             read = r;
             formed = fine;
             answers = e;
-            again = ap (λ x. reading (take (length (fileOfPlan g)) x)) second ∙ ap reading (take-append-le (length (fileOfPlan g)) (fileOfPlan g) (drop (length (fileOfPlan g)) out) (omega arith) ∙ take-length (fileOfPlan g)) ∙ read-written g (well-formed-again w (planOf s) g fine e);
+            again = ap (λ x. reading (take (length (fileOfPlan g)) x)) second
+                ∙ ap reading (take-append-le (length (fileOfPlan g)) (fileOfPlan g) (drop (length (fileOfPlan g)) out) (omega arith)
+                ∙ take-length (fileOfPlan g)) ∙ read-written g (well-formed-again w (planOf s) g fine e);
           }
 
       -- by the walk's answer
@@ -117,20 +123,26 @@ module _ (w : Walk) (s out : List ℕ) (bytes : AllBytes s) where
       walked (refused x) e first second = absurd ((subst Numbered e (answer-numbered w (planOf s) fine)) (sym first ∙ z))
       walked (answered g) e first second = short g e (tooShort g out) first second
 
-  module _ (n : ℕ) (out' : List ℕ) (first : n ≡ numberOf (refusalIn (rewrites (answer w) s) out)) (second : out' ≡ outputIn (rewrites (answer w) s) out) where
+  module _ (n : ℕ) (out' : List ℕ) (first : n ≡ numberOf (refusalIn (rewrites (answer w) s) out))
+      (second : out' ≡ outputIn (rewrites (answer w) s) out) where
     pub rewriting : n ≡ 0 → Rewriting w s out'
     unfolding reading
     rewriting z = read-as n out' z (eqb (numberOf (refusalOf s)) 0) refl refl first second
 
     -- Where the given tree has no join, limit or fetch, every run of the plan read from the output delivers the rows of every run of the plan given
-    pub rewritten-rows : (z : n ≡ 0) → let r = rewriting z in clear (r .given) ≡ true → (E E′ : Env) → SameInputs E E′ (r .given) → (a b : Forest Streams) → Run E 0 0 (r .given) a → Run E′ 0 0 (r .made) b
+    pub rewritten-rows : (z : n ≡ 0) → let r = rewriting z in clear (r .given) ≡ true → (E E′ : Env) → SameInputs E E′ (r .given) → (a b : Forest Streams)
+        → Run E 0 0 (r .given) a → Run E′ 0 0 (r .made) b
         → (x : Row) → times x (delivered a) ≡ times x (delivered b)
     rewritten-rows z c E E′ d a b x y t = let r = rewriting z in rows-kept w (r .given) (r .made) (r .formed) c (r .answers) E E′ d a b x y t
 
--- What `ensure_sorting` writes passes the order check, and no run of it, over source rows that keep what the given plan declares, feeds an operator out of order
-module _ (s out : List ℕ) (bytes : AllBytes s) (n : ℕ) (out' : List ℕ) (first : n ≡ numberOf (refusalIn (rewrites (answer ensuring) s) out)) (second : out' ≡ outputIn (rewrites (answer ensuring) s) out) where
+-- What `ensure_sorting` writes passes the order check, and no run of it, over source rows that keep what the given plan declares, feeds an operator out of
+-- order
+module _ (s out : List ℕ) (bytes : AllBytes s) (n : ℕ) (out' : List ℕ) (first : n ≡ numberOf (refusalIn (rewrites (answer ensuring) s) out))
+    (second : out' ≡ outputIn (rewrites (answer ensuring) s) out) where
   pub ensured-passes : (z : n ≡ 0) → check (rewriting ensuring s out bytes n out' first second z .made) ≡ true
   ensured-passes z = let r = rewriting ensuring s out bytes n out' first second z in ensure-passes (r .given) (r .made) (r .formed) (r .answers)
 
-  pub ensured-feeds : (z : n ≡ 0) → let r = rewriting ensuring s out bytes n out' first second z in (E : Env) → Sources E 0 (r .given) → (a : Forest Streams) → Run E 0 0 (r .made) a → AllFed (r .made) a
-  ensured-feeds z E d a x = let r = rewriting ensuring s out bytes n out' first second z in ensure-feeds (r .given) (r .made) (r .formed) (r .answers) E d a x
+  pub ensured-feeds : (z : n ≡ 0) → let r = rewriting ensuring s out bytes n out' first second z in
+      (E : Env) → Sources E 0 (r .given) → (a : Forest Streams) → Run E 0 0 (r .made) a → AllFed (r .made) a
+  ensured-feeds z E d a x = let r = rewriting ensuring s out bytes n out' first second z in
+      ensure-feeds (r .given) (r .made) (r .formed) (r .answers) E d a x

@@ -30,5 +30,7 @@ delivered out = concat (getD (roots out) 0 [])
 abbrev pub times : Row → List Row → ℕ
 times r l = sum (λ x. one (row-discrete x r)) l
 
-pub rows-kept : (w : Walk) (f g : Plan) → wellFormed f ≡ true → clear f ≡ true → answer w f ≡ answered g → (E E′ : Env) → SameInputs E E′ f → (a b : Forest Streams) → Run E 0 0 f a → Run E′ 0 0 g b → (r : Row) → times r (delivered a) ≡ times r (delivered b)
-rows-kept w f g e c h E E′ d a b x y r = each-at [] [] (same-refl []) (same-plan-rows f g d (well-fit f e) c (answer-plan w f g e h) x y) 0 .sums (λ z. one (row-discrete z r))
+pub rows-kept : (w : Walk) (f g : Plan) → wellFormed f ≡ true → clear f ≡ true → answer w f ≡ answered g → (E E′ : Env) → SameInputs E E′ f
+    → (a b : Forest Streams) → Run E 0 0 f a → Run E′ 0 0 g b → (r : Row) → times r (delivered a) ≡ times r (delivered b)
+rows-kept w f g e c h E E′ d a b x y r = each-at [] [] (same-refl []) (same-plan-rows f g d (well-fit f e) c (answer-plan w f g e h) x y) 0 .sums
+    (λ z. one (row-discrete z r))

@@ -47,7 +47,8 @@ pub record Sorts (b : List ℕ) (w h : ℕ) (ks : List Key) (f : Fetch) : Type 0
   pub keys : Sortable (treeOf b h) ks f
   pub some : isNil (freshKeys (fact (treeOf b h)) [] ks) ≡ false
 
-above : (p : Bool) (l : List Key) (f : Fetch) (t : Tree) → isNil l ≡ false → setMark true (cover (newSort p l f) (setMark (connected (opT t) (t .kids)) t)) ≡ updateSortCtxChildrenData true (cover (newSort p l f) t)
+above : (p : Bool) (l : List Key) (f : Fetch) (t : Tree) → isNil l ≡ false → setMark true (cover (newSort p l f) (setMark (connected (opT t) (t .kids)) t))
+    ≡ updateSortCtxChildrenData true (cover (newSort p l f) t)
 above p [] f t e = no-bool (sym e)
 above p (k ∷ l) f t e = refl
 
@@ -61,10 +62,14 @@ module _ (b : List ℕ) (w h : ℕ) (ks : List Key) (f : Fetch) (p : Sorts b w h
   module _ (c : Bool) (hc : c ≡ connected (opT (treeOf b h)) (treeOf b h .kids)) (k : ℕ) (hk : Marks h c k) where
     pub sort-asks : Under b w k 1 × Sortable (treeOf b k) ks f
     sort-asks =
-        let u = p .under in let l = u .here in let s = hk .slot in let n = ap sizeT (hk .tree b) in let z = u .few in
-        (record { arena = u .arena; here = omega arith; room = u .room; small = u .small; few = omega arith }, subst (λ t. Sortable t ks f) (sym (hk .tree b)) (record { short = p .keys .short; inside = p .keys .inside; fetch = p .keys .fetch }))
+        let u = p .under in let l = u .here in let s = hk .slot in let n = ap sizeT (hk .tree b) in let z = u .few in (
+          record { arena = u .arena; here = omega arith; room = u .room; small = u .small; few = omega arith },
+          subst (λ t. Sortable t ks f)
+              (sym (hk .tree b)) (record { short = p .keys .short; inside = p .keys .inside; fetch = p .keys .fetch }),
+        )
 
-    pub sort-grown : (b' : List ℕ) (a : At) → Grown b w b' a (addSortAbove ks f (treeOf b k)) (w + 1) → (r : ℕ) → Marks (a .root) true r → Grown b w b' (record { used = a .used; root = r }) (updateSortCtxChildrenData true (addSortAbove ks f (treeOf b h))) (w + 1)
+    pub sort-grown : (b' : List ℕ) (a : At) → Grown b w b' a (addSortAbove ks f (treeOf b k)) (w + 1) → (r : ℕ) → Marks (a .root) true r
+        → Grown b w b' (record { used = a .used; root = r }) (updateSortCtxChildrenData true (addSortAbove ks f (treeOf b h))) (w + 1)
     sort-grown b' a g r m =
         subst (λ t. Grown b w b' (record { used = a .used; root = r }) t (w + 1))
         (ap (λ t. setMark true (addSortAbove ks f t)) (hk .tree b ∙ ap (λ x. setMark x (treeOf b h)) hc)
@@ -115,7 +120,8 @@ some-keys zero w h = absurd (omega arith)
 some-keys (suc n) w h = refl
 
 by-some : (ks : List Key) (b s : Bool) (f : Fetch) (t : Tree) → isNil ks ≡ false
-    → ensureChild ks b s f t ≡ cond (met (fact t) ks) t (updateSortCtxChildrenData true (addSortAbove ks f (cond (isNil (knownOrder (fact t))) t (updateChildToRemoveUnnecessarySort s t))))
+    → ensureChild ks b s f t ≡ cond (met (fact t) ks) t
+    (updateSortCtxChildrenData true (addSortAbove ks f (cond (isNil (knownOrder (fact t))) t (updateChildToRemoveUnnecessarySort s t))))
 by-some [] b s f t e = no-bool (sym e)
 by-some (k ∷ ks) b s f t e = refl
 
@@ -127,7 +133,8 @@ module _ (b : List ℕ) (u h : ℕ) (p : Ensures b u h) where
   child-standing = record { arena = p .arena; here = p .here }
 
   stays : (v : Tree) → v ≡ treeOf b h → Grown b u b (record { used = u; root = h }) v (u + 2 * sizeT (treeOf b h) + 1)
-  stays v e = subst (λ x. Grown b u b (record { used = u; root = h }) x (u + 2 * sizeT (treeOf b h) + 1)) (sym e) (grown-none b u h (u + 2 * sizeT (treeOf b h) + 1) (p .arena) (p .here) (omega arith))
+  stays v e = subst (λ x. Grown b u b (record { used = u; root = h }) x (u + 2 * sizeT (treeOf b h) + 1)) (sym e)
+      (grown-none b u h (u + 2 * sizeT (treeOf b h) + 1) (p .arena) (p .here) (omega arith))
 
   module _ (row : List ℕ) (sh : Tells (treeOf b h) row) (x : Bool) (hx : x ≡ not (isNil (knownOrder (told row)))) (s : Bool) where
     nil-is : isNil (knownOrder (fact (treeOf b h))) ≡ not x
@@ -138,12 +145,14 @@ module _ (b : List ℕ) (u h : ℕ) (p : Ensures b u h) where
       no-want : ensureChild [] keeps s Unlimited (treeOf b h) ≡ cond (not x || not keeps) (updateChildToRemoveUnnecessarySort s (treeOf b h)) (treeOf b h)
       no-want = ap (λ y. cond (y || not keeps) (updateChildToRemoveUnnecessarySort s t) t) nil-is
 
-      pub updated : (not x || not keeps) ≡ true → (b' : List ℕ) (a : At) → Grown b u b' a (updateChildToRemoveUnnecessarySort s (treeOf b h)) (u + 2 * sizeT (treeOf b h)) → Grown b u b' a (ensureChild [] keeps s Unlimited (treeOf b h)) (u + 2 * sizeT (treeOf b h) + 1)
+      pub updated : (not x || not keeps) ≡ true → (b' : List ℕ) (a : At) → Grown b u b' a (updateChildToRemoveUnnecessarySort s (treeOf b h))
+          (u + 2 * sizeT (treeOf b h)) → Grown b u b' a (ensureChild [] keeps s Unlimited (treeOf b h)) (u + 2 * sizeT (treeOf b h) + 1)
       updated q b' a g =
           subst (λ v. Grown b u b' a v (u + 2 * sizeT (treeOf b h) + 1)) (sym (no-want ∙ ap (λ y. cond y (updateChildToRemoveUnnecessarySort s t) t) q))
           (grown-more b u b' a (updateChildToRemoveUnnecessarySort s t) (u + 2 * sizeT (treeOf b h)) (u + 2 * sizeT (treeOf b h) + 1) (omega arith) g)
 
-      pub kept-free : (not x || not keeps) ≡ false → Grown b u b (record { used = u; root = h }) (ensureChild [] keeps s Unlimited (treeOf b h)) (u + 2 * sizeT (treeOf b h) + 1)
+      pub kept-free : (not x || not keeps) ≡ false → Grown b u b (record { used = u; root = h }) (ensureChild [] keeps s Unlimited (treeOf b h))
+          (u + 2 * sizeT (treeOf b h) + 1)
       kept-free q = stays (ensureChild [] keeps s Unlimited t) (no-want ∙ ap (λ y. cond y (updateChildToRemoveUnnecessarySort s t) t) q)
 
     -- an order is wanted
@@ -151,13 +160,16 @@ module _ (b : List ℕ) (u h : ℕ) (p : Ensures b u h) where
       abbrev E : Tree
       E = ensureChild (keysOf k) false s f t
 
-      want : ensureChild (keysOf k) false s f (treeOf b h) ≡ cond m (treeOf b h) (updateSortCtxChildrenData true (addSortAbove (keysOf k) f (cond (not x) (treeOf b h) (updateChildToRemoveUnnecessarySort s (treeOf b h)))))
+      want : ensureChild (keysOf k) false s f (treeOf b h) ≡ cond m (treeOf b h)
+          (updateSortCtxChildrenData true (addSortAbove (keysOf k) f (cond (not x) (treeOf b h) (updateChildToRemoveUnnecessarySort s (treeOf b h)))))
       want =
           by-some (keysOf k) false s f t (some-keys (k .len) (k .word) e)
-          ∙ ap₂ (λ y z. cond y t (updateSortCtxChildrenData true (addSortAbove (keysOf k) f (cond z t (updateChildToRemoveUnnecessarySort s t))))) (sym (hm ∙ ap (λ F. met F (keysOf k)) (sh .is))) nil-is
+          ∙ ap₂ (λ y z. cond y t (updateSortCtxChildrenData true (addSortAbove (keysOf k) f (cond z t (updateChildToRemoveUnnecessarySort s t)))))
+          (sym (hm ∙ ap (λ F. met F (keysOf k)) (sh .is))) nil-is
 
       pub kept-met : m ≡ true → Grown b u b (record { used = u; root = h }) (ensureChild (keysOf k) false s f (treeOf b h)) (u + 2 * sizeT (treeOf b h) + 1)
-      kept-met q = stays E (want ∙ ap (λ y. cond y t (updateSortCtxChildrenData true (addSortAbove (keysOf k) f (cond (not x) t (updateChildToRemoveUnnecessarySort s t))))) q)
+      kept-met q = stays E (want ∙ ap
+          (λ y. cond y t (updateSortCtxChildrenData true (addSortAbove (keysOf k) f (cond (not x) t (updateChildToRemoveUnnecessarySort s t))))) q)
 
       module _ (q : m ≡ false) where
         not-met : met (fact (treeOf b h)) (keysOf k) ≡ false
@@ -166,21 +178,30 @@ module _ (b : List ℕ) (u h : ℕ) (p : Ensures b u h) where
         -- with no known order
         module _ (z : x ≡ false) where
           plain : ensureChild (keysOf k) false s f (treeOf b h) ≡ updateSortCtxChildrenData true (addSortAbove (keysOf k) f (treeOf b h))
-          plain = want ∙ ap₂ (λ y v. cond y t (updateSortCtxChildrenData true (addSortAbove (keysOf k) f (cond (not v) t (updateChildToRemoveUnnecessarySort s t))))) q z
+          plain = want ∙ ap₂ (λ y v. cond y t
+              (updateSortCtxChildrenData true (addSortAbove (keysOf k) f (cond (not v) t (updateChildToRemoveUnnecessarySort s t))))) q z
 
           pub plain-sorts : Sorts b u h (keysOf k) f
           plain-sorts =
               let r = p .room in let v = p .small in let n = p .few in
-              record { under = record { arena = p .arena; here = p .here; room = omega arith; small = omega arith; few = omega arith }; keys = o; some = some-fresh t t (keysOf k) refl not-met }
+              record {
+                under = record { arena = p .arena; here = p .here; room = omega arith; small = omega arith; few = omega arith };
+                keys = o;
+                some = some-fresh t t (keysOf k) refl not-met;
+              }
 
-          pub plain-grown : (b' : List ℕ) (a : At) → Grown b u b' a (updateSortCtxChildrenData true (addSortAbove (keysOf k) f (treeOf b h))) (u + 1) → Grown b u b' a (ensureChild (keysOf k) false s f (treeOf b h)) (u + 2 * sizeT (treeOf b h) + 1)
-          plain-grown b' a g = subst (λ v. Grown b u b' a v (u + 2 * sizeT (treeOf b h) + 1)) (sym plain) (grown-more b u b' a _ (u + 1) (u + 2 * sizeT (treeOf b h) + 1) (omega arith) g)
+          pub plain-grown : (b' : List ℕ) (a : At) → Grown b u b' a (updateSortCtxChildrenData true (addSortAbove (keysOf k) f (treeOf b h))) (u + 1)
+              → Grown b u b' a (ensureChild (keysOf k) false s f (treeOf b h)) (u + 2 * sizeT (treeOf b h) + 1)
+          plain-grown b' a g = subst (λ v. Grown b u b' a v (u + 2 * sizeT (treeOf b h) + 1)) (sym plain)
+              (grown-more b u b' a _ (u + 1) (u + 2 * sizeT (treeOf b h) + 1) (omega arith) g)
 
         -- with one: first removed below
-        module _ (z : x ≡ true) (b' : List ℕ) (lb : length b' ≡ length b) (a : At) (g : Grown b u b' a (updateChildToRemoveUnnecessarySort s (treeOf b h)) (u + 2 * sizeT (treeOf b h))) where
+        module _ (z : x ≡ true) (b' : List ℕ) (lb : length b' ≡ length b) (a : At)
+            (g : Grown b u b' a (updateChildToRemoveUnnecessarySort s (treeOf b h)) (u + 2 * sizeT (treeOf b h))) where
           over-it : ensureChild (keysOf k) false s f (treeOf b h) ≡ updateSortCtxChildrenData true (addSortAbove (keysOf k) f (treeOf b' (a .root)))
           over-it =
-              want ∙ ap₂ (λ y v. cond y t (updateSortCtxChildrenData true (addSortAbove (keysOf k) f (cond (not v) t (updateChildToRemoveUnnecessarySort s t))))) q z
+              want ∙ ap₂ (λ y v. cond y t (updateSortCtxChildrenData true
+              (addSortAbove (keysOf k) f (cond (not v) t (updateChildToRemoveUnnecessarySort s t))))) q z
               ∙ ap (λ y. updateSortCtxChildrenData true (addSortAbove (keysOf k) f y)) (sym (g .tree))
 
           blank-is : blank (fact (treeOf b' (a .root))) ≡ blank (fact (treeOf b h))
@@ -191,11 +212,17 @@ module _ (b : List ℕ) (u h : ℕ) (p : Ensures b u h) where
               let r = p .room in let v = p .small in let n = p .few in let y = g .room in let w = update-size s t in let i = ap sizeT (g .tree) in
               record {
                 under = record { arena = g .arena; here = g .here; room = omega arith; small = omega arith; few = omega arith };
-                keys = record { short = o .short; inside = subst (λ F. All (λ l. l .col < F .width) (keysOf k)) (sym blank-is) (o .inside); fetch = o .fetch };
+                keys = record {
+                  short = o .short;
+                  inside = subst (λ F. All (λ l. l .col < F .width) (keysOf k)) (sym blank-is) (o .inside);
+                  fetch = o .fetch;
+                };
                 some = some-fresh t (treeOf b' (a .root)) (keysOf k) blank-is not-met;
               }
 
-          pub over-grown : (b'' : List ℕ) (c : At) → Grown b' (a .used) b'' c (updateSortCtxChildrenData true (addSortAbove (keysOf k) f (treeOf b' (a .root)))) (a .used + 1) → Grown b u b'' c (ensureChild (keysOf k) false s f (treeOf b h)) (u + 2 * sizeT (treeOf b h) + 1)
+          pub over-grown : (b'' : List ℕ) (c : At)
+              → Grown b' (a .used) b'' c (updateSortCtxChildrenData true (addSortAbove (keysOf k) f (treeOf b' (a .root)))) (a .used + 1)
+              → Grown b u b'' c (ensureChild (keysOf k) false s f (treeOf b h)) (u + 2 * sizeT (treeOf b h) + 1)
           over-grown b'' c d =
               let y = g .room in
               subst (λ v. Grown b u b'' c v (u + 2 * sizeT (treeOf b h) + 1)) (sym over-it)
@@ -203,10 +230,12 @@ module _ (b : List ℕ) (u h : ℕ) (p : Ensures b u h) where
 
 -- ---- as the code has the wanted order
 
-pub child-unordered : (b : List ℕ) (u : ℕ) (b' : List ℕ) (a : At) (o : Order) → o ≡ Unordered → (keeps s : Bool) (f : Fetch) (t : Tree) (top : ℕ) → Grown b u b' a (ensureChild [] keeps s Unlimited t) top → Grown b u b' a (ensureChild (orderOf o) keeps s f t) top
+pub child-unordered : (b : List ℕ) (u : ℕ) (b' : List ℕ) (a : At) (o : Order) → o ≡ Unordered → (keeps s : Bool) (f : Fetch) (t : Tree) (top : ℕ)
+    → Grown b u b' a (ensureChild [] keeps s Unlimited t) top → Grown b u b' a (ensureChild (orderOf o) keeps s f t) top
 child-unordered b u b' a o e keeps s f t top g = subst (λ x. Grown b u b' a (ensureChild (orderOf x) keeps s f t) top) (sym e) g
 
-pub child-ordered : (b : List ℕ) (u : ℕ) (b' : List ℕ) (a : At) (o : Order) (k : Keys) → o ≡ By k → Real o → (keeps s : Bool) (f : Fetch) (t : Tree) (top : ℕ) → Grown b u b' a (ensureChild (keysOf k) false s f t) top → Grown b u b' a (ensureChild (orderOf o) keeps s f t) top
+pub child-ordered : (b : List ℕ) (u : ℕ) (b' : List ℕ) (a : At) (o : Order) (k : Keys) → o ≡ By k → Real o → (keeps s : Bool) (f : Fetch) (t : Tree)
+    (top : ℕ) → Grown b u b' a (ensureChild (keysOf k) false s f t) top → Grown b u b' a (ensureChild (orderOf o) keeps s f t) top
 child-ordered b u b' a o k e r keeps s f t top g =
     let n = some-keys (k .len) (k .word) (subst Real e r .0) in
     subst (λ x. Grown b u b' a (ensureChild (orderOf x) keeps s f t) top) (sym e)

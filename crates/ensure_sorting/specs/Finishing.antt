@@ -130,10 +130,13 @@ module _ (b : List ℕ) (w h : ℕ) (r ks : List ℕ) (p : Finishes b w h r ks) 
           omega arith,
         )
 
-    pub settled-grown : (b' : List ℕ) (a : At) → Grown b w b' a (rebuild (decode r) false (forest b ks')) (w + 1) → Grown b w b' a (updateSortCtxChildrenData false (rebuild (decode r) false (forest b ks))) (w + 1)
+    pub settled-grown : (b' : List ℕ) (a : At) → Grown b w b' a (rebuild (decode r) false (forest b ks')) (w + 1)
+        → Grown b w b' a (updateSortCtxChildrenData false (rebuild (decode r) false (forest b ks))) (w + 1)
     settled-grown b' a g = subst (λ t. Grown b w b' a t (w + 1)) (ap₂ (λ f k. node (rebuilt o (facts f)) false k) same-strip (q .is)) g
 
-  pub other-end : (code (decode r) ≡ 8 → ⊥) → (b' : List ℕ) (a : At) → Grown b w b' a (updateSortCtxChildrenData false (rebuild (decode r) false (forest b ks))) (w + 1) → Grown b w b' a (finish (shape (decode r)) (rebuild (decode r) false (forest b ks))) (w + 1)
+  pub other-end : (code (decode r) ≡ 8 → ⊥) → (b' : List ℕ) (a : At)
+      → Grown b w b' a (updateSortCtxChildrenData false (rebuild (decode r) false (forest b ks))) (w + 1)
+      → Grown b w b' a (finish (shape (decode r)) (rebuild (decode r) false (forest b ks))) (w + 1)
   other-end e b' a g = subst (λ z. Grown b w b' a z (w + 1)) (sym (by-other o v e)) g
 
   -- a merge
@@ -161,26 +164,34 @@ module _ (b : List ℕ) (w h : ℕ) (r ks : List ℕ) (p : Finishes b w h r ks) 
       first = sh .is ∙ sym (facts-at b ks 0 merge-some)
 
       module _ (several : Bool) (hv : several ≡ ltb 1 (told row .streams)) where
-        by-streams : finish (shape (decode r)) (rebuild (decode r) false (forest b ks)) ≡ cond (not several) (unmerged (fromBytes r .fetch) (rebuild (decode r) false (forest b ks))) (updateSortCtxChildrenData false (rebuild (decode r) false (forest b ks)))
+        by-streams : finish (shape (decode r)) (rebuild (decode r) false (forest b ks)) ≡ cond (not several)
+            (unmerged (fromBytes r .fetch) (rebuild (decode r) false (forest b ks)))
+            (updateSortCtxChildrenData false (rebuild (decode r) false (forest b ks)))
         by-streams =
             ap (λ k. finish (shape k) v) merges
-            ∙ ap (λ n. cond n (unmerged (x .fetch) v) (updateSortCtxChildrenData false v)) (several-not (at0 fs .streams) ∙ ap not (sym (hv ∙ ap (λ F. ltb 1 (F .streams)) first)))
+            ∙ ap (λ n. cond n (unmerged (x .fetch) v) (updateSortCtxChildrenData false v))
+            (several-not (at0 fs .streams) ∙ ap not (sym (hv ∙ ap (λ F. ltb 1 (F .streams)) first)))
 
-        one-is : several ≡ false → finish (shape (decode r)) (rebuild (decode r) false (forest b ks)) ≡ unmerged (fromBytes r .fetch) (rebuild (decode r) false (forest b ks))
+        one-is : several ≡ false → finish (shape (decode r)) (rebuild (decode r) false (forest b ks)) ≡ unmerged (fromBytes r .fetch)
+            (rebuild (decode r) false (forest b ks))
         one-is l = by-streams ∙ ap (λ y. cond (not y) (unmerged (x .fetch) v) (updateSortCtxChildrenData false v)) l
 
         pub one-ok : several ≡ false → OkT (unmerged (fromBytes r .fetch) (rebuild (decode r) false (forest b ks)))
         one-ok l = subst OkT (one-is l) (p .ok)
 
-        pub one-end : several ≡ false → (b' : List ℕ) (a : At) → Grown b w b' a (unmerged (fromBytes r .fetch) (rebuild (decode r) false (forest b ks))) (w + 1) → Grown b w b' a (finish (shape (decode r)) (rebuild (decode r) false (forest b ks))) (w + 1)
+        pub one-end : several ≡ false → (b' : List ℕ) (a : At) → Grown b w b' a (unmerged (fromBytes r .fetch) (rebuild (decode r) false (forest b ks)))
+            (w + 1) → Grown b w b' a (finish (shape (decode r)) (rebuild (decode r) false (forest b ks))) (w + 1)
         one-end l b' a g = subst (λ z. Grown b w b' a z (w + 1)) (sym (one-is l)) g
 
-        pub more-end : several ≡ true → (b' : List ℕ) (a : At) → Grown b w b' a (updateSortCtxChildrenData false (rebuild (decode r) false (forest b ks))) (w + 1) → Grown b w b' a (finish (shape (decode r)) (rebuild (decode r) false (forest b ks))) (w + 1)
-        more-end l b' a g = subst (λ z. Grown b w b' a z (w + 1)) (sym (by-streams ∙ ap (λ y. cond (not y) (unmerged (x .fetch) v) (updateSortCtxChildrenData false v)) l)) g
+        pub more-end : several ≡ true → (b' : List ℕ) (a : At) → Grown b w b' a (updateSortCtxChildrenData false (rebuild (decode r) false (forest b ks)))
+            (w + 1) → Grown b w b' a (finish (shape (decode r)) (rebuild (decode r) false (forest b ks))) (w + 1)
+        more-end l b' a g = subst (λ z. Grown b w b' a z (w + 1))
+            (sym (by-streams ∙ ap (λ y. cond (not y) (unmerged (x .fetch) v) (updateSortCtxChildrenData false v)) l)) g
 
     module _ (f : Fetch) (hf : f ≡ fromBytes r .fetch) where
       -- of one stream it goes, with no fetch
-      pub goes-grown : someFetch f ≡ false → Grown b w b (record { used = w; root = getD ks 0 0 }) (unmerged (fromBytes r .fetch) (rebuild (decode r) false (forest b ks))) (w + 1)
+      pub goes-grown : someFetch f ≡ false → Grown b w b (record { used = w; root = getD ks 0 0 })
+          (unmerged (fromBytes r .fetch) (rebuild (decode r) false (forest b ks))) (w + 1)
       goes-grown z =
           let y = low in
           record {
@@ -193,7 +204,8 @@ module _ (b : List ℕ) (w h : ℕ) (r ks : List ℕ) (p : Finishes b w h r ks) 
           }
 
       -- with one it becomes a limit
-      module _ (z : someFetch f ≡ true) (ok : OkT (unmerged (fromBytes r .fetch) (rebuild (decode r) false (forest b ks)))) (row : List ℕ) (sh : Tells (treeOf b (getD ks 0 0)) row) (k : Keys) (hk : Keyed (fromBytes r .keys) k)
+      module _ (z : someFetch f ≡ true) (ok : OkT (unmerged (fromBytes r .fetch) (rebuild (decode r) false (forest b ks)))) (row : List ℕ)
+          (sh : Tells (treeOf b (getD ks 0 0)) row) (k : Keys) (hk : Keyed (fromBytes r .keys) k)
           (note : Keys) (hn : Keyed (nf (told row) [] (keysOf k)) note) (y : List ℕ) (hy : y ≡ encode 1 (localLimit f (keysOf note))) where
         note-is : keysOf note ≡ limitNote (rebuild (decode r) false (forest b ks))
         note-is = hn .is ∙ ap₂ (λ F l. nf F [] l) (first row sh) (hk .is) ∙ sym (ap (λ k. knownOrder (factsOp (rebuilt k fs) fs)) merges)
@@ -219,5 +231,6 @@ module _ (b : List ℕ) (w h : ℕ) (r ks : List ℕ) (p : Finishes b w h r ks) 
               few = p .few;
             }
 
-        pub limit-grown : (b' : List ℕ) (a : At) → Grown b w b' a (node (decode y) false (forest b ks)) (w + 1) → Grown b w b' a (unmerged (fromBytes r .fetch) (rebuild (decode r) false (forest b ks))) (w + 1)
+        pub limit-grown : (b' : List ℕ) (a : At) → Grown b w b' a (node (decode y) false (forest b ks)) (w + 1)
+            → Grown b w b' a (unmerged (fromBytes r .fetch) (rebuild (decode r) false (forest b ks))) (w + 1)
         limit-grown b' a g = subst (λ z. Grown b w b' a z (w + 1)) (ap (λ k. node k false (forest b ks)) decoded ∙ limit-is) g

@@ -63,13 +63,18 @@ cover-size p [] f t = omega arith
 cover-size p (k ∷ ks) f t = omega arith
 
 child-size : (w : List Key) (b s : Bool) (f : Fetch) (t : Tree) → sizeT (ensureChild w b s f t) ≤ 2 * sizeT t + 1
-child-size [] b s f t = let x = update-size s t in cond-le (2 * sizeT t + 1) (isNil (knownOrder (fact t)) || not b) (updateChildToRemoveUnnecessarySort s t) t (omega arith) (omega arith)
+child-size [] b s f t = let x = update-size s t in
+    cond-le (2 * sizeT t + 1) (isNil (knownOrder (fact t)) || not b) (updateChildToRemoveUnnecessarySort s t) t (omega arith) (omega arith)
 child-size (k ∷ w) b s f t =
     let x = update-size s t in
     let y = cond-le (2 * sizeT t) (isNil (knownOrder (fact t))) t (updateChildToRemoveUnnecessarySort s t) (omega arith) (omega arith) in
-    let z = cover-size (ltb 1 (fact (cond (isNil (knownOrder (fact t))) t (updateChildToRemoveUnnecessarySort s t)) .streams)) (freshKeys (fact (cond (isNil (knownOrder (fact t))) t (updateChildToRemoveUnnecessarySort s t))) [] (k ∷ w)) f (cond (isNil (knownOrder (fact t))) t (updateChildToRemoveUnnecessarySort s t)) in
+    let z = cover-size (ltb 1 (fact (cond (isNil (knownOrder (fact t))) t (updateChildToRemoveUnnecessarySort s t)) .streams))
+    (freshKeys (fact (cond (isNil (knownOrder (fact t))) t (updateChildToRemoveUnnecessarySort s t))) [] (k ∷ w)) f
+    (cond (isNil (knownOrder (fact t))) t (updateChildToRemoveUnnecessarySort s t)) in
     let v = connected-size (addSortAbove (k ∷ w) f (cond (isNil (knownOrder (fact t))) t (updateChildToRemoveUnnecessarySort s t)) .kids) in
-    cond-le (2 * sizeT t + 1) (met (fact t) (k ∷ w)) t (updateSortCtxChildrenData true (addSortAbove (k ∷ w) f (cond (isNil (knownOrder (fact t))) t (updateChildToRemoveUnnecessarySort s t)))) (omega arith) (omega arith)
+    cond-le (2 * sizeT t + 1) (met (fact t) (k ∷ w)) t
+    (updateSortCtxChildrenData true (addSortAbove (k ∷ w) f (cond (isNil (knownOrder (fact t))) t (updateChildToRemoveUnnecessarySort s t))))
+    (omega arith) (omega arith)
 
 each-size : (w : ℕ → List Key) (b s : ℕ → Bool) (f : Fetch) (c : Forest Marked) → size (ensureEach w b s f c) ≤ 2 * size c + length (roots c)
 each-size w b s f none = omega arith
@@ -95,17 +100,23 @@ wants-at w (F ∷ fs) e (suc j) l = wants-at (λ i. w (suc i)) fs (and-right (ke
 after-ok : (o : Op) (c : Forest Marked) → OkT (node o false c) → OkT (node o false (ensuredKids o c))
 after-ok o c h =
     let f = ok-fit (tree o (strip c) none) (h .0, h .1, tt) in
-    let k = ensureEach-kept (wanted o) (maintains o (known c)) (singles o) (outputFetch o) c (f .1) in
-    (ap (nodeOk o) (blank-widths (known (ensuredKids o c)) (known c) (k .bases)) ∙ h .0, k .ok (ap₂ _&&_ (wanted-fits o (known c) (h .0)) (output-ok o (map (λ F. F .width) (known c)) (h .0))) (h .1))
+    let k = ensureEach-kept (wanted o) (maintains o (known c)) (singles o) (outputFetch o) c (f .1) in (
+      ap (nodeOk o) (blank-widths (known (ensuredKids o c)) (known c) (k .bases))
+          ∙ h .0,
+      k .ok (ap₂ _&&_ (wanted-fits o (known c) (h .0)) (output-ok o (map (λ F. F .width) (known c)) (h .0))) (h .1),
+    )
 
 -- ---- the loop
 
 -- The first j children are done
 pub record Going (b₀ : List ℕ) (u h j w : ℕ) (kids b : List ℕ) : Type 0 where
   pub made : Kids b₀ u j w kids b
-  pub is : forest b (take j kids) ⊕ ensureEach (from (wanted (decode (slot b₀ (index h) .rec))) j) (from (maintains (decode (slot b₀ (index h) .rec)) (known (forest b₀ (slot b₀ (index h) .kids)))) j) (from (singles (decode (slot b₀ (index h) .rec))) j) (outputFetch (decode (slot b₀ (index h) .rec))) (forest b₀ (drop j (slot b₀ (index h) .kids)))
+  pub is : forest b (take j kids) ⊕ ensureEach (from (wanted (decode (slot b₀ (index h) .rec))) j)
+      (from (maintains (decode (slot b₀ (index h) .rec)) (known (forest b₀ (slot b₀ (index h) .kids)))) j)
+      (from (singles (decode (slot b₀ (index h) .rec))) j) (outputFetch (decode (slot b₀ (index h) .rec))) (forest b₀ (drop j (slot b₀ (index h) .kids)))
       ≡ ensuredKids (decode (slot b₀ (index h) .rec)) (forest b₀ (slot b₀ (index h) .kids))
-  pub left : w + 2 * size (forest b₀ (drop j (slot b₀ (index h) .kids))) + length (drop j (slot b₀ (index h) .kids)) ≤ u + 2 * size (forest b₀ (slot b₀ (index h) .kids)) + length (slot b₀ (index h) .kids)
+  pub left : w + 2 * size (forest b₀ (drop j (slot b₀ (index h) .kids))) + length (drop j (slot b₀ (index h) .kids)) ≤ u + 2 * size
+      (forest b₀ (slot b₀ (index h) .kids)) + length (slot b₀ (index h) .kids)
 
 module _ (b₀ : List ℕ) (u h : ℕ) (p : Loops b₀ u h) where
   abbrev hs : List ℕ
@@ -160,12 +171,15 @@ module _ (b₀ : List ℕ) (u h : ℕ) (p : Loops b₀ u h) where
       width-is : getD (known (forest b₀ (slot b₀ (index h) .kids))) j nothing ≡ fact (treeOf b k)
       width-is = facts-at b₀ hs j l ∙ ap fact (sym (kid-same (p .arena) (p .here) (q .made) l e))
 
-      module _ (ord : Order) (ho : Ordered (wanted (decode (slot b₀ (index h) .rec)) j) ord) (keeps : Bool) (hb : keeps ≡ maintains (opT (treeOf b h)) (known (treeOf b h .kids)) j)
+      module _ (ord : Order) (ho : Ordered (wanted (decode (slot b₀ (index h) .rec)) j) ord) (keeps : Bool)
+          (hb : keeps ≡ maintains (opT (treeOf b h)) (known (treeOf b h .kids)) j)
           (one : Bool) (hs₁ : one ≡ singles (decode (slot b₀ (index h) .rec)) j) (f : Fetch) (hf : f ≡ outputFetch (decode (slot b₀ (index h) .rec))) where
         keeps-is : keeps ≡ maintains (decode (slot b₀ (index h) .rec)) (known (forest b₀ (slot b₀ (index h) .kids))) j
         keeps-is = hb ∙ ap (λ t. maintains (opT t) (known (t .kids)) j) (same-tree (p .arena) (p .here) (q .made) ∙ tree-is b₀ u h standing)
 
-        child-is : ensureChild (orderOf ord) keeps one f (treeOf b k) ≡ ensureChild (from (wanted (decode (slot b₀ (index h) .rec))) j 0) (from (maintains (decode (slot b₀ (index h) .rec)) (known (forest b₀ (slot b₀ (index h) .kids)))) j 0) (from (singles (decode (slot b₀ (index h) .rec))) j 0) (outputFetch (decode (slot b₀ (index h) .rec))) (treeOf b k)
+        child-is : ensureChild (orderOf ord) keeps one f (treeOf b k) ≡ ensureChild (from (wanted (decode (slot b₀ (index h) .rec))) j 0)
+            (from (maintains (decode (slot b₀ (index h) .rec)) (known (forest b₀ (slot b₀ (index h) .kids)))) j 0)
+            (from (singles (decode (slot b₀ (index h) .rec))) j 0) (outputFetch (decode (slot b₀ (index h) .rec))) (treeOf b k)
         child-is =
             let x : orderOf ord ≡ from W j 0 = ho .is ∙ sym (from-first W j) in
             let y : keeps ≡ from B j 0 = keeps-is ∙ sym (from-first B j) in
@@ -179,21 +193,31 @@ module _ (b₀ : List ℕ) (u h : ℕ) (p : Loops b₀ u h) where
 
         pub child-asks : Ensures b w k × Real ord × Sortable (treeOf b k) (orderOf ord) f
         child-asks =
-            let x = kid-below (p .arena) (p .here) (q .made) l e in let y = q .made .more in let s = ap size next-split in let v = q .left in let t = shown .few in let m = q .made .long in let z = p .room in let c = p .small in let g = p .few in
+            let x = kid-below (p .arena) (p .here) (q .made) l e in let y = q .made .more in let s = ap size next-split in let v = q .left in
+            let t = shown .few in let m = q .made .long in let z = p .room in let c = p .small in let g = p .few in
             let dl = ap length (drop-cons hs j 0 l) in let d = drop-size b₀ hs j in let n = kids-are in
             let nl = length-facts b₀ hs in
             let fit = keys-of (getD fs j nothing .width) (W j) (wants-at W fs (wanted-fits o fs (shown .ok .0)) j (omega arith)) in (
               record { arena = q .made .arena; here = omega arith; room = omega arith; small = omega arith; few = omega arith },
               ho .real,
-              subst (λ ks. Sortable (treeOf b k) ks f) (sym (ho .is)) (subst (λ G. Sortable (treeOf b k) (W j) G) (sym hf) (record { short = fit .short; inside = subst (λ G. All (λ y. y .col < G .width) (W j)) width-is (fit .inside); fetch = output-ok o (map (λ G. G .width) fs) (shown .ok .0) })),
+              subst (λ ks. Sortable (treeOf b k) ks f) (sym (ho .is))
+                  (subst (λ G. Sortable (treeOf b k) (W j) G) (sym hf)
+                  (record {
+                    short = fit .short;
+                    inside = subst (λ G. All (λ y. y .col < G .width) (W j)) width-is (fit .inside);
+                    fetch = output-ok o (map (λ G. G .width) fs) (shown .ok .0);
+                  })),
             )
 
-        pub going-more : (b' : List ℕ) → length b' ≡ length b → (a : At) → Grown b w b' a (ensureChild (orderOf ord) keeps one f (treeOf b k)) (w + 2 * sizeT (treeOf b k) + 1) → Going b₀ u h (j + 1) (a .used) (set kids j (a .root)) b'
+        pub going-more : (b' : List ℕ) → length b' ≡ length b → (a : At) → Grown b w b' a (ensureChild (orderOf ord) keeps one f (treeOf b k))
+            (w + 2 * sizeT (treeOf b k) + 1) → Going b₀ u h (j + 1) (a .used) (set kids j (a .root)) b'
         going-more b' lb a g =
             let t = shown .few in let s = ap size next-split in let v = q .left in let top = g .room in let dl = ap length (drop-cons hs j 0 l) in
             record {
-              made = kids-more b₀ u j w kids b (q .made) (omega arith) b' lb a (ensureChild (orderOf ord) keeps one f (treeOf b k)) (w + 2 * sizeT (treeOf b k) + 1) g;
-              is = kids-forest b₀ u j w kids b (q .made) (omega arith) b' lb a (ensureChild (orderOf ord) keeps one f (treeOf b k)) (w + 2 * sizeT (treeOf b k) + 1) g (rest (j + 1))
+              made = kids-more b₀ u j w kids b (q .made) (omega arith) b' lb a (ensureChild (orderOf ord) keeps one f (treeOf b k))
+                  (w + 2 * sizeT (treeOf b k) + 1) g;
+              is = kids-forest b₀ u j w kids b (q .made) (omega arith) b' lb a (ensureChild (orderOf ord) keeps one f (treeOf b k))
+                  (w + 2 * sizeT (treeOf b k) + 1) g (rest (j + 1))
                   ∙ rw (add-one j) (ap (λ x. forest b (take j kids) ⊕ x) (sym step)) ∙ q .is;
               left = rw (add-one j) (omega arith);
             }
@@ -206,12 +230,14 @@ module _ (b₀ : List ℕ) (u h : ℕ) (p : Loops b₀ u h) where
       news : forest b (take n kids) ≡ ensuredKids (decode (slot b₀ (index h) .rec)) (forest b₀ (slot b₀ (index h) .kids))
       news = new-kids (p .arena) (p .here) (q .made) e c (ensureEach (from W j) (from B j) (from S j) F) (ensuredKids o c₀) refl (q .is)
 
-      finish-is : finish (shape (decode (slot b₀ (index h) .rec))) (rebuild (decode (slot b₀ (index h) .rec)) false (forest b (take n kids))) ≡ finish (shape (opT (treeOf b₀ h))) (afterLoop (treeOf b₀ h))
+      finish-is : finish (shape (decode (slot b₀ (index h) .rec))) (rebuild (decode (slot b₀ (index h) .rec)) false (forest b (take n kids))) ≡ finish
+          (shape (opT (treeOf b₀ h))) (afterLoop (treeOf b₀ h))
       finish-is = ap (λ x. finish (shape o) (rebuild o false x)) news ∙ sym (ap (λ t. finish (shape (opT t)) (afterLoop t)) (tree-is b₀ u h standing))
 
       pub going-ends : Finishes b w h r (take n kids)
       going-ends =
-          let v = q .left in let t = shown .few in let l = q .made .long in let x = p .room in let s = p .small in let f = p .few in let m = q .made .more in let y = half (p .arena) (p .here) in
+          let v = q .left in let t = shown .few in let l = q .made .long in let x = p .room in let s = p .small in let f = p .few in
+          let m = q .made .more in let y = half (p .arena) (p .here) in
           let i = kids-are in let g = ap size news in let z = each-size W B S F c₀ in let a = count-roots b₀ hs in
           record {
             arena = q .made .arena;
@@ -221,9 +247,11 @@ module _ (b₀ : List ℕ) (u h : ℕ) (p : Loops b₀ u h) where
             small = omega arith;
             below = new-below (p .arena) (p .here) (q .made) e c;
             count = counted (p .arena) (p .here) (q .made) e c ∙ ap (λ x. length (x .kids)) (sym same);
-            opened = subst (λ k. OkT (node (decode k) false (forest b (take n kids)))) (sym hr) (subst (λ k. OkT (node o false k)) (sym news) (after-ok o c₀ (shown .ok)));
+            opened = subst (λ k. OkT (node (decode k) false (forest b (take n kids)))) (sym hr)
+                (subst (λ k. OkT (node o false k)) (sym news) (after-ok o c₀ (shown .ok)));
             few = omega arith;
-            ok = subst (λ k. OkT (finish (shape (decode k)) (rebuild (decode k) false (forest b (take n kids))))) (sym hr) (subst OkT (sym finish-is) (p .ok));
+            ok = subst (λ k. OkT (finish (shape (decode k)) (rebuild (decode k) false (forest b (take n kids))))) (sym hr)
+                (subst OkT (sym finish-is) (p .ok));
           }
 
       pub end-grown : (b' : List ℕ) (a : At) → Grown b w b' a (finish (shape (decode r)) (rebuild (decode r) false (forest b (take n kids)))) (w + 1)

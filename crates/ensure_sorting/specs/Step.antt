@@ -96,7 +96,8 @@ module _ (b : List ℕ) (u h : ℕ) (p : Marks b u h) where
     none-is = ap (λ y. isNil (roots (y .kids))) (tree-is b u h marks-standing) ∙ roots-none b (slot b (index h) .kids) ∙ ap (λ k. eqb k 0) (sym count-is)
 
     pub leaf-grown : n ≡ 0 → Grown b u b (record { used = u; root = h }) (ensureMarked (treeOf b h)) (u + 2 * size (treeOf b h .kids) + 9)
-    leaf-grown e = subst (λ v. Grown b u b (record { used = u; root = h }) v top) (sym (ap (λ y. cond y t (ensureBy (shape (opT t)) t)) (none-is ∙ eq-eqb n 0 e))) (grown-none b u h top (p .arena) (p .here) (omega arith))
+    leaf-grown e = subst (λ v. Grown b u b (record { used = u; root = h }) v top)
+        (sym (ap (λ y. cond y t (ensureBy (shape (opT t)) t)) (none-is ∙ eq-eqb n 0 e))) (grown-none b u h top (p .arena) (p .here) (omega arith))
 
     module _ (e : n ≡ 0 → ⊥) where
       some : ensureMarked (treeOf b h) ≡ ensureBy (shape (opT (treeOf b h))) (treeOf b h)
@@ -110,28 +111,34 @@ module _ (b : List ℕ) (u h : ℕ) (p : Marks b u h) where
         pub loop-asks : Loops b u h
         loop-asks = record { arena = p .arena; here = p .here; room = p .room; small = p .small; few = p .few; ok = subst OkT (some ∙ q) (p .ok) }
 
-        pub loop-grown : (b' : List ℕ) (a : At) → Grown b u b' a (finish (shape (opT (treeOf b h))) (afterLoop (treeOf b h))) (u + 2 * size (treeOf b h .kids) + 9) → Grown b u b' a (ensureMarked (treeOf b h)) (u + 2 * size (treeOf b h .kids) + 9)
+        pub loop-grown : (b' : List ℕ) (a : At) → Grown b u b' a (finish (shape (opT (treeOf b h))) (afterLoop (treeOf b h)))
+            (u + 2 * size (treeOf b h .kids) + 9) → Grown b u b' a (ensureMarked (treeOf b h)) (u + 2 * size (treeOf b h .kids) + 9)
         loop-grown b' a g = subst (λ z. Grown b u b' a z top) (sym (some ∙ q)) g
 
-      pub other-kind : (code (opT (treeOf b h)) ≡ 7 → ⊥) → ensureBy (shape (opT (treeOf b h))) (treeOf b h) ≡ finish (shape (opT (treeOf b h))) (afterLoop (treeOf b h))
+      pub other-kind : (code (opT (treeOf b h)) ≡ 7 → ⊥) → ensureBy (shape (opT (treeOf b h))) (treeOf b h) ≡ finish (shape (opT (treeOf b h)))
+          (afterLoop (treeOf b h))
       other-kind f = by-other (opT t) t f
 
       -- a sort: x says whether its child meets its order
-      module _ (z : code (decode (slot b (index h) .rec)) ≡ 7) (k : ℕ) (hk : k ≡ getD (slot b (index h) .kids) 0 0) (row : List ℕ) (sh : Tells (treeOf b k) row) (own : List ℕ) (so : Tells (treeOf b h) own)
+      module _ (z : code (decode (slot b (index h) .rec)) ≡ 7) (k : ℕ) (hk : k ≡ getD (slot b (index h) .kids) 0 0) (row : List ℕ)
+          (sh : Tells (treeOf b k) row) (own : List ℕ) (so : Tells (treeOf b h) own)
           (o : Order) (ho : Ordered (knownOrder (told own)) o) (x : Bool) (hx : x ≡ met (told row) (orderOf o)) where
         abbrev r : NodeRecord
         r = fromBytes (slot b (index h) .rec)
 
-        sorts : opT (treeOf b h) ≡ sortOp (fromBytes (slot b (index h) .rec) .preserve) (fromBytes (slot b (index h) .rec) .keys) (fromBytes (slot b (index h) .rec) .fetch)
+        sorts : opT (treeOf b h) ≡ sortOp (fromBytes (slot b (index h) .rec) .preserve) (fromBytes (slot b (index h) .rec) .keys)
+            (fromBytes (slot b (index h) .rec) .fetch)
         sorts = ap opT (tree-is b u h marks-standing) ∙ sort-op (slot b (index h) .rec) (own-proper b u h marks-standing (slot b (index h) .rec) refl) z
 
         first : told row ≡ at0 (known (treeOf b h .kids))
-        first = sh .is ∙ ap (λ i. fact (treeOf b i)) hk ∙ sym (facts-at b (slot b (index h) .kids) 0 first-some) ∙ ap (λ y. at0 (known (y .kids))) (sym (tree-is b u h marks-standing))
+        first = sh .is ∙ ap (λ i. fact (treeOf b i)) hk ∙ sym (facts-at b (slot b (index h) .kids) 0 first-some) ∙ ap (λ y. at0 (known (y .kids)))
+            (sym (tree-is b u h marks-standing))
 
         by-sort : ensureBy (shape (opT (treeOf b h))) (treeOf b h) ≡ cond x (immediateAt b h) (finish (shape (opT (treeOf b h))) (afterLoop (treeOf b h)))
         by-sort =
             ap (λ k. ensureBy (shape k) t) sorts
-            ∙ ap (λ y. cond y (immediateAt b h) (finish (shape (sortOp (r .preserve) (r .keys) (r .fetch))) (afterLoop t))) (sym (hx ∙ ap₂ met first (ho .is ∙ ap knownOrder (so .is))))
+            ∙ ap (λ y. cond y (immediateAt b h) (finish (shape (sortOp (r .preserve) (r .keys) (r .fetch))) (afterLoop t)))
+            (sym (hx ∙ ap₂ met first (ho .is ∙ ap knownOrder (so .is))))
             ∙ ap (λ k. cond x (immediateAt b h) (finish (shape k) (afterLoop t))) (sym sorts)
 
         pub not-met : x ≡ false → ensureBy (shape (opT (treeOf b h))) (treeOf b h) ≡ finish (shape (opT (treeOf b h))) (afterLoop (treeOf b h))
@@ -141,9 +148,11 @@ module _ (b : List ℕ) (u h : ℕ) (p : Marks b u h) where
         is-met q = some ∙ by-sort ∙ ap (λ y. cond y (immediateAt b h) (finish (shape (opT t)) (afterLoop t))) q
 
         pub met-asks : x ≡ true → Immediates b u h
-        met-asks q = let y = p .room in let s = p .small in record { arena = p .arena; here = p .here; room = omega arith; small = omega arith; sort = z; ok = subst OkT (is-met q) (p .ok) }
+        met-asks q = let y = p .room in let s = p .small in
+            record { arena = p .arena; here = p .here; room = omega arith; small = omega arith; sort = z; ok = subst OkT (is-met q) (p .ok) }
 
-        pub met-grown : x ≡ true → (b' : List ℕ) (a : At) → Grown b u b' a (immediateAt b h) (u + 1) → Grown b u b' a (ensureMarked (treeOf b h)) (u + 2 * size (treeOf b h .kids) + 9)
+        pub met-grown : x ≡ true → (b' : List ℕ) (a : At) → Grown b u b' a (immediateAt b h) (u + 1) → Grown b u b' a (ensureMarked (treeOf b h))
+            (u + 2 * size (treeOf b h .kids) + 9)
         met-grown q b' a g = subst (λ v. Grown b u b' a v top) (sym (is-met q)) (grown-more b u b' a (immediateAt b h) (u + 1) top (omega arith) g)
 
 -- ---- the open node
@@ -188,9 +197,18 @@ module _ (b : List ℕ) (u : ℕ) (r ks : List ℕ) (i : ℕ) (p : Opened b u r 
     pub open-marks : Marks b' (a .used) (a .root)
     open-marks =
         let f = p .few in let x = p .room in let s = p .small in let z = sizes in let n = ap (λ t. size (t .kids)) (g .tree) in let y = g .room in
-        record { arena = g .arena; here = g .here; room = omega arith; small = omega arith; few = omega arith; ok = subst OkT (sym (ap ensureMarked (g .tree) ∙ same)) (step-ok o b ks (p .ok)) }
+        record {
+          arena = g .arena;
+          here = g .here;
+          room = omega arith;
+          small = omega arith;
+          few = omega arith;
+          ok = subst OkT (sym (ap ensureMarked (g .tree) ∙ same)) (step-ok o b ks (p .ok));
+        }
 
-    pub open-grown : (b'' : List ℕ) (c : At) → Grown b' (a .used) b'' c (ensureMarked (treeOf b' (a .root))) (a .used + 2 * size (treeOf b' (a .root) .kids) + 9) → Grown b u b'' c (ensureSorting (node (decode r) false (forest b ks))) (u + stepRoom (suc (size (forest b ks))))
+    pub open-grown : (b'' : List ℕ) (c : At) → Grown b' (a .used) b'' c (ensureMarked (treeOf b' (a .root)))
+        (a .used + 2 * size (treeOf b' (a .root) .kids) + 9) → Grown b u b'' c (ensureSorting (node (decode r) false (forest b ks)))
+        (u + stepRoom (suc (size (forest b ks))))
     open-grown b'' c k =
         let z = sizes in let n = ap (λ t. size (t .kids)) (g .tree) in let y = g .room in
         subst (λ v. Grown b u b'' c v whole) (ap ensureMarked (g .tree) ∙ same)
@@ -206,10 +224,16 @@ pub record KeysCopied (ks : List ℕ) (j : ℕ) (out : List ℕ) : Type 0 where
 pub copied-none : (ks : List ℕ) → KeysCopied ks 0 (replicate 8 0)
 copied-none ks = record { wide = refl; low = omega arith; is = refl }
 
-pub copied-more : (ks : List ℕ) (j : ℕ) (out : List ℕ) → KeysCopied ks j out → length ks ≤ 8 → j < length ks → KeysCopied ks (j + 1) (set out j (getD ks j 0))
+pub copied-more : (ks : List ℕ) (j : ℕ) (out : List ℕ) → KeysCopied ks j out → length ks ≤ 8 → j < length ks
+    → KeysCopied ks (j + 1) (set out j (getD ks j 0))
 copied-more ks j out c h l =
     let w = c .wide in
-    rw (add-one j) (record { wide = length-set out j (getD ks j 0) ∙ c .wide; low = omega arith; is = take-suc-set out j (getD ks j 0) (omega arith) ∙ ap (λ x. x ++ (getD ks j 0 ∷ [])) (c .is) ∙ sym (take-suc ks j 0 l) })
+    rw (add-one j) (record {
+      wide = length-set out j (getD ks j 0) ∙ c .wide;
+      low = omega arith;
+      is = take-suc-set out j (getD ks j 0) (omega arith)
+          ∙ ap (λ x. x ++ (getD ks j 0 ∷ [])) (c .is) ∙ sym (take-suc ks j 0 l);
+    })
 
 pub copied-all : (ks : List ℕ) (j : ℕ) (out : List ℕ) → KeysCopied ks j out → length ks ≤ j → KeysCopied ks (length ks) out
 copied-all ks j out c h = let l = c .low in subst (λ i. KeysCopied ks i out) (omega arith) c
@@ -225,5 +249,8 @@ module _ (b : List ℕ) (u : ℕ) (r ks : List ℕ) (i : ℕ) (out : List ℕ) (
   pub copied-opened : Opened b u r ks i → Opened b u r (take (length ks) out) i
   copied-opened p = subst (λ k. Opened b u r k i) (sym (copied-is ks out c)) p
 
-  pub copied-grown : (b' : List ℕ) (a : At) → Grown b u b' a (ensureSorting (node (decode r) false (forest b (take (length ks) out)))) (u + stepRoom (suc (size (forest b (take (length ks) out))))) → Grown b u b' a (ensureSorting (node (decode r) false (forest b ks))) (u + stepRoom (suc (size (forest b ks))))
-  copied-grown b' a g = subst (λ k. Grown b u b' a (ensureSorting (node (decode r) false (forest b k))) (u + stepRoom (suc (size (forest b k))))) (copied-is ks out c) g
+  pub copied-grown : (b' : List ℕ) (a : At) → Grown b u b' a (ensureSorting (node (decode r) false (forest b (take (length ks) out))))
+      (u + stepRoom (suc (size (forest b (take (length ks) out))))) → Grown b u b' a (ensureSorting (node (decode r) false (forest b ks)))
+      (u + stepRoom (suc (size (forest b ks))))
+  copied-grown b' a g = subst (λ k. Grown b u b' a (ensureSorting (node (decode r) false (forest b k))) (u + stepRoom (suc (size (forest b k)))))
+      (copied-is ks out c) g

@@ -60,7 +60,8 @@ ghost use Rattle.ensure_sorting.specs.Step.{Marks, KeysCopied};
 // A marked sort over the tree at h, which is marked where it is connected to a sort.
 fn add_marked_sort(m: &mut [u8], u: usize, h: usize, keys: Keys, fetch: Fetch) -> At
     requires { ⌜ Sorts (now m) u h (keysOf keys) fetch ⌝ }
-    ensures { λ a. ⌜ Grown (now (m .entry)) u (now (m .exit)) a (updateSortCtxChildrenData true (addSortAbove (keysOf keys) fetch (treeOf (now (m .entry)) h))) (u + 1) ⌝ }
+    ensures { λ a. ⌜ Grown (now (m .entry)) u (now (m .exit)) a
+        (updateSortCtxChildrenData true (addSortAbove (keysOf keys) fetch (treeOf (now (m .entry)) h))) (u + 1) ⌝ }
 {
     let k = set_mark(h, is_connected(m, u, h));
     let a = add_sort_above(m, u, k, keys, fetch);
@@ -74,7 +75,8 @@ fn add_marked_sort(m: &mut [u8], u: usize, h: usize, keys: Keys, fetch: Fetch) -
 // No order is wanted of the tree at h: sorts below it go, unless its order is maintained.
 fn ensure_unordered(m: &mut [u8], u: usize, h: usize, keeps: bool, single: bool) -> At
     requires { ⌜ Ensures (now m) u h ⌝ }
-    ensures { λ a. ⌜ Grown (now (m .entry)) u (now (m .exit)) a (ensureChild [] keeps single Unlimited (treeOf (now (m .entry)) h)) (u + 2 * sizeT (treeOf (now (m .entry)) h) + 1) ⌝ }
+    ensures { λ a. ⌜ Grown (now (m .entry)) u (now (m .exit)) a (ensureChild [] keeps single Unlimited (treeOf (now (m .entry)) h))
+        (u + 2 * sizeT (treeOf (now (m .entry)) h) + 1) ⌝ }
 {
     let ordered = is_ordered(row(m, h));
     if !ordered | !keeps {
@@ -86,7 +88,8 @@ fn ensure_unordered(m: &mut [u8], u: usize, h: usize, keeps: bool, single: bool)
 // An order is wanted of it.
 fn ensure_ordered(m: &mut [u8], u: usize, h: usize, keys: Keys, single: bool, fetch: Fetch) -> At
     requires { ⌜ Ensures (now m) u h × (0 < keys .len) × Sortable (treeOf (now m) h) (keysOf keys) fetch ⌝ }
-    ensures { λ a. ⌜ Grown (now (m .entry)) u (now (m .exit)) a (ensureChild (keysOf keys) false single fetch (treeOf (now (m .entry)) h)) (u + 2 * sizeT (treeOf (now (m .entry)) h) + 1) ⌝ }
+    ensures { λ a. ⌜ Grown (now (m .entry)) u (now (m .exit)) a (ensureChild (keysOf keys) false single fetch (treeOf (now (m .entry)) h))
+        (u + 2 * sizeT (treeOf (now (m .entry)) h) + 1) ⌝ }
 {
     let own = row(m, h);
     let ordered = is_ordered(own);
@@ -111,7 +114,8 @@ fn ensure_child(
     fetch: Fetch,
 ) -> At
     requires { ⌜ Ensures (now m) u h × Real order × Sortable (treeOf (now m) h) (orderOf order) fetch ⌝ }
-    ensures { λ a. ⌜ Grown (now (m .entry)) u (now (m .exit)) a (ensureChild (orderOf order) keeps single fetch (treeOf (now (m .entry)) h)) (u + 2 * sizeT (treeOf (now (m .entry)) h) + 1) ⌝ }
+    ensures { λ a. ⌜ Grown (now (m .entry)) u (now (m .exit)) a (ensureChild (orderOf order) keeps single fetch (treeOf (now (m .entry)) h))
+        (u + 2 * sizeT (treeOf (now (m .entry)) h) + 1) ⌝ }
 {
     match order {
         Order::Unordered => ensure_unordered(m, u, h, keeps, single),
@@ -124,7 +128,8 @@ fn ensure_child(
 // The node put back over its children, whose marks are put right.
 fn update_over(m: &mut [u8], u: usize, h: usize, r: &[u8], ks: &mut [usize]) -> At
     requires { ⌜ Finishes (now m) u h (now r) (now ks) ⌝ }
-    ensures { λ a. ⌜ Grown (now (m .entry)) u (now (m .exit)) a (updateSortCtxChildrenData false (rebuild (decode (now (r .entry))) false (forest (now (m .entry)) (now (ks .entry))))) (u + 1) ⌝ }
+    ensures { λ a. ⌜ Grown (now (m .entry)) u (now (m .exit)) a
+        (updateSortCtxChildrenData false (rebuild (decode (now (r .entry))) false (forest (now (m .entry)) (now (ks .entry))))) (u + 1) ⌝ }
 {
     update_sort_ctx_children_data(m, u, ks);
     update_plan_from_children(m, u, r, ks, h / 2)
@@ -132,8 +137,10 @@ fn update_over(m: &mut [u8], u: usize, h: usize, r: &[u8], ks: &mut [usize]) -> 
 
 // A merge of one stream: it goes, or with a fetch it becomes a limit.
 fn unmerge(m: &mut [u8], u: usize, h: usize, r: &[u8], ks: &[usize]) -> At
-    requires { ⌜ Finishes (now m) u h (now r) (now ks) × (code (decode (now r)) ≡ 8) × OkT (unmerged (fromBytes (now r) .fetch) (rebuild (decode (now r)) false (forest (now m) (now ks)))) ⌝ }
-    ensures { λ a. ⌜ Grown (now (m .entry)) u (now (m .exit)) a (unmerged (fromBytes (now (r .entry)) .fetch) (rebuild (decode (now (r .entry))) false (forest (now (m .entry)) (now (ks .entry))))) (u + 1) ⌝ }
+    requires { ⌜ Finishes (now m) u h (now r) (now ks) × (code (decode (now r)) ≡ 8)
+        × OkT (unmerged (fromBytes (now r) .fetch) (rebuild (decode (now r)) false (forest (now m) (now ks)))) ⌝ }
+    ensures { λ a. ⌜ Grown (now (m .entry)) u (now (m .exit)) a
+        (unmerged (fromBytes (now (r .entry)) .fetch) (rebuild (decode (now (r .entry))) false (forest (now (m .entry)) (now (ks .entry))))) (u + 1) ⌝ }
 {
     let fetch = fetch_field(r);
     if some_fetch(fetch) {
@@ -154,7 +161,8 @@ fn unmerge(m: &mut [u8], u: usize, h: usize, r: &[u8], ks: &[usize]) -> At
 // The node at h, with the record r, over its children after the loop.
 fn finish(m: &mut [u8], u: usize, h: usize, r: &[u8], ks: &mut [usize]) -> At
     requires { ⌜ Finishes (now m) u h (now r) (now ks) ⌝ }
-    ensures { λ a. ⌜ Grown (now (m .entry)) u (now (m .exit)) a (finished (shape (decode (now (r .entry)))) (rebuild (decode (now (r .entry))) false (forest (now (m .entry)) (now (ks .entry))))) (u + 1) ⌝ }
+    ensures { λ a. ⌜ Grown (now (m .entry)) u (now (m .exit)) a
+        (finished (shape (decode (now (r .entry)))) (rebuild (decode (now (r .entry))) false (forest (now (m .entry)) (now (ks .entry))))) (u + 1) ⌝ }
 {
     if is_sort_preserving_merge(r) {
         let several = several_streams(row(m, ks[0]));
@@ -171,7 +179,8 @@ fn finish(m: &mut [u8], u: usize, h: usize, r: &[u8], ks: &mut [usize]) -> At
 // The loop over the children of the node at h, and the end.
 fn ensure_children(m: &mut [u8], u: usize, h: usize) -> At
     requires { ⌜ Loops (now m) u h ⌝ }
-    ensures { λ a. ⌜ Grown (now (m .entry)) u (now (m .exit)) a (finished (shape (opT (treeOf (now (m .entry)) h))) (afterLoop (treeOf (now (m .entry)) h))) (u + 2 * size (treeOf (now (m .entry)) h .kids) + 9) ⌝ }
+    ensures { λ a. ⌜ Grown (now (m .entry)) u (now (m .exit)) a (finished (shape (opT (treeOf (now (m .entry)) h))) (afterLoop (treeOf (now (m .entry)) h)))
+        (u + 2 * size (treeOf (now (m .entry)) h .kids) + 9) ⌝ }
 {
     let i = h / 2;
     let r = read64(record_at(m, i));
@@ -196,7 +205,8 @@ fn ensure_children(m: &mut [u8], u: usize, h: usize) -> At
 // The node at h, whose children's marks are right.
 fn ensure_marked(m: &mut [u8], u: usize, h: usize) -> At
     requires { ⌜ Marks (now m) u h ⌝ }
-    ensures { λ a. ⌜ Grown (now (m .entry)) u (now (m .exit)) a (ensureMarked (treeOf (now (m .entry)) h)) (u + 2 * size (treeOf (now (m .entry)) h .kids) + 9) ⌝ }
+    ensures { λ a. ⌜ Grown (now (m .entry)) u (now (m .exit)) a (ensureMarked (treeOf (now (m .entry)) h))
+        (u + 2 * size (treeOf (now (m .entry)) h .kids) + 9) ⌝ }
 {
     let i = h / 2;
     if child_count(m, i) == 0 {
@@ -215,7 +225,9 @@ fn ensure_marked(m: &mut [u8], u: usize, h: usize) -> At
 // The node with the record r over the children ks, whose marks are put right.
 fn ensure_open(m: &mut [u8], u: usize, r: &[u8], ks: &mut [usize], i: usize) -> At
     requires { ⌜ Opened (now m) u (now r) (now ks) i ⌝ }
-    ensures { λ a. ⌜ Grown (now (m .entry)) u (now (m .exit)) a (ensureSorting (node (decode (now (r .entry))) false (forest (now (m .entry)) (now (ks .entry))))) (u + stepRoom (suc (size (forest (now (m .entry)) (now (ks .entry)))))) ⌝ }
+    ensures { λ a. ⌜ Grown (now (m .entry)) u (now (m .exit)) a
+        (ensureSorting (node (decode (now (r .entry))) false (forest (now (m .entry)) (now (ks .entry)))))
+        (u + stepRoom (suc (size (forest (now (m .entry)) (now (ks .entry)))))) ⌝ }
 {
     update_sort_ctx_children_data(m, u, ks);
     let a = put_again(m, u, r, ks, i);
@@ -239,7 +251,9 @@ fn copied(ks: &[usize]) -> [usize; 8]
 // The step at the node with the record r over the children ks; slot i holds it as it was read.
 pub fn ensure_sorting(m: &mut [u8], u: usize, r: &[u8], ks: &[usize], i: usize) -> At
     requires { ⌜ Opened (now m) u (now r) (now ks) i ⌝ }
-    ensures { λ a. ⌜ Grown (now (m .entry)) u (now (m .exit)) a (ensureSorting (node (decode (now (r .entry))) false (forest (now (m .entry)) (now (ks .entry))))) (u + stepRoom (suc (size (forest (now (m .entry)) (now (ks .entry)))))) ⌝ }
+    ensures { λ a. ⌜ Grown (now (m .entry)) u (now (m .exit)) a
+        (ensureSorting (node (decode (now (r .entry))) false (forest (now (m .entry)) (now (ks .entry)))))
+        (u + stepRoom (suc (size (forest (now (m .entry)) (now (ks .entry)))))) ⌝ }
 {
     let n = ks.len();
     let mut kids = copied(ks);

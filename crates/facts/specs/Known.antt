@@ -13,7 +13,13 @@ use Rattle.facts.specs.declared.Facts.{Facts as Coded}
 
 -- The semantics' facts that the struct f says
 abbrev pub known : Coded → Facts
-known f = record { width = f .width; streams = f .streams; consts = tab (f .width) (bit (f .consts)); cls = take (f .width) (f .low); order = keysOf (f .order) }
+known f = record {
+  width = f .width;
+  streams = f .streams;
+  consts = tab (f .width) (bit (f .consts));
+  cls = take (f .width) (f .low);
+  order = keysOf (f .order);
+}
 
 -- What travels with the struct: from the width on no column is constant and each is alone in its class
 pub record Coherent (f : Coded) : Type 0 where

@@ -39,7 +39,8 @@ carried-is F t cols h c =
 abbrev pub Projecting : List ℕ → List ℕ → List Key → Keys → ℕ → ℕ → Type 0
 Projecting t cols ks out w n = (F : Facts) → Agrees F t → Building (projOrder F cols ks) out (projOrder F cols (keysIn n w))
 
-module _ (t cols : List ℕ) (ks : List Key) (out : Keys) (w n : ℕ) (p : Projecting t cols ks out w n) (j : ℕ) (e : j ≡ lowest (carries t cols (at t (keyOf w .col))) (length cols)) (h : 0 < n) where
+module _ (t cols : List ℕ) (ks : List Key) (out : Keys) (w n : ℕ) (p : Projecting t cols ks out w n) (j : ℕ)
+    (e : j ≡ lowest (carries t cols (at t (keyOf w .col))) (length cols)) (h : 0 < n) where
   found : (F : Facts) → Agrees F t → j ≡ carried F cols (keyOf w .col)
   found F a = e ∙ carried-is F t cols a (keyOf w .col)
 
@@ -49,7 +50,8 @@ module _ (t cols : List ℕ) (ks : List Key) (out : Keys) (w n : ℕ) (p : Proje
       let z = found F a in
       let b : ltb (carried F cols (k .col)) (length cols) ≡ true = rw (← z) (lt-ltb j (length cols) m) in
       let d : projOrder F cols (keysIn n w) ≡ withColumn (carried F cols (k .col)) k ∷ projOrder F cols (keysIn (n - 1) (w / 256)) = rw (next n w h, b) in
-      grown _ out x r (withColumn (carried F cols (k .col)) k) (projOrder F cols (keysIn (n - 1) (w / 256))) (rebuilt d (p F a)) l (y ∙ ap (λ c. withColumn c k) z)
+      grown _ out x r (withColumn (carried F cols (k .col)) k) (projOrder F cols (keysIn (n - 1) (w / 256))) (rebuilt d (p F a)) l
+      (y ∙ ap (λ c. withColumn c k) z)
 
   -- a key that no output carries ends the order
   pub stopped : out .len ≤ 8 → length cols ≤ j → (F : Facts) → Agrees F t → Keyed (projOrder F cols ks) out
@@ -59,15 +61,18 @@ module _ (t cols : List ℕ) (ks : List Key) (out : Keys) (w n : ℕ) (p : Proje
       let d : projOrder F cols (keysIn n w) ≡ [] = rw (next n w h, b) in
       built _ out l (rebuilt d (p F a))
 
-pub all-projected : (t cols : List ℕ) (ks : List Key) (out : Keys) (w n : ℕ) → Projecting t cols ks out w n → n ≤ 0 → out .len ≤ 8 → (F : Facts) → Agrees F t → Keyed (projOrder F cols ks) out
+pub all-projected : (t cols : List ℕ) (ks : List Key) (out : Keys) (w n : ℕ) → Projecting t cols ks out w n → n ≤ 0 → out .len ≤ 8 → (F : Facts)
+    → Agrees F t → Keyed (projOrder F cols ks) out
 all-projected t cols ks out w n p h l F a =
     let d : projOrder F cols (keysIn n w) ≡ [] = rw (end n w h) in
     built _ out l (rebuilt d (p F a))
 
-pub says-projection : (f : Coded) (cols t : List ℕ) (s : ℕ) (o : Keys) → Coherent f → length cols ≤ 32 → Filled (length cols) (projectionLow (f .low) cols) t
+pub says-projection : (f : Coded) (cols t : List ℕ) (s : ℕ) (o : Keys) → Coherent f → length cols ≤ 32
+    → Filled (length cols) (projectionLow (f .low) cols) t
     → Holding (below (length cols) (λ j. bit (f .consts) (getD cols j 0))) s → Keyed (projOrder (known f) cols (known f .order)) o
     → Says (projFacts (known f) cols) (record { width = length cols; streams = f .streams; consts = s; low = t; order = o })
 says-projection f cols t s o h l g q k =
     let low : (ℕ → ℕ) → ℕ → ℕ = λ x j. lowest (λ i. eqb (x (getD cols i 0)) (x (getD cols j 0))) j in
     let e : projectionLow (f .low) cols ≡ low (cl (known f)) = ap low (cl-is f h) in
-    says (length cols) (f .streams) s t o _ _ _ l (subst (λ x. Filled (length cols) x t) e g) (λ c m. lowest-le _ c) (λ c. q c ∙ ap (λ x. ltb c (length cols) && x) (sym (constants f h (getD cols c 0)))) k
+    says (length cols) (f .streams) s t o _ _ _ l (subst (λ x. Filled (length cols) x t) e g) (λ c m. lowest-le _ c)
+    (λ c. q c ∙ ap (λ x. ltb c (length cols) && x) (sym (constants f h (getD cols c 0)))) k

@@ -31,8 +31,10 @@ tab-ext (suc n) f g h =
     ap₂ _∷_ (h zero (omega arith)) (tab-ext n (λ i. f (suc i)) (λ i. g (suc i)) (λ c l. h (suc c) (omega arith)))
 
 -- the table holds g, the set p, both below w
-pub says : (w n s : ℕ) (t : List ℕ) (o : Keys) (g : ℕ → ℕ) (p : ℕ → Bool) (ks : List Key) → w ≤ 32 → Filled w g t → ((c : ℕ) → c < w → g c ≤ c) → Holding (below w p) s → Keyed ks o
-    → Says (record { width = w; streams = n; consts = tab w p; cls = tab w g; order = ks }) (record { width = w; streams = n; consts = s; low = t; order = o })
+pub says : (w n s : ℕ) (t : List ℕ) (o : Keys) (g : ℕ → ℕ) (p : ℕ → Bool) (ks : List Key) → w ≤ 32 → Filled w g t → ((c : ℕ) → c < w → g c ≤ c)
+    → Holding (below w p) s → Keyed ks o
+    → Says (record { width = w; streams = n; consts = tab w p; cls = tab w g; order = ks })
+    (record { width = w; streams = n; consts = s; low = t; order = o })
 says w n s t o g p ks l h d e k =
     let q : tab w (bit s) ≡ tab w p = tab-ext w (bit s) p (λ c m. e c ∙ rw (lt-ltb c w m)) in
     let r : take w t ≡ tab w g = filled-tab w g t h l in
@@ -81,7 +83,8 @@ says-unknown w t o l h k = says w 0 0 t o (λ c. c) (λ c. false) [] l (alone-an
 pub fits-none : (w s : ℕ) → setFits w s ≡ true → (c : ℕ) → w ≤ c → bit s c ≡ false
 fits-none w s e c l =
     let z : s / 2 ^ w ≡ 0 = eqb-true (s / 2 ^ w) 0 e in
-    let y : s / 2 ^ c ≡ 0 = ap (λ k. s / 2 ^ k) (let x : c ≡ w + (c - w) = omega arith in x) ∙ sym (shr-shr s w (c - w)) ∙ ap (λ k. k / 2 ^ (c - w)) z ∙ div-eq-of-lt (pow-pos (c - w)) in
+    let y : s / 2 ^ c ≡ 0 = ap (λ k. s / 2 ^ k) (let x : c ≡ w + (c - w) = omega arith in x) ∙ sym (shr-shr s w (c - w)) ∙ ap (λ k. k / 2 ^ (c - w)) z
+    ∙ div-eq-of-lt (pow-pos (c - w)) in
     rw y
 
 pub says-source : (w n s : ℕ) (t : List ℕ) (o : Keys) → w ≤ 32 → setFits w s ≡ true → Filled 0 (λ c. c) t → Keyed [] o
@@ -92,9 +95,11 @@ says-source w n s t o l e h k = says w n s t o (λ c. c) (bit s) [] l (alone-any
     go c true x = refl
     go c false x = fits-none w s e c (ltb-false c w x)
 
-pub says-both : (a b : Coded) (t : List ℕ) (o : Keys) → Coherent a → Coherent b → Filled (a .width) (unionLow (a .low) (b .low)) t → Keyed (common (known a .order) (known b .order)) o
+pub says-both : (a b : Coded) (t : List ℕ) (o : Keys) → Coherent a → Coherent b → Filled (a .width) (unionLow (a .low) (b .low)) t
+    → Keyed (common (known a .order) (known b .order)) o
     → Says (both (known a) (known b)) (record { width = a .width; streams = a .streams + b .streams; consts = 0; low = t; order = o })
 says-both a b t o f g h k =
     let low : (ℕ → ℕ) → (ℕ → ℕ) → ℕ → ℕ = λ x y k. lowest (λ i. eqb (x i) (x k) && eqb (y i) (y k)) k in
     let e : unionLow (a .low) (b .low) ≡ low (cl (known a)) (cl (known b)) = ap₂ low (cl-is a f) (cl-is b g) in
-    says (a .width) (a .streams + b .streams) 0 t o _ (λ k. false) _ (f .wide) (subst (λ k. Filled (a .width) k t) e h) (λ k l. lowest-le _ k) (none-below (a .width)) k
+    says (a .width) (a .streams + b .streams) 0 t o _ (λ k. false) _ (f .wide) (subst (λ k. Filled (a .width) k t) e h) (λ k l. lowest-le _ k)
+    (none-below (a .width)) k

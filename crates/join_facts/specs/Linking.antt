@@ -26,15 +26,18 @@ use Rattle.join_facts.specs.Joining.{onOf, Linkable}
 -- ---- one pair
 module _ (f : Coded) (h : Coherent f) (a b : ℕ) where
   pub says-linked : (t : List ℕ) (s : ℕ) → Filled (f .width) (linkedLow (f .low) (at (f .low) a) (at (f .low) b)) t
-      → Holding (λ c. bit (f .consts) c || (below (f .width) (inClasses (f .low) (at (f .low) a) (at (f .low) b)) c && (bit (f .consts) a || bit (f .consts) b))) s
+      → Holding (λ c. bit (f .consts) c || (below (f .width) (inClasses (f .low) (at (f .low) a) (at (f .low) b)) c
+      && (bit (f .consts) a || bit (f .consts) b))) s
       → Says (linked (known f) a b) (record { width = f .width; streams = f .streams; consts = s; low = t; order = f .order })
   says-linked t s g d =
       let low : (ℕ → ℕ) → ℕ → ℕ = λ x c. cond (eqb (x c) (x a) || eqb (x c) (x b)) (min (x a) (x b)) (x c) in
       let e : linkedLow (f .low) (at (f .low) a) (at (f .low) b) ≡ low (cl (known f)) = ap low (cl-is f h) in
       says (f .width) (f .streams) s t (f .order) _ (λ c. isC (known f) c || (inClass (known f) a b c && (isC (known f) a || isC (known f) b))) _ (h .wide)
-      (subst (λ x. Filled (f .width) x t) e g) (λ c l. down c (eqb (cl (known f) c) (cl (known f) a)) refl (eqb (cl (known f) c) (cl (known f) b)) refl) (λ c. d c ∙ held c (ltb c (f .width)) refl) (own-order f h)
+      (subst (λ x. Filled (f .width) x t) e g) (λ c l. down c (eqb (cl (known f) c) (cl (known f) a)) refl (eqb (cl (known f) c) (cl (known f) b)) refl)
+      (λ c. d c ∙ held c (ltb c (f .width)) refl) (own-order f h)
     where
-      down : (c : ℕ) (p : Bool) → eqb (cl (known f) c) (cl (known f) a) ≡ p → (q : Bool) → eqb (cl (known f) c) (cl (known f) b) ≡ q → cond (p || q) (min (cl (known f) a) (cl (known f) b)) (cl (known f) c) ≤ c
+      down : (c : ℕ) (p : Bool) → eqb (cl (known f) c) (cl (known f) a) ≡ p → (q : Bool) → eqb (cl (known f) c) (cl (known f) b) ≡ q
+          → cond (p || q) (min (cl (known f) a) (cl (known f) b)) (cl (known f) c) ≤ c
       down c true x q y = let z = eqb-true (cl (known f) c) (cl (known f) a) x in let k = h .down c in let m = classes f h c in omega arith
       down c false x true y = let z = eqb-true (cl (known f) c) (cl (known f) b) y in let k = h .down c in let m = classes f h c in omega arith
       down c false x false y = let k = h .down c in let m = classes f h c in omega arith
@@ -79,13 +82,15 @@ pub record Linking (w : ℕ) (f : Coded) (ks cs : List ℕ) (g : Coded) (i : ℕ
   pub leads : linkAll w (drop i (onOf ks cs)) (known g) ≡ linkAll w (onOf ks cs) (known f)
 
 module _ (w : ℕ) (f : Coded) (ks cs : List ℕ) (g : Coded) (i : ℕ) (n : Linking w f ks cs g i) where
-  pub link-more : i < length ks → length ks ≡ length cs → All (Linkable w) (onOf ks cs) → (r : Coded) → Says (linked (known g) (keyOf (getD ks i 0) .col) (w + getD cs i 0)) r → Linking w f ks cs r (i + 1)
+  pub link-more : i < length ks → length ks ≡ length cs → All (Linkable w) (onOf ks cs) → (r : Coded)
+      → Says (linked (known g) (keyOf (getD ks i 0) .col) (w + getD cs i 0)) r → Linking w f ks cs r (i + 1)
   link-more h e ps r s =
       let l = on-at (Linkable w) ks cs i h e ps .left in
       record {
         far = omega arith;
         fine = s .fine;
-        leads = ap (linkAll w (drop (i + 1) (onOf ks cs))) (s .is) ∙ sym (linkAll-fits w (pairAt ks cs i) (drop (i + 1) (onOf ks cs)) (known g) l) ∙ ap (λ on. linkAll w on (known g)) (sym (on-next ks cs i h e)) ∙ n .leads;
+        leads = ap (linkAll w (drop (i + 1) (onOf ks cs))) (s .is) ∙ sym (linkAll-fits w (pairAt ks cs i) (drop (i + 1) (onOf ks cs)) (known g) l)
+            ∙ ap (λ on. linkAll w on (known g)) (sym (on-next ks cs i h e)) ∙ n .leads;
       }
 
   pub link-end : length ks ≤ i → Says (linkAll w (onOf ks cs) (known f)) g
@@ -95,7 +100,8 @@ module _ (w : ℕ) (f : Coded) (ks cs : List ℕ) (g : Coded) (i : ℕ) (n : Lin
 pub linkable : (w v : ℕ) (on : List On) → onFit w v on ≡ true → w + v ≤ 32 → All (Linkable w) on
 linkable w v on e l =
     let p = and-left (columnsBelow w (map (λ k. k .key .col) on) && distinct (map (λ k. k .key .col) on)) _ e in
-    let q = and-right (columnsBelow w (map (λ k. k .key .col) on) && distinct (map (λ k. k .key .col) on)) (columnsBelow v (map (λ k. k .other) on) && distinct (map (λ k. k .other) on)) e in
+    let q = and-right (columnsBelow w (map (λ k. k .key .col) on) && distinct (map (λ k. k .key .col) on))
+    (columnsBelow v (map (λ k. k .other) on) && distinct (map (λ k. k .other) on)) e in
     go on (and-left (columnsBelow w (map (λ k. k .key .col) on)) _ p) (and-left (columnsBelow v (map (λ k. k .other) on)) _ q)
   where
     go : (on : List On) → columnsBelow w (map (λ k. k .key .col) on) ≡ true → columnsBelow v (map (λ k. k .other) on) ≡ true → All (Linkable w) on

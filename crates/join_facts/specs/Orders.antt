@@ -28,7 +28,10 @@ moved-by w [] = refl
 moved-by w (k ∷ ks) = ap₂ _∷_ (ap (λ c. withColumn c k) (let e : k .col + w ≡ w + k .col = omega arith in e)) (moved-by w ks)
 
 pub room : (w : ℕ) (ks : List Key) → All (λ k. w + k .col < 32) ks → All (Movable (pos w)) ks
-room w ks h = all-map (λ k m. record { low = record { le = le→leb 0 (k .col + w) (omega arith) }; high = record { lt = lt→ltb (k .col + w) 32 (omega arith) } }) h
+room w ks h = all-map (λ k m. record {
+  low = record { le = le→leb 0 (k .col + w) (omega arith) };
+  high = record { lt = lt→ltb (k .col + w) 32 (omega arith) };
+}) h
 
 -- a right column is inside the join
 right-wide : (t : JoinType) (w v c : ℕ) → w ≤ 32 → v ≤ 32 → joinWidth t w v ≤ 32 → c < v → joinWidth t w (c + 1) ≤ 32
@@ -41,9 +44,11 @@ right-wide LeftAnti w v c a b h l = omega arith
 right-wide RightSemi w v c a b h l = omega arith
 right-wide RightAnti w v c a b h l = omega arith
 
-pub placeable : (t : JoinType) (w v : ℕ) (left right : Keys) → w ≤ 32 → v ≤ 32 → joinWidth t w v ≤ 32 → left .len ≤ 8 → right .len ≤ 8 → All (λ k. k .col < w) (keysOf left) → All (λ k. k .col < v) (keysOf right)
+pub placeable : (t : JoinType) (w v : ℕ) (left right : Keys) → w ≤ 32 → v ≤ 32 → joinWidth t w v ≤ 32 → left .len ≤ 8 → right .len ≤ 8
+    → All (λ k. k .col < w) (keysOf left) → All (λ k. k .col < v) (keysOf right)
     → Placeable t w left right
 placeable t w v left right a b h m n p q = record { wide = a; few = m; fewer = n; lefts = p; rights = all-map (λ k l. right-wide t w v (k .col) a b h l) q }
 
 pub sides-placeable : (t : JoinType) (a b : Coded) → Sides t a b → Placeable t (a .width) (a .order) (b .order)
-sides-placeable t a b s = placeable t (a .width) (b .width) (a .order) (b .order) (s .left .wide) (s .right .wide) (s .wide) (s .left .few) (s .right .few) (s .leftFits) (s .rightFits)
+sides-placeable t a b s = placeable t (a .width) (b .width) (a .order) (b .order) (s .left .wide) (s .right .wide) (s .wide) (s .left .few) (s .right .few)
+    (s .leftFits) (s .rightFits)

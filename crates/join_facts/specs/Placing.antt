@@ -43,26 +43,33 @@ module _ (f : Coded) (h : Coherent f) where
 
     pub says-placed : Says (placed (known f) n) (record { width = f .width + n; streams = f .streams; consts = f .consts; low = f .low; order = f .order })
     says-placed =
-        says (f .width + n) (f .streams) (f .consts) (f .low) (f .order) (λ c. cond (ltb c (f .width)) (cl (known f) c) c) (λ c. ltb c (f .width) && isC (known f) c) (known f .order) l
-        (filled-self _ (f .width + n) (f .low) (h .long) (λ c m. h .alone c (omega arith)) (λ c m. here c)) (λ c m. rw (here c) (h .down c)) held (own-order f h)
+        says (f .width + n) (f .streams) (f .consts) (f .low) (f .order) (λ c. cond (ltb c (f .width)) (cl (known f) c) c)
+        (λ c. ltb c (f .width) && isC (known f) c) (known f .order) l
+        (filled-self _ (f .width + n) (f .low) (h .long) (λ c m. h .alone c (omega arith)) (λ c m. here c)) (λ c m. rw (here c) (h .down c)) held
+        (own-order f h)
 
   -- ---- the right side, behind w columns
   module _ (w : ℕ) (l : w + f .width ≤ 32) where
     -- its set, moved up
-    pub moved-held : (c s : ℕ) → bit s c ≡ ltb c 32 && (leb w c && bit (f .consts) (c - w)) → bit s c ≡ below (w + f .width) (λ c. leb w c && isC (known f) (c - w)) c
+    pub moved-held : (c s : ℕ) → bit s c ≡ ltb c 32 && (leb w c && bit (f .consts) (c - w)) → bit s c ≡ below (w + f .width)
+        (λ c. leb w c && isC (known f) (c - w)) c
     moved-held c s e = e ∙ rw (constants f h (c - w)) (go (ltb c (w + f .width)) refl (ltb c w) refl)
       where
-        go : (p : Bool) → ltb c (w + f .width) ≡ p → (q : Bool) → ltb c w ≡ q → ltb c 32 && (leb w c && bit (f .consts) (c - w)) ≡ p && (leb w c && bit (f .consts) (c - w))
+        go : (p : Bool) → ltb c (w + f .width) ≡ p → (q : Bool) → ltb c w ≡ q → ltb c 32 && (leb w c && bit (f .consts) (c - w)) ≡ p
+            && (leb w c && bit (f .consts) (c - w))
         go true x q y = rw (lt-ltb c 32 (let m = ltb-true c (w + f .width) x in omega arith))
         go false x q y =
             let m = ltb-false c (w + f .width) x in
             rw (h .none (c - w) (omega arith), and-none (leb w c)) (and-none (ltb c 32))
 
-    pub says-shifted : (left t : List ℕ) (s : ℕ) → Filled 0 (λ c. c) left → Filled (w + f .width) (besideLow left (f .low) w) t → Holding (λ c. ltb c 32 && (leb w c && bit (f .consts) (c - w))) s
+    pub says-shifted : (left t : List ℕ) (s : ℕ) → Filled 0 (λ c. c) left → Filled (w + f .width) (besideLow left (f .low) w) t
+        → Holding (λ c. ltb c 32 && (leb w c && bit (f .consts) (c - w))) s
         → Says (shifted w (known f)) (record { width = w + f .width; streams = f .streams; consts = s; low = t; order = f .order })
     says-shifted left t s a b e =
-        says (w + f .width) (f .streams) s t (f .order) (λ c. cond (leb w c) (w + cl (known f) (c - w)) c) (λ c. leb w c && isC (known f) (c - w)) (known f .order) l
-        (refilled (w + f .width) (besideLow left (f .low) w) _ t (λ c m. turn c (ltb c w) refl) b) (λ c m. down c (ltb c w) refl) (λ c. moved-held c s (e c)) (own-order f h)
+        says (w + f .width) (f .streams) s t (f .order) (λ c. cond (leb w c) (w + cl (known f) (c - w)) c) (λ c. leb w c && isC (known f) (c - w))
+        (known f .order) l
+        (refilled (w + f .width) (besideLow left (f .low) w) _ t (λ c m. turn c (ltb c w) refl) b) (λ c m. down c (ltb c w) refl)
+        (λ c. moved-held c s (e c)) (own-order f h)
       where
         turn : (c : ℕ) (b : Bool) → ltb c w ≡ b → cond b (at left c) (w + at (f .low) (c - w)) ≡ cond (leb w c) (w + cl (known f) (c - w)) c
         turn c true x = rw (lt-leb w c (ltb-true c w x)) (filled-alone 0 (λ d. d) left a c (omega arith))
@@ -81,14 +88,16 @@ module _ (a b : Coded) (f : Coherent a) (g : Coherent b) (l : a .width + b .widt
       let low : (ℕ → ℕ) → (ℕ → ℕ) → ℕ → ℕ = λ x y c. cond (ltb c (a .width)) (x c) (a .width + y (c - a .width)) in
       let p : besideLow (a .low) (b .low) (a .width) ≡ low (cl (known a)) (cl (known b)) = ap₂ low (cl-is a f) (cl-is b g) in
       says (a .width + b .width) (a .streams) s t (a .order) _ (λ c. cond (ltb c (a .width)) (isC (known a) c) (isC (known b) (c - a .width))) _ l
-      (subst (λ x. Filled (a .width + b .width) x t) p h) (λ c k. down c (ltb c (a .width)) refl) (λ c. d c ∙ rw (moved-held b g (a .width) l c m (e c)) (held c (ltb c (a .width)) refl)) (own-order a f)
+      (subst (λ x. Filled (a .width + b .width) x t) p h) (λ c k. down c (ltb c (a .width)) refl)
+      (λ c. d c ∙ rw (moved-held b g (a .width) l c m (e c)) (held c (ltb c (a .width)) refl)) (own-order a f)
     where
       down : (c : ℕ) (x : Bool) → ltb c (a .width) ≡ x → cond x (cl (known a) c) (a .width + cl (known b) (c - a .width)) ≤ c
       down c true x = cl-down a f c
       down c false x = let k = ltb-false c (a .width) x in let y = cl-down b g (c - a .width) in omega arith
 
       held : (c : ℕ) (x : Bool) → ltb c (a .width) ≡ x
-          → bit (a .consts) c || (ltb c (a .width + b .width) && (leb (a .width) c && isC (known b) (c - a .width))) ≡ ltb c (a .width + b .width) && cond x (isC (known a) c) (isC (known b) (c - a .width))
+          → bit (a .consts) c || (ltb c (a .width + b .width) && (leb (a .width) c && isC (known b) (c - a .width))) ≡ ltb c (a .width + b .width)
+          && cond x (isC (known a) c) (isC (known b) (c - a .width))
       held c true x =
           let k = ltb-true c (a .width) x in
           rw (lt-leb (a .width) c k, lt-ltb c (a .width + b .width) (omega arith), constants a f c) (or-none (bit (a .consts) c))

@@ -283,7 +283,8 @@ pub fn sort_merge_join_facts(
     rights: &[usize],
 ) -> Facts
     requires { ⌜ Joinable t a b (now lefts) (now rights) ⌝ }
-    ensures { λ r. ⌜ Says (sem.joinFacts t (sem.smjKept t) (onOf (now (lefts .entry)) (now (rights .entry))) (known a) (known b) (cond (sem.byRight t) (b .streams) (a .streams))) r ⌝ }
+    ensures { λ r. ⌜ Says (sem.joinFacts t (sem.smjKept t) (onOf (now (lefts .entry)) (now (rights .entry))) (known a) (known b)
+        (cond (sem.byRight t) (b .streams) (a .streams))) r ⌝ }
 {
     let kept = sort_merge_kept(t);
     if by_right(t) {

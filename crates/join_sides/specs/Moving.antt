@@ -68,10 +68,13 @@ from-all off (k ∷ ks) e =
 -- ---- through a projection
 
 -- one key more at its child column
-pub moved-more : (cols : List ℕ) (ks : List Key) (out : Keys) (w n c x : ℕ) (r : Keys) → 0 < n → c ≡ getD cols (keyOf w .col) 0 → keyOf x ≡ withColumn c (keyOf w) → Longer out x r
-    → Building (map (atColumn (λ d. getD cols d 0)) ks) out (map (atColumn (λ d. getD cols d 0)) (keysIn n w)) → Building (map (atColumn (λ d. getD cols d 0)) ks) r (map (atColumn (λ d. getD cols d 0)) (keysIn (n - 1) (w / 256)))
+pub moved-more : (cols : List ℕ) (ks : List Key) (out : Keys) (w n c x : ℕ) (r : Keys) → 0 < n → c ≡ getD cols (keyOf w .col) 0
+    → keyOf x ≡ withColumn c (keyOf w) → Longer out x r
+    → Building (map (atColumn (λ d. getD cols d 0)) ks) out (map (atColumn (λ d. getD cols d 0)) (keysIn n w))
+    → Building (map (atColumn (λ d. getD cols d 0)) ks) r (map (atColumn (λ d. getD cols d 0)) (keysIn (n - 1) (w / 256)))
 moved-more cols ks out w n c x r h e y l b =
-    grown _ out x r (atColumn (λ d. getD cols d 0) (keyOf w)) (map (atColumn (λ d. getD cols d 0)) (keysIn (n - 1) (w / 256))) (rebuilt (map-next (atColumn (λ d. getD cols d 0)) n w h) b) l (y ∙ ap (λ d. withColumn d (keyOf w)) e)
+    grown _ out x r (atColumn (λ d. getD cols d 0) (keyOf w)) (map (atColumn (λ d. getD cols d 0)) (keysIn (n - 1) (w / 256)))
+    (rebuilt (map-next (atColumn (λ d. getD cols d 0)) n w h) b) l (y ∙ ap (λ d. withColumn d (keyOf w)) e)
 
 -- ---- back by an offset: signed, range shown
 
@@ -94,7 +97,9 @@ keys-below (suc n) w = let h : keyOf w .col < 32 = omega arith in all-cons h (ke
 room-each : (off : ℕ) (ks : List Key) → All (λ k. off ≤ k .col) ks → All (λ k. k .col < 32) ks → All (Movable (negℤ (pos off))) ks
 room-each off [] h g = all-nil
 room-each off (k ∷ ks) (all-cons h hs) (all-cons g gs) =
-    all-cons (subst⁻¹ InRange (less (k .col) off h) (record { low = record { le = le→leb 0 (k .col - off) (omega arith) }; high = record { lt = lt→ltb (k .col - off) 32 (omega arith) } })) (room-each off ks hs gs)
+    all-cons (subst⁻¹ InRange (less (k .col) off h)
+    (record { low = record { le = le→leb 0 (k .col - off) (omega arith) }; high = record { lt = lt→ltb (k .col - off) 32 (omega arith) } }))
+    (room-each off ks hs gs)
 
 pub back-room : (off : ℕ) (k : Keys) → All (λ k. off ≤ k .col) (keysOf k) → All (Movable (negℤ (pos off))) (keysOf k)
 back-room off k h = room-each off (keysOf k) h (keys-below (k .len) (k .word))

@@ -34,7 +34,8 @@ inside F lo n (k ∷ ks) = go (leb lo (k .col) && ltb (k .col) (lo + n)) refl (l
 
     go : (a : Bool) → leb lo (k .col) && ltb (k .col) (lo + n) ≡ a → (b : Bool) → ltb i n ≡ b → Inside lo n (onSide F lo n ks)
         → Inside lo n (cond a (andKey k (onSide F lo n ks)) (cond b (andKey (withColumn (lo + i) k) (onSide F lo n ks)) invalid))
-    go true e b d ih = inside-and lo n k (onSide F lo n ks) (leb-true lo (k .col) (and-left (leb lo (k .col)) (ltb (k .col) (lo + n)) e)) (ltb-true (k .col) (lo + n) (and-right (leb lo (k .col)) (ltb (k .col) (lo + n)) e)) ih
+    go true e b d ih = inside-and lo n k (onSide F lo n ks) (leb-true lo (k .col) (and-left (leb lo (k .col)) (ltb (k .col) (lo + n)) e))
+        (ltb-true (k .col) (lo + n) (and-right (leb lo (k .col)) (ltb (k .col) (lo + n)) e)) ih
     go false e true d ih = inside-and lo n (withColumn (lo + i) k) (onSide F lo n ks) (omega arith) (omega (arith, ltb-true i n d)) ih
     go false e false d ih = tt
 
@@ -51,7 +52,8 @@ first-room wl off wr n (valid ks) r e d f g = all-map (λ k p. omega (arith, p .
 
 module _ (F : Facts) (wl wr : ℕ) (ks : List Key) (h : All (λ k. k .col < F .width) ks) where
   either-room : F .width ≡ wl + wr → Room wl (F .width - wr) wr (eitherSide F ks wl)
-  either-room e = first-room wl (F .width - wr) wr (F .width - wl) (onSide F 0 wl ks) (onSide F wl (F .width - wl) ks) (omega arith) (omega arith) (inside F 0 wl ks) (inside F wl (F .width - wl) ks)
+  either-room e = first-room wl (F .width - wr) wr (F .width - wl) (onSide F 0 wl ks) (onSide F wl (F .width - wl) ks) (omega arith) (omega arith)
+      (inside F 0 wl ks) (inside F wl (F .width - wl) ks)
 
   right-room : F .width ≡ wr → Room wl (F .width - wr) wr (rightSide ks)
   right-room e = all-map (λ k l. (omega arith, omega arith)) h
@@ -69,7 +71,8 @@ module _ (F : Facts) (wl wr : ℕ) (ks : List Key) (h : All (λ k. k .col < F .w
   side-room RightSemi e = right-room e
   side-room RightAnti e = right-room e
 
-pub right-wide : (F : Facts) (wl wr : ℕ) (ks ls : List Key) (t : JoinType) → F .width ≡ joinWidth t wl wr → rightSide ls ≡ exprSourceSide F ks t wl → wr ≤ F .width
+pub right-wide : (F : Facts) (wl wr : ℕ) (ks ls : List Key) (t : JoinType) → F .width ≡ joinWidth t wl wr → rightSide ls ≡ exprSourceSide F ks t wl
+    → wr ≤ F .width
 right-wide F wl wr ks ls Inner e d = omega arith
 right-wide F wl wr ks ls Left e d = omega arith
 right-wide F wl wr ks ls Right e d = omega arith

@@ -73,7 +73,8 @@ step F lo n k ks = go (leb lo (k .col) && ltb (k .col) (lo + n)) (ltb i n)
     v : walk.Valid
     v = walk.onSide F lo n ks
 
-    go : (a b : Bool) → cond a (walk.andKey k v) (cond b (walk.andKey (withColumn (lo + i) k) v) walk.invalid) ≡ put (foundIf a (k .col) (foundIf b (lo + i) Nowhere)) k v
+    go : (a b : Bool) → cond a (walk.andKey k v) (cond b (walk.andKey (withColumn (lo + i) k) v) walk.invalid) ≡ put
+        (foundIf a (k .col) (foundIf b (lo + i) Nowhere)) k v
     go true b = refl
     go false true = refl
     go false false = refl
@@ -102,16 +103,19 @@ pub record Siding (F : Facts) (lo n : ℕ) (ks : List Key) (out : Keys) (w m : �
   pub is : andKeys (keysOf out) (walk.onSide F lo n (keysIn m w)) ≡ walk.onSide F lo n ks
 
 pub side-none : (F : Facts) (lo n : ℕ) (k out : Keys) → k .len ≤ 8 → Keyed [] out → Tight out → Siding F lo n (keysOf k) out (k .word) (k .len)
-side-none F lo n k out h e t = let z = no-length out e in record { few = omega arith; tight = t; is = ap (λ l. andKeys l (walk.onSide F lo n (keysOf k))) (e .is) }
+side-none F lo n k out h e t = let z = no-length out e in
+    record { few = omega arith; tight = t; is = ap (λ l. andKeys l (walk.onSide F lo n (keysOf k))) (e .is) }
 
 module _ (F : Facts) (lo n : ℕ) (ks : List Key) (out : Keys) (w m : ℕ) (b : Siding F lo n ks out w m) (h : 0 < m) where
-  place : (s : SideColumn) → s ≡ sideColumn (cl F) lo n (keyOf w .col) → andKeys (keysOf out) (put s (keyOf w) (walk.onSide F lo n (keysIn (m - 1) (w / 256)))) ≡ walk.onSide F lo n ks
+  place : (s : SideColumn) → s ≡ sideColumn (cl F) lo n (keyOf w .col)
+      → andKeys (keysOf out) (put s (keyOf w) (walk.onSide F lo n (keysIn (m - 1) (w / 256)))) ≡ walk.onSide F lo n ks
   place s e =
       ap (λ x. andKeys (keysOf out) (put x (keyOf w) (walk.onSide F lo n (keysIn (m - 1) (w / 256))))) e
       ∙ ap (andKeys (keysOf out)) (sym (ap (walk.onSide F lo n) (next m w h) ∙ step F lo n (keyOf w) (keysIn (m - 1) (w / 256))))
       ∙ b .is
 
-  pub sided : (c : ℕ) → At c ≡ sideColumn (cl F) lo n (keyOf w .col) → (x : ℕ) → keyOf x ≡ withColumn c (keyOf w) → (r : Keys) → Longer out x r → Siding F lo n ks r (w / 256) (m - 1)
+  pub sided : (c : ℕ) → At c ≡ sideColumn (cl F) lo n (keyOf w .col) → (x : ℕ) → keyOf x ≡ withColumn c (keyOf w) → (r : Keys) → Longer out x r
+      → Siding F lo n ks r (w / 256) (m - 1)
   sided c e x y r l =
       let z = b .few in let g = l .len in
       record {
@@ -124,10 +128,12 @@ module _ (F : Facts) (lo n : ℕ) (ks : List Key) (out : Keys) (w m : ℕ) (b : 
   pub unsided : Nowhere ≡ sideColumn (cl F) lo n (keyOf w .col) → Valids (walk.onSide F lo n ks) Invalid
   unsided e = subst (λ v. Valids v Invalid) (sym (keys-none (keysOf out)) ∙ place Nowhere e) tt
 
-pub all-sided : (F : Facts) (lo n : ℕ) (ks : List Key) (out : Keys) (w m : ℕ) → Siding F lo n ks out w m → m ≤ 0 → Valids (walk.onSide F lo n ks) (Valid out)
+pub all-sided : (F : Facts) (lo n : ℕ) (ks : List Key) (out : Keys) (w m : ℕ) → Siding F lo n ks out w m → m ≤ 0 → Valids (walk.onSide F lo n ks)
+    (Valid out)
 all-sided F lo n ks out w m b h =
     let z = b .few in
-    subst (λ v. Valids v (Valid out)) (sym (keys-all (keysOf out)) ∙ ap (λ l. andKeys (keysOf out) (walk.onSide F lo n l)) (sym (end m w h)) ∙ b .is) (record { is = refl; few = omega arith })
+    subst (λ v. Valids v (Valid out)) (sym (keys-all (keysOf out)) ∙ ap (λ l. andKeys (keysOf out) (walk.onSide F lo n l)) (sym (end m w h)) ∙ b .is)
+    (record { is = refl; few = omega arith })
 
 -- ---- the first side that is valid
 

@@ -58,7 +58,8 @@ module _ (n a m b : ℕ) where
   more-one h l e = rw (next n a h, next m b l, e)
 
 -- the first i keys are what is common
-pub shared : (p q : Keys) (i : ℕ) (r : Keys) → Keyed (take i (keysOf p)) r → i ≡ length (common (keysOf p) (keysOf q)) → Keyed (common (keysOf p) (keysOf q)) r
+pub shared : (p q : Keys) (i : ℕ) (r : Keys) → Keyed (take i (keysOf p)) r → i ≡ length (common (keysOf p) (keysOf q))
+    → Keyed (common (keysOf p) (keysOf q)) r
 shared p q i r k e = record { is = k .is ∙ ap (λ n. take n (keysOf p)) e ∙ take-common (keysOf p) (keysOf q); few = k .few }
 
 pub all-shared : (p q : Keys) → p .len ≤ 8 → p .len ≡ length (common (keysOf p) (keysOf q)) → Keyed (common (keysOf p) (keysOf q)) p
@@ -69,7 +70,8 @@ all-shared p q h e =
 same-length : (p q : Keys) → eqb (p .len) (q .len) ≡ eqb (length (keysOf p)) (length (keysOf q))
 same-length p q = sym (ap₂ eqb (length-keys (p .len) (p .word)) (length-keys (q .len) (q .word)))
 
-pub same-so : (p q : Keys) (b : Bool) → p .len ≡ q .len → b ≡ prefixb (keysOf p) (keysOf q) → b ≡ prefixb (keysOf p) (keysOf q) && eqb (length (keysOf p)) (length (keysOf q))
+pub same-so : (p q : Keys) (b : Bool) → p .len ≡ q .len → b ≡ prefixb (keysOf p) (keysOf q) → b ≡ prefixb (keysOf p) (keysOf q)
+    && eqb (length (keysOf p)) (length (keysOf q))
 same-so p q b e h = h ∙ go (prefixb (keysOf p) (keysOf q)) (sym (same-length p q) ∙ eq-eqb (p .len) (q .len) e)
   where
     go : (x : Bool) {y : Bool} → y ≡ true → x ≡ x && y

@@ -76,7 +76,8 @@ behind (suc m) w x h =
     let l : w < 256 * 2 ^ (8 * m) = subst (λ p. w < p) (byte-more m x) h in
     let a : (w + 256 * q) % 256 ≡ w % 256 = omega arith in
     let d : (w + 256 * q) / 256 ≡ w / 256 + q = omega arith in
-    ap (keysIn (suc (suc m))) e ∙ ap₂ (λ k r. k ∷ keysIn (suc m) r) (same-low (w + 256 * q) w a) d ∙ ap (λ r. keyOf w ∷ r) (behind m (w / 256) x (omega arith))
+    ap (keysIn (suc (suc m))) e ∙ ap₂ (λ k r. k ∷ keysIn (suc m) r) (same-low (w + 256 * q) w a) d
+    ∙ ap (λ r. keyOf w ∷ r) (behind m (w / 256) x (omega arith))
 
 -- what the code adds, and that there is room for it
 pub placed-is : (n x : ℕ) → n < 8 → bitAnd x 127 * 2 ^ (8 * n) % 2 ^ 64 ≡ (x % 128) * 2 ^ (8 * n)
@@ -96,7 +97,8 @@ fits n w x y h l e =
     let b = tighter n w x h in
     record { fits = rw e (omega arith) }
 
-pub longer : (k : Keys) (key : ℕ) (r : Keys) → Tight k → k .len < 8 → r .word ≡ k .word + (key % 128) * 2 ^ (8 * k .len) → r .len ≡ k .len + 1 → Longer k key r
+pub longer : (k : Keys) (key : ℕ) (r : Keys) → Tight k → k .len < 8 → r .word ≡ k .word + (key % 128) * 2 ^ (8 * k .len) → r .len ≡ k .len + 1
+    → Longer k key r
 longer k key r t l e d =
     let n : r .len ≡ suc (k .len) = d ∙ add-one (k .len) in
     record {
@@ -128,7 +130,8 @@ row-keys l n w h m e = ap (keysIn n) (e ∙ sum l h) ∙ word-keys n l (omega ar
   where
     sum : (l : List ℕ) → length l ≡ 8
         → ((getD l 0 0 % 128) * 1 + (getD l 1 0 % 128) * 256 + (getD l 2 0 % 128) * 65536 + (getD l 3 0 % 128) * 16777216)
-        + ((getD l 4 0 % 128) * 4294967296 + (getD l 5 0 % 128) * 1099511627776 + (getD l 6 0 % 128) * 281474976710656 + (getD l 7 0 % 128) * 72057594037927936)
+        + ((getD l 4 0 % 128) * 4294967296 + (getD l 5 0 % 128) * 1099511627776 + (getD l 6 0 % 128) * 281474976710656 + (getD l 7 0 % 128)
+        * 72057594037927936)
         ≡ wordOf l
     sum (a ∷ b ∷ c ∷ d ∷ e ∷ f ∷ g ∷ h ∷ []) p = omega arith
     sum [] p = absurd (omega arith)
@@ -156,7 +159,8 @@ no-length k h = sym (length-keys (k .len) (k .word)) ∙ ap length (h .is)
 pub rebuilt : {whole : List Key} {k : Keys} {l m : List Key} → l ≡ m → Building whole k l → Building whole k m
 rebuilt {k = k} e b = record { tight = b .tight; is = ap (λ l. keysOf k ++ l) (sym e) ∙ b .is }
 
-pub grown : (whole : List Key) (k : Keys) (key : ℕ) (r : Keys) (x : Key) (more : List Key) → Building whole k (x ∷ more) → Longer k key r → keyOf key ≡ x → Building whole r more
+pub grown : (whole : List Key) (k : Keys) (key : ℕ) (r : Keys) (x : Key) (more : List Key) → Building whole k (x ∷ more) → Longer k key r → keyOf key ≡ x
+    → Building whole r more
 grown whole k key r x more b l e =
     record {
       tight = l .tight;

@@ -31,12 +31,14 @@ swap true true c = refl
 swap true false c = refl
 swap false b c = refl
 
-pub normal-none : (cs : ℕ → Bool) (low : ℕ → ℕ) (k out : Keys) (s : ℕ) → k .len ≤ 8 → Keyed [] out → Tight out → ((c : ℕ) → bit s c ≡ cs c) → Normalising cs low (keysOf k) out s (k .word) (k .len)
+pub normal-none : (cs : ℕ → Bool) (low : ℕ → ℕ) (k out : Keys) (s : ℕ) → k .len ≤ 8 → Keyed [] out → Tight out → ((c : ℕ) → bit s c ≡ cs c)
+    → Normalising cs low (keysOf k) out s (k .word) (k .len)
 normal-none cs low k out s h e t g =
     let z = no-length out e in
     record { few = omega arith; seen = []; holds = λ c. g c ∙ none-seen (cs c); builds = begun _ out e t }
 
-module _ (cs : ℕ → Bool) (low : ℕ → ℕ) (ks : List Key) (out : Keys) (s w n : ℕ) (b : Normalising cs low ks out s w n) (h : 0 < n) (c : ℕ) (e : c ≡ low (keyOf w .col)) where
+module _ (cs : ℕ → Bool) (low : ℕ → ℕ) (ks : List Key) (out : Keys) (s w n : ℕ) (b : Normalising cs low ks out s w n) (h : 0 < n) (c : ℕ)
+    (e : c ≡ low (keyOf w .col)) where
   dropped : (x : Bool) → bit s c ≡ x → cs (low (keyOf w .col)) || member (low (keyOf w .col)) (b .seen) ≡ x
   dropped x f = sym (b .holds (low (keyOf w .col))) ∙ ap (bit s) (sym e) ∙ f
 
@@ -50,16 +52,19 @@ module _ (cs : ℕ → Bool) (low : ℕ → ℕ) (ks : List Key) (out : Keys) (s
       → Normalising cs low ks r t (w / 256) (n - 1)
   kept f t m x y r l =
       let z = b .few in let g = l .len in
-      let d : nfBy cs low (b .seen) (keysIn n w) ≡ withColumn (low (keyOf w .col)) (keyOf w) ∷ nfBy cs low (low (keyOf w .col) ∷ b .seen) (keysIn (n - 1) (w / 256)) =
+      let d : nfBy cs low (b .seen) (keysIn n w) ≡ withColumn (low (keyOf w .col)) (keyOf w) ∷ nfBy cs low (low (keyOf w .col) ∷ b .seen)
+      (keysIn (n - 1) (w / 256)) =
       rw (next n w h, dropped false f) in
       record {
         few = omega arith;
         seen = low (keyOf w .col) ∷ b .seen;
         holds = λ a. m a ∙ rw (e, b .holds a) (swap (eqb a (low (keyOf w .col))) (cs a) (member a (b .seen)));
-        builds = grown _ out x r (withColumn (low (keyOf w .col)) (keyOf w)) (nfBy cs low (low (keyOf w .col) ∷ b .seen) (keysIn (n - 1) (w / 256))) (rebuilt d (b .builds)) l (y ∙ ap (λ c. withColumn c (keyOf w)) e);
+        builds = grown _ out x r (withColumn (low (keyOf w .col)) (keyOf w)) (nfBy cs low (low (keyOf w .col) ∷ b .seen) (keysIn (n - 1) (w / 256)))
+            (rebuilt d (b .builds)) l (y ∙ ap (λ c. withColumn c (keyOf w)) e);
       }
 
-pub normalised : (cs : ℕ → Bool) (low : ℕ → ℕ) (ks : List Key) (out : Keys) (s w n : ℕ) → Normalising cs low ks out s w n → n ≤ 0 → Keyed (nfBy cs low [] ks) out
+pub normalised : (cs : ℕ → Bool) (low : ℕ → ℕ) (ks : List Key) (out : Keys) (s w n : ℕ) → Normalising cs low ks out s w n → n ≤ 0
+    → Keyed (nfBy cs low [] ks) out
 normalised cs low ks out s w n b h =
     let z = b .few in
     let d : nfBy cs low (b .seen) (keysIn n w) ≡ [] = rw (end n w h) in

@@ -69,4 +69,5 @@ same-key a b =
     let f : b % 128 ≡ b % 32 + 32 * (b / 32 % 2) + 64 * (b / 64 % 2) = omega arith in
     ap₂ eqb (and-mask a 7 ∙ e) (and-mask b 7 ∙ f)
     ∙ digits (a % 32) (a / 32 % 2) (a / 64 % 2) (b % 32) (b / 32 % 2) (b / 64 % 2) (omega arith) (omega arith) (omega arith) (omega arith)
-    ∙ ap (λ t. eqb (a % 32) (b % 32) && t) (sym (ap₂ _&&_ (same-bits (a / 32 % 2) (b / 32 % 2) (omega arith) (omega arith)) (same-bits (a / 64 % 2) (b / 64 % 2) (omega arith) (omega arith))))
+    ∙ ap (λ t. eqb (a % 32) (b % 32) && t)
+    (sym (ap₂ _&&_ (same-bits (a / 32 % 2) (b / 32 % 2) (omega arith) (omega arith)) (same-bits (a / 64 % 2) (b / 64 % 2) (omega arith) (omega arith))))

@@ -19,7 +19,8 @@ columnsFrom n w i = map (λ k. k .col) (keysIn (n - i) (w / 2 ^ (8 * i)))
 pub set-none : (n w : ℕ) → 0 ≡ columnSet (columnsFrom n w n)
 set-none n w = sym (ap (λ l. columnSet (map (λ k. k .col) l)) (end (n - n) (w / 2 ^ (8 * n)) (omega arith)))
 
-pub set-more : (n w i s c : ℕ) → 0 < i → i ≤ n → s ≡ columnSet (columnsFrom n w i) → c ≡ keyOf (w / 2 ^ (8 * (i - 1))) .col → bitOr s (2 ^ c) ≡ columnSet (columnsFrom n w (i - 1))
+pub set-more : (n w i s c : ℕ) → 0 < i → i ≤ n → s ≡ columnSet (columnsFrom n w i) → c ≡ keyOf (w / 2 ^ (8 * (i - 1))) .col → bitOr s (2 ^ c) ≡ columnSet
+    (columnsFrom n w (i - 1))
 set-more n w i s c h l e d =
     let j : ℕ = i - 1 in
     let a : (n - j) - 1 ≡ n - i = omega arith in
@@ -30,4 +31,5 @@ set-more n w i s c h l e d =
 pub set-all : (k : Keys) (s i : ℕ) → s ≡ columnSet (columnsFrom (k .len) (k .word) i) → i ≤ 0 → s ≡ columnSet (map (λ k. k .col) (keysOf k))
 set-all k s i e h =
     let z : i ≡ 0 = omega arith in
-    e ∙ ap (λ x. columnSet (columnsFrom (k .len) (k .word) x)) z ∙ ap₂ (λ m v. columnSet (map (λ k. k .col) (keysIn m v))) (let a : k .len - 0 ≡ k .len = omega arith in a) (let b : k .word / 1 ≡ k .word = omega arith in b)
+    e ∙ ap (λ x. columnSet (columnsFrom (k .len) (k .word) x)) z ∙ ap₂ (λ m v. columnSet (map (λ k. k .col) (keysIn m v)))
+    (let a : k .len - 0 ≡ k .len = omega arith in a) (let b : k .word / 1 ≡ k .word = omega arith in b)

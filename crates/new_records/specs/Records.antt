@@ -92,7 +92,8 @@ row-none k = record { done = []; whole = refl; place = refl; is = refl }
 pub row-room : (ks : List Key) (row : List ℕ) (at w n : ℕ) → Row ks row at w n → at + 2 * n ≡ 2 * length ks
 row-room ks row at w n p = let a = p .place in let b = ap length (p .whole) in omega (arith, length-append (p .done) (keysIn n w), length-keys n w)
 
-pub row-more : (ks : List Key) (row : List ℕ) (at w n : ℕ) → length ks ≤ 8 → 0 < n → Row ks row at w n → Row ks (set (set row at (w % 32)) (at + 1) (w / 32 % 4)) (at + 2) (w / 256) (n - 1)
+pub row-more : (ks : List Key) (row : List ℕ) (at w n : ℕ) → length ks ≤ 8 → 0 < n → Row ks row at w n
+    → Row ks (set (set row at (w % 32)) (at + 1) (w / 32 % 4)) (at + 2) (w / 256) (n - 1)
 row-more ks row at w n h l p =
     let B : List ℕ = keyBytes (p .done) in
     let r = row-room ks row at w n p in
@@ -103,9 +104,11 @@ row-more ks row at w n h l p =
       whole = append-assoc (p .done) (keyOf w ∷ []) (keysIn (n - 1) (w / 256)) ∙ ap (λ x. p .done ++ x) (sym (next n w l)) ∙ p .whole;
       place = (let d = p .place in omega (arith, length-append (p .done) (keyOf w ∷ [])));
       is = ap (λ x. set (set x at (w % 32)) (at + 1) (w / 32 % 4)) (p .is)
-          ∙ ap (λ i. set (set (fill 16 B) i (w % 32)) (at + 1) (w / 32 % 4)) (sym a) ∙ ap (λ x. set x (at + 1) (w / 32 % 4)) (fill-set 16 B (w % 32) (omega arith))
+          ∙ ap (λ i. set (set (fill 16 B) i (w % 32)) (at + 1) (w / 32 % 4)) (sym a) ∙ ap (λ x. set x (at + 1) (w / 32 % 4))
+          (fill-set 16 B (w % 32) (omega arith))
           ∙ ap (λ i. set (fill 16 (B ++ (w % 32 ∷ []))) i (w / 32 % 4)) (sym m) ∙ fill-set 16 (B ++ (w % 32 ∷ [])) (w / 32 % 4) (omega arith)
-          ∙ ap (fill 16) (append-assoc B (w % 32 ∷ []) (w / 32 % 4 ∷ []) ∙ ap (λ o. B ++ (w % 32 ∷ o ∷ [])) (sym (options w)) ∙ sym (bytes-more (p .done) (keyOf w)));
+          ∙ ap (fill 16) (append-assoc B (w % 32 ∷ []) (w / 32 % 4 ∷ []) ∙ ap (λ o. B ++ (w % 32 ∷ o ∷ [])) (sym (options w))
+          ∙ sym (bytes-more (p .done) (keyOf w)));
     }
 
 pub row-all : (ks : List Key) (row : List ℕ) (at w n : ℕ) → Row ks row at w n → n ≤ 0 → row ≡ fill 16 (keyBytes ks)
@@ -120,7 +123,8 @@ row-all ks row at w n p h = p .is ∙ ap (λ l. fill 16 (keyBytes l)) (sym (appe
 two-parts : (H R : List ℕ) → length H ≡ 16 → length R ≡ 16 → splice (splice (replicate 64 0) 0 16 H) 16 16 R ≡ H ++ (R ++ fill 32 [])
 two-parts H R h r = ap₂ (λ x y. x ++ (R ++ drop 16 y)) (take-at H (replicate 48 0) 16 h) (drop-at H (replicate 48 0) 16 h)
 
-pub new-is : (k m n s b c : ℕ) (f : Fetch) (keys : Keys) (H R : List ℕ) → keys .len ≤ 8 → n ≡ fetchNumber f → c ≡ keys .len → H ≡ headOf k m n s c b → R ≡ fill 16 (keyBytes (keysOf keys))
+pub new-is : (k m n s b c : ℕ) (f : Fetch) (keys : Keys) (H R : List ℕ) → keys .len ≤ 8 → n ≡ fetchNumber f → c ≡ keys .len → H ≡ headOf k m n s c b
+    → R ≡ fill 16 (keyBytes (keysOf keys))
     → splice (splice (replicate 64 0) 0 16 H) 16 16 R ≡ newBytes k m f s (keysOf keys) b
 new-is k m n s b c f keys H R l e d h r =
     two-parts H R (ap length h) (ap length r ∙ length-fill 16 (keyBytes (keysOf keys)))

@@ -30,8 +30,10 @@ ghost use Rattle.node_facts.specs.Ready.{count, lentKeys, lentColumns, t
 
 // A source: width, streams, constants and keys of its record.
 pub fn source_of(r: &[u8]) -> Facts
-    requires { ⌜ (length (now r) ≡ 64) × (count (now r) ≤ 8) × (getD (now r) 13 0 ≤ 32) × (setFits (getD (now r) 13 0) (le32 (tailColumns (now r)) 0) ≡ true) ⌝ }
-    ensures { λ f. ⌜ Says (sem.reorder (sem.sourceFacts (getD (now (r .entry)) 13 0) (getD (now (r .entry)) 2 0) (le32 (tailColumns (now (r .entry))) 0)) (map keyOf (lentKeys (now (r .entry)) (count (now (r .entry)))))) f ⌝ }
+    requires { ⌜ (length (now r) ≡ 64) × (count (now r) ≤ 8) × (getD (now r) 13 0 ≤ 32)
+        × (setFits (getD (now r) 13 0) (le32 (tailColumns (now r)) 0) ≡ true) ⌝ }
+    ensures { λ f. ⌜ Says (sem.reorder (sem.sourceFacts (getD (now (r .entry)) 13 0) (getD (now (r .entry)) 2 0) (le32 (tailColumns (now (r .entry))) 0))
+        (map keyOf (lentKeys (now (r .entry)) (count (now (r .entry)))))) f ⌝ }
 {
     source_facts(
         wide(r[WIDTH]),
@@ -53,8 +55,10 @@ pub fn projected(r: &[u8], f: Facts) -> Facts
 
 // A sort-merge join by the type and the key pairs of the record.
 pub fn sort_merge_joined(r: &[u8], a: Facts, b: Facts) -> Facts
-    requires { ⌜ (length (now r) ≡ 64) × (count (now r) ≤ 8) × Joinable (typeIn (now r)) a b (lentKeys (now r) (count (now r))) (lentColumns (now r) (count (now r))) ⌝ }
-    ensures { λ f. ⌜ Says (sem.joinFacts (typeIn (now (r .entry))) (sem.smjKept (typeIn (now (r .entry)))) (onIn (now (r .entry))) (known a) (known b) (cond (sem.byRight (typeIn (now (r .entry)))) (b .streams) (a .streams))) f ⌝ }
+    requires { ⌜ (length (now r) ≡ 64) × (count (now r) ≤ 8) × Joinable (typeIn (now r)) a b (lentKeys (now r) (count (now r)))
+        (lentColumns (now r) (count (now r))) ⌝ }
+    ensures { λ f. ⌜ Says (sem.joinFacts (typeIn (now (r .entry))) (sem.smjKept (typeIn (now (r .entry)))) (onIn (now (r .entry))) (known a) (known b)
+        (cond (sem.byRight (typeIn (now (r .entry)))) (b .streams) (a .streams))) f ⌝ }
 {
     let keys = packed_keys(r);
     let cols = tail_columns(r);
@@ -65,8 +69,10 @@ pub fn sort_merge_joined(r: &[u8], a: Facts, b: Facts) -> Facts
 
 // A hash join by the type and the key pairs of the record.
 pub fn hash_joined(r: &[u8], a: Facts, b: Facts) -> Facts
-    requires { ⌜ (length (now r) ≡ 64) × (count (now r) ≤ 8) × Joinable (typeIn (now r)) a b (lentKeys (now r) (count (now r))) (lentColumns (now r) (count (now r))) ⌝ }
-    ensures { λ f. ⌜ Says (sem.joinFacts (typeIn (now (r .entry))) (sem.hashKept (typeIn (now (r .entry)))) (onIn (now (r .entry))) (known a) (known b) (b .streams)) f ⌝ }
+    requires { ⌜ (length (now r) ≡ 64) × (count (now r) ≤ 8) × Joinable (typeIn (now r)) a b (lentKeys (now r) (count (now r)))
+        (lentColumns (now r) (count (now r))) ⌝ }
+    ensures { λ f. ⌜ Says (sem.joinFacts (typeIn (now (r .entry))) (sem.hashKept (typeIn (now (r .entry)))) (onIn (now (r .entry))) (known a) (known b)
+        (b .streams)) f ⌝ }
 {
     let keys = packed_keys(r);
     let cols = tail_columns(r);

@@ -65,7 +65,8 @@ module _ (r : List ℕ) (p : Proper r) (e : kindOf (getD r 0 0) ≡ Projection) 
 
   pub column-past : (c : ℕ) → getD r 13 0 ≤ c → ((cols : List ℕ) → decode r ≡ projection cols → 0 ≡ getD cols c 0) × (0 < 32)
   column-past c h = (
-    λ cols d. sym (ap (λ l. getD l c 0) (sym (columns-are cols d)) ∙ List·getD-eq-default (take (getD r 13 0) (drop 32 r)) 0 (omega (arith, length-take (getD r 13 0) (drop 32 r)))),
+    λ cols d. sym (ap (λ l. getD l c 0) (sym (columns-are cols d)) ∙ List·getD-eq-default (take (getD r 13 0) (drop 32 r)) 0
+        (omega (arith, length-take (getD r 13 0) (drop 32 r)))),
     omega arith,
   )
 
@@ -87,10 +88,12 @@ module _ (r : List ℕ) (p : Proper r) (e : kindOf (getD r 0 0) ≡ SortMergeJoi
   columns-right [] = refl
   columns-right (k ∷ on) = ap (λ (l : List ℕ). k .other ∷ l) (columns-right on)
 
-  pub left-set : (ks : List Key) (s : ℕ) → ks ≡ map keyOf (take (getD r 12 0) (packedKeys r)) → s ≡ columnSet (map (λ k. k .col) ks) → s ≡ columnSet (map (λ k. k .key .col) (pairsOf r))
+  pub left-set : (ks : List Key) (s : ℕ) → ks ≡ map keyOf (take (getD r 12 0) (packedKeys r)) → s ≡ columnSet (map (λ k. k .col) ks)
+      → s ≡ columnSet (map (λ k. k .key .col) (pairsOf r))
   left-set ks s d x = x ∙ ap columnSet (ap (map (λ k. k .col)) (d ∙ left-keys) ∙ on-columns (pairsOf r))
 
-  pub right-set : (ks : List Key) (s : ℕ) → ks ≡ map keyOf (take (getD r 12 0) (packedRightKeys r)) → s ≡ columnSet (map (λ k. k .col) ks) → s ≡ columnSet (map (λ k. k .other) (pairsOf r))
+  pub right-set : (ks : List Key) (s : ℕ) → ks ≡ map keyOf (take (getD r 12 0) (packedRightKeys r)) → s ≡ columnSet (map (λ k. k .col) ks)
+      → s ≡ columnSet (map (λ k. k .other) (pairsOf r))
   right-set ks s d x = x ∙ ap columnSet (ap (map (λ k. k .col)) (d ∙ right-keys) ∙ columns-right (pairsOf r))
 
 pub side-left : (on : List On) (j s : ℕ) → j ≡ 0 → s ≡ columnSet (map (λ k. k .key .col) on) → Keyed s ≡ bySide on j
@@ -105,7 +108,8 @@ side-right on (suc j) s e h = ap Keyed h
 pub keys-count : (r : List ℕ) → Proper r → (k : Keys) → held.Keyed (map keyOf (take (getD r 12 0) (packedKeys r))) k → k .len ≡ getD r 12 0
 keys-count r p k h =
     let l = length-packed r (p .long) in let f = p .few in
-    sym (length-keys (k .len) (k .word)) ∙ ap length (h .is) ∙ length-map (take (getD r 12 0) (packedKeys r)) keyOf ∙ length-take-le (getD r 12 0) (packedKeys r) (omega arith)
+    sym (length-keys (k .len) (k .word)) ∙ ap length (h .is) ∙ length-map (take (getD r 12 0) (packedKeys r)) keyOf ∙ length-take-le (getD r 12 0)
+    (packedKeys r) (omega arith)
 
 -- a partial sort's prefix is among its keys
 pub prefix-inside : (r : List ℕ) → Proper r → kindOf (getD r 0 0) ≡ PartialSort → getD r 14 0 ≤ getD r 12 0
@@ -121,11 +125,13 @@ pub no-first : (ks : List Key) (j : ℕ) → (j ≡ 0 → ⊥) → held.Ordered 
 no-first ks zero e = absurd (e refl)
 no-first ks (suc j) e = record { is = refl; real = tt }
 
-pub left-order : (on : List On) (ks : List Key) (j : ℕ) (o : Order) → j ≡ 0 → ks ≡ map (λ k. k .key) on → held.Ordered ks o → held.Ordered (getD (joinKeys on) j []) o
+pub left-order : (on : List On) (ks : List Key) (j : ℕ) (o : Order) → j ≡ 0 → ks ≡ map (λ k. k .key) on → held.Ordered ks o
+    → held.Ordered (getD (joinKeys on) j []) o
 left-order on ks zero o e d h = subst (λ l. held.Ordered l o) d h
 left-order on ks (suc j) o e d h = absurd (omega arith)
 
-pub right-order : (on : List On) (ks : List Key) (j : ℕ) (o : Order) → j ≡ 1 → ks ≡ map rightKey on → held.Ordered ks o → held.Ordered (getD (joinKeys on) j []) o
+pub right-order : (on : List On) (ks : List Key) (j : ℕ) (o : Order) → j ≡ 1 → ks ≡ map rightKey on → held.Ordered ks o
+    → held.Ordered (getD (joinKeys on) j []) o
 right-order on ks zero o e d h = absurd (omega arith)
 right-order on ks (suc zero) o e d h = subst (λ l. held.Ordered l o) d h
 right-order on ks (suc (suc j)) o e d h = absurd (omega arith)
@@ -145,5 +151,6 @@ module _ (r : List ℕ) (k : Kind) (e : kindOf (getD r 0 0) ≡ k) (j : ℕ) whe
   wants-none d = wants-this Unordered (record { is = d; real = tt })
 
   -- the keys ks, of the first child
-  pub wants-first : (ks ls : List Key) (o : Order) → ks ≡ ls → getD (ls ∷ []) j [] ≡ wanted (operatorOf k (fromBytes r)) j → held.Ordered (getD (ks ∷ []) j []) o → held.Ordered (wanted (decode r) j) o
+  pub wants-first : (ks ls : List Key) (o : Order) → ks ≡ ls → getD (ls ∷ []) j [] ≡ wanted (operatorOf k (fromBytes r)) j
+      → held.Ordered (getD (ks ∷ []) j []) o → held.Ordered (wanted (decode r) j) o
   wants-first ks ls o d x h = wants-this o (subst (λ l. held.Ordered l o) (ap (λ l. getD (l ∷ []) j []) d ∙ x) h)

@@ -29,13 +29,15 @@ others-free zero e = absurd (e refl)
 others-free (suc j) e = refl
 
 module _ (r : List ℕ) (fs : List Facts) (j : ℕ) (F G : Facts) (a : Among (decode r) fs j F G) where
-  pub union-maintains : kindOf (getD r 0 0) ≡ Union → (x y : Bool) → x ≡ not (isNil (knownOrder F)) → y ≡ eqb (length (knownOrder G)) (length (knownOrder F)) → x && y ≡ maintains (decode r) fs j
+  pub union-maintains : kindOf (getD r 0 0) ≡ Union → (x y : Bool) → x ≡ not (isNil (knownOrder F)) → y ≡ eqb (length (knownOrder G))
+      (length (knownOrder F)) → x && y ≡ maintains (decode r) fs j
   union-maintains e x y p q =
       let f : F ≡ factsOp (operatorOf Union (fromBytes r)) fs = a .own ∙ ap (λ o. factsOp o fs) (op-of r Union e) in
       asked-of (λ o. maintains o fs j) r Union e (x && y)
       (ap₂ _&&_ (p ∙ ap (λ H. not (isNil (knownOrder H))) f) (q ∙ ap₂ (λ H K. eqb (length (knownOrder H)) (length (knownOrder K))) (a .child) f))
 
-  pub repartition-maintains : kindOf (getD r 0 0) ≡ Repartition → (x q : Bool) → q ≡ fromBytes r .preserve → x ≡ keepsOrder q G → x ≡ maintains (decode r) fs j
+  pub repartition-maintains : kindOf (getD r 0 0) ≡ Repartition → (x q : Bool) → q ≡ fromBytes r .preserve → x ≡ keepsOrder q G
+      → x ≡ maintains (decode r) fs j
   repartition-maintains e x q d h =
       let n : length fs ≡ 1 = eqb-true (length fs) 1 (sym (ap (λ o. childrenOk o (length fs)) (op-of r Repartition e)) ∙ a .count) in
       let l = a .low in
@@ -66,7 +68,8 @@ not-parted OutputRequirement x e = refl
 not-parted PartialSort x e = refl
 
 unparted : (r : List ℕ) → eqb (code (decode r)) 5 ≡ false → partitioning (shape (decode r)) ≡ unequal
-unparted r e = ap (λ o. partitioning (shape o)) (op-of r (kindOf (getD r 0 0)) refl) ∙ not-parted (kindOf (getD r 0 0)) (fromBytes r) (ap (λ k. eqb (kindNumber k) 5) (kind-is r) ∙ e)
+unparted r e = ap (λ o. partitioning (shape o)) (op-of r (kindOf (getD r 0 0)) refl) ∙ not-parted (kindOf (getD r 0 0)) (fromBytes r)
+    (ap (λ k. eqb (kindNumber k) 5) (kind-is r) ∙ e)
 
 never-equal : (p : Partitioning) → eqPartitioning p unequal ≡ false
 never-equal unequal = refl
@@ -80,12 +83,17 @@ module _ (r s : List ℕ) where
   second-unequal e = sym (ap (eqPartitioning (partitioning (shape (decode r)))) (unparted s e) ∙ never-equal (partitioning (shape (decode r))))
 
   module _ (a : eqb (code (decode r)) 5 ≡ true) (b : eqb (code (decode s)) 5 ≡ true) where
-    both-parted : samePartitioning (decode r) (decode s) ≡ eqb (fromBytes r .streams) (fromBytes s .streams) && (Bool·beq (fromBytes r .hash) (fromBytes s .hash) && eqKeys (fromBytes r .keys) (fromBytes s .keys))
+    both-parted : samePartitioning (decode r) (decode s) ≡ eqb (fromBytes r .streams) (fromBytes s .streams)
+        && (Bool·beq (fromBytes r .hash) (fromBytes s .hash) && eqKeys (fromBytes r .keys) (fromBytes s .keys))
     both-parted = ap₂ samePartitioning (op-of r Repartition (code-kind r Repartition a)) (op-of s Repartition (code-kind s Repartition b))
 
     pub streams-differ : (fromBytes r .streams ≡ fromBytes s .streams → ⊥) → false ≡ samePartitioning (decode r) (decode s)
-    streams-differ n = sym (both-parted ∙ ap (λ x. x && (Bool·beq (fromBytes r .hash) (fromBytes s .hash) && eqKeys (fromBytes r .keys) (fromBytes s .keys))) (ne-eqb _ _ n))
+    streams-differ n = sym (both-parted
+        ∙ ap (λ x. x && (Bool·beq (fromBytes r .hash) (fromBytes s .hash) && eqKeys (fromBytes r .keys) (fromBytes s .keys))) (ne-eqb _ _ n))
 
-    pub streams-equal : fromBytes r .streams ≡ fromBytes s .streams → (x y : Bool) → x ≡ Bool·beq (fromBytes r .hash) (fromBytes s .hash) → y ≡ eqKeys (fromBytes r .keys) (fromBytes s .keys)
+    pub streams-equal : fromBytes r .streams ≡ fromBytes s .streams → (x y : Bool) → x ≡ Bool·beq (fromBytes r .hash) (fromBytes s .hash)
+        → y ≡ eqKeys (fromBytes r .keys) (fromBytes s .keys)
         → x && y ≡ samePartitioning (decode r) (decode s)
-    streams-equal e x y p q = ap₂ _&&_ p q ∙ sym (both-parted ∙ ap (λ z. z && (Bool·beq (fromBytes r .hash) (fromBytes s .hash) && eqKeys (fromBytes r .keys) (fromBytes s .keys))) (eq-eqb _ _ e))
+    streams-equal e x y p q = ap₂ _&&_ p q
+        ∙ sym (both-parted ∙ ap (λ z. z && (Bool·beq (fromBytes r .hash) (fromBytes s .hash) && eqKeys (fromBytes r .keys) (fromBytes s .keys)))
+        (eq-eqb _ _ e))

@@ -140,7 +140,8 @@ pub fn streams_field(r: &[u8]) -> usize
 // A join's type.
 pub fn join_type(r: &[u8]) -> JoinType
     requires { ⌜ Proper (now r) ⌝ }
-    ensures merged { λ t. ⌜ (kindOf (getD (now (r .entry)) 0 0) ≡ kinds.SortMergeJoin → decode (now (r .entry)) ≡ sortMergeJoin t (pairsOf (now (r .entry)))) ⌝ }
+    ensures merged { λ t. ⌜ (kindOf (getD (now (r .entry)) 0 0) ≡ kinds.SortMergeJoin → decode (now (r .entry)) ≡ sortMergeJoin t
+        (pairsOf (now (r .entry)))) ⌝ }
     ensures hashed { λ t. ⌜ (kindOf (getD (now (r .entry)) 0 0) ≡ kinds.HashJoin → decode (now (r .entry)) ≡ hashJoin t (pairsOf (now (r .entry)))) ⌝ }
 {
     join_type_of(r[ROLE])
@@ -334,7 +335,8 @@ pub fn hash_keeps(t: JoinType, j: usize) -> bool
 // Whether the node maintains the order of child j: own and child are the rows of the node and of that child.
 pub fn maintains(r: &[u8], own: &[u8], child: &[u8], j: usize) -> bool
     requires { ⌜ Proper (now r) × FactRow (now own) × FactRow (now child) ⌝ }
-    ensures { λ b. ⌜ ((fs : List sem.Facts) → Among (decode (now (r .entry))) fs j (told (now (own .entry))) (told (now (child .entry))) → b ≡ node.maintains (decode (now (r .entry))) fs j) ⌝ }
+    ensures { λ b. ⌜ ((fs : List sem.Facts) → Among (decode (now (r .entry))) fs j (told (now (own .entry))) (told (now (child .entry)))
+        → b ≡ node.maintains (decode (now (r .entry))) fs j) ⌝ }
 {
     let kind = kind_of(r[KIND]);
     match kind {

@@ -56,7 +56,8 @@ pub record Rebuilds (m : List ℕ) (u : ℕ) (r : List ℕ) (h : ℕ) : Type 0 w
 
 -- ---- a sort above changes no width and adds one node
 
-above-by : (P : Tree → Type 0) (ks : List Key) (f : Fetch) (t : Tree) → P t → ((p : Bool) (k : Key) (l : List Key) → P (over (sortOp p (k ∷ l) f) false t)) → P (addSortAboveWithCheck ks f t)
+above-by : (P : Tree → Type 0) (ks : List Key) (f : Fetch) (t : Tree) → P t → ((p : Bool) (k : Key) (l : List Key) → P (over (sortOp p (k ∷ l) f) false t))
+    → P (addSortAboveWithCheck ks f t)
 above-by P ks f t a b = go (met (fact t) ks)
   where
     sorted : (p : Bool) (l : List Key) → P (cover (newSort p l f) t)
@@ -100,7 +101,8 @@ module _ (m : List ℕ) (u : ℕ) (r : List ℕ) (h : ℕ) (p : Rebuilds m u r h
     without-self-width = ap (λ F. F .width) (kept .base ∙ ease-blank o (fact T ∷ []) (pass-ease o pass))
 
     -- what is left below it
-    module _ (m₁ : List ℕ) (lm : length m₁ ≡ length m) (a : At) (g : Grown m u m₁ a (withoutSelf (over (decode r) false (treeOf m h))) (u + sizeT (treeOf m h))) where
+    module _ (m₁ : List ℕ) (lm : length m₁ ≡ length m) (a : At)
+        (g : Grown m u m₁ a (withoutSelf (over (decode r) false (treeOf m h))) (u + sizeT (treeOf m h))) where
       left-under : Under m₁ (a .used) (a .root) 1
       left-under =
           let x = g .room in let y = p .room in let z = p .small in let s = ap sizeT (g .tree) in let f = without-self-size o false T in let n = p .few in
@@ -120,18 +122,23 @@ module _ (m : List ℕ) (u : ℕ) (r : List ℕ) (h : ℕ) (p : Rebuilds m u r h
             (left-under, record { short = k .0 .short; inside = subst (λ w. All (λ x. x .col < w) ks) (sym left-width) (k .0 .inside); fetch = k .1 })
 
         -- the merge over that
-        module _ (m₂ : List ℕ) (ln : length m₂ ≡ length m₁) (z : At) (k : Grown m₁ (a .used) m₂ z (addSortAboveWithCheck (keysOf (s .keys)) (s .fetch) (treeOf m₁ (a .root))) (a .used + 1))
+        module _ (m₂ : List ℕ) (ln : length m₂ ≡ length m₁) (z : At)
+            (k : Grown m₁ (a .used) m₂ z (addSortAboveWithCheck (keysOf (s .keys)) (s .fetch) (treeOf m₁ (a .root))) (a .used + 1))
             (x : List ℕ) (e : x ≡ encode 1 (mergeOp (keysOf (s .keys)) (s .fetch))) where
           merge-under : Under m₂ (z .used) (z .root) 1
           merge-under =
-              let y = k .room in let q = g .room in let v = p .room in let w = p .small in let i = ap sizeT (k .tree) in let j = above-size ks (s .fetch) (treeOf m₁ (a .root)) in let l = ap sizeT (g .tree) in let f = without-self-size o false T in let n = p .few in
+              let y = k .room in let q = g .room in let v = p .room in let w = p .small in let i = ap sizeT (k .tree) in
+              let j = above-size ks (s .fetch) (treeOf m₁ (a .root)) in let l = ap sizeT (g .tree) in let f = without-self-size o false T in
+              let n = p .few in
               record { arena = k .arena; here = k .here; room = omega arith; small = omega arith; few = omega arith }
 
           merge-ok : nodeOk (mergeOp (keysOf (s .keys)) (s .fetch)) (fact (treeOf m₂ (z .root)) .width ∷ []) ≡ true
-          merge-ok = ap (λ w. nodeOk (mergeOp ks (s .fetch)) (w ∷ [])) (ap (λ t. fact t .width) (k .tree) ∙ above-width ks (s .fetch) (treeOf m₁ (a .root)) ∙ left-width) ∙ c .merge
+          merge-ok = ap (λ w. nodeOk (mergeOp ks (s .fetch)) (w ∷ [])) (ap (λ t. fact t .width) (k .tree) ∙ above-width ks (s .fetch) (treeOf m₁ (a .root))
+              ∙ left-width) ∙ c .merge
 
           pub merge-puts : Puts m₂ (z .used) x (z .root ∷ [])
-          merge-puts = cover-puts m₂ (z .used) (z .root) merge-under (mergeOp ks (s .fetch)) merge-ok x e (ok-of m₂ (z .used) (z .root) (k .arena) (k .here))
+          merge-puts = cover-puts m₂ (z .used) (z .root) merge-under (mergeOp ks (s .fetch)) merge-ok x e
+              (ok-of m₂ (z .used) (z .root) (k .arena) (k .here))
 
           pub merge-grown : (m₃ : List ℕ) (b : At) → Grown m₂ (z .used) m₃ b (node (decode x) false (forest m₂ (z .root ∷ []))) (z .used + 1)
               → Grown m u m₃ b (parallelBy (shape (decode r)) (over (decode r) false (treeOf m h))) (u + sizeT (treeOf m h) + 2)
@@ -140,13 +147,15 @@ module _ (m : List ℕ) (u : ℕ) (r : List ℕ) (h : ℕ) (p : Rebuilds m u r h
               subst (λ t. Grown m u m₃ b t (u + sizeT (treeOf m h) + 2))
               (ap (over (mergeOp ks (s .fetch)) false) (k .tree ∙ ap (addSortAboveWithCheck ks (s .fetch)) (g .tree)) ∙ sym (c .is false))
               (grown-then m u m₁ a L (u + sizeT T) m₃ b (over (mergeOp ks (s .fetch)) false (treeOf m₂ (z .root))) (z .used + 1) (u + sizeT T + 2) g
-              (grown-then m₁ (a .used) m₂ z (addSortAboveWithCheck ks (s .fetch) (treeOf m₁ (a .root))) (a .used + 1) m₃ b (over (mergeOp ks (s .fetch)) false (treeOf m₂ (z .root))) (z .used + 1) (z .used + 1) k
+              (grown-then m₁ (a .used) m₂ z (addSortAboveWithCheck ks (s .fetch) (treeOf m₁ (a .root))) (a .used + 1) m₃ b
+              (over (mergeOp ks (s .fetch)) false (treeOf m₂ (z .root))) (z .used + 1) (z .used + 1) k
               (cover-grown m₂ (z .used) (z .root) merge-under (mergeOp ks (s .fetch)) merge-ok x e m₃ b (z .used + 1) v) (omega arith)) (omega arith))
 
       -- the coalesce over it
       module _ (c : Coalesced (decode r) (treeOf m h)) (f : Fetch) (hf : f ≡ cuts (decode r) .fetch) (x : List ℕ) (e : x ≡ encode 1 (coalesce f)) where
         again-ok : nodeOk (coalesce f) (fact (treeOf m₁ (a .root)) .width ∷ []) ≡ true
-        again-ok = coalesce-ok f (fact (treeOf m₁ (a .root)) .width ∷ []) (ap fetchOk hf ∙ node-fetch o (fact T .width ∷ []) (p .ok .0)) (refl, narrowT (treeOf m₁ (a .root)) (ok-of m₁ (a .used) (a .root) (g .arena) (g .here)))
+        again-ok = coalesce-ok f (fact (treeOf m₁ (a .root)) .width ∷ []) (ap fetchOk hf ∙ node-fetch o (fact T .width ∷ []) (p .ok .0))
+            (refl, narrowT (treeOf m₁ (a .root)) (ok-of m₁ (a .used) (a .root) (g .arena) (g .here)))
 
         pub again-puts : Puts m₁ (a .used) x (a .root ∷ [])
         again-puts = cover-puts m₁ (a .used) (a .root) left-under (coalesce f) again-ok x e (ok-of m₁ (a .used) (a .root) (g .arena) (g .here))
@@ -160,7 +169,8 @@ module _ (m : List ℕ) (u : ℕ) (r : List ℕ) (h : ℕ) (p : Rebuilds m u r h
             (cover-grown m₁ (a .used) (a .root) left-under (coalesce f) again-ok x e m₂ b (a .used + 1) v) (omega arith))
 
   -- the sort or merge that it is
-  pub is-cascaded : (s : SortExprs) → Exprs (shape (decode r)) s → cascades (decode r) (fact (treeOf m h)) ≡ true → Cascaded (decode r) s (fact (treeOf m h) .width) (treeOf m h)
+  pub is-cascaded : (s : SortExprs) → Exprs (shape (decode r)) s → cascades (decode r) (fact (treeOf m h)) ≡ true
+      → Cascaded (decode r) s (fact (treeOf m h) .width) (treeOf m h)
   is-cascaded s x c = cascaded o s (fact T .width) T x (p .ok .0) c
 
 -- ---- the step
@@ -185,15 +195,20 @@ module _ (m : List ℕ) (u : ℕ) (r ks : List ℕ) (i : ℕ) (p : Opened m u r 
   pub step-proper : Proper r
   step-proper = record-proper r (length ks) c (p .canon) (p .ok)
 
-  module _ (b : Bool) (hb : b ≡ updateCoalesceCtxChildren (decode r) (forest m ks)) (m' : List ℕ) (a : At) (g : Grown m u m' a (node (decode r) b (forest m ks)) (u + 1)) where
-    stay-grown : node (decode r) (updateCoalesceCtxChildren (decode r) (forest m ks)) (forest m ks) ≡ parallelizeSorts (node (decode r) false (forest m ks)) → Grown m u m' a (parallelizeSorts (node (decode r) false (forest m ks))) (u + stepRoom (suc (size (forest m ks))))
-    stay-grown e = grown-more m u m' a (parallelizeSorts (node (decode r) false c)) (u + 1) top (omega arith) (subst (λ t. Grown m u m' a t (u + 1)) (ap (λ x. node (decode r) x c) hb ∙ e) g)
+  module _ (b : Bool) (hb : b ≡ updateCoalesceCtxChildren (decode r) (forest m ks)) (m' : List ℕ) (a : At)
+      (g : Grown m u m' a (node (decode r) b (forest m ks)) (u + 1)) where
+    stay-grown : node (decode r) (updateCoalesceCtxChildren (decode r) (forest m ks)) (forest m ks) ≡ parallelizeSorts (node (decode r) false (forest m ks))
+        → Grown m u m' a (parallelizeSorts (node (decode r) false (forest m ks))) (u + stepRoom (suc (size (forest m ks))))
+    stay-grown e = grown-more m u m' a (parallelizeSorts (node (decode r) false c)) (u + 1) top (omega arith)
+        (subst (λ t. Grown m u m' a t (u + 1)) (ap (λ x. node (decode r) x c) hb ∙ e) g)
 
-    pub unconnected : headMark (forest m ks) ≡ false → Grown m u m' a (parallelizeSorts (node (decode r) false (forest m ks))) (u + stepRoom (suc (size (forest m ks))))
+    pub unconnected : headMark (forest m ks) ≡ false → Grown m u m' a (parallelizeSorts (node (decode r) false (forest m ks)))
+        (u + stepRoom (suc (size (forest m ks))))
     unconnected e = stay-grown (sym (ap (λ x. cond x (parallelBy (shape (decode r)) (node (decode r) y c)) (node (decode r) y c)) e))
 
   module _ (e : headMark (forest m ks) ≡ true) (h : ℕ) (q : h ≡ getD ks 0 0) where
-    connected : parallelBy (shape (decode r)) (node (decode r) (updateCoalesceCtxChildren (decode r) (forest m ks)) (forest m ks)) ≡ parallelizeSorts (node (decode r) false (forest m ks))
+    connected : parallelBy (shape (decode r)) (node (decode r) (updateCoalesceCtxChildren (decode r) (forest m ks)) (forest m ks)) ≡ parallelizeSorts
+        (node (decode r) false (forest m ks))
     connected = sym (ap (λ x. cond x (parallelBy (shape (decode r)) (node (decode r) y c)) (node (decode r) y c)) e)
 
     first-low : h < 2 * u
@@ -203,7 +218,8 @@ module _ (m : List ℕ) (u : ℕ) (r ks : List ℕ) (i : ℕ) (p : Opened m u r 
     first-here = here m u h (p .arena) first-low
 
     single : passing (decode r) ≡ true → length ks ≡ 1
-    single x = subst (λ z. FitsA z (length ks)) (pass-one (decode r) x) (children-fit (decode r) (length ks) (rule m r ks (opened-over m u r ks i p) .count))
+    single x = subst (λ z. FitsA z (length ks)) (pass-one (decode r) x)
+        (children-fit (decode r) (length ks) (rule m r ks (opened-over m u r ks i p) .count))
 
     alone : passing (decode r) ≡ true → forest m ks ≡ plant (treeOf m h) none
     alone x = only m ks (single x) ∙ ap (λ k. plant (treeOf m k) none) (sym q)
@@ -222,13 +238,17 @@ module _ (m : List ℕ) (u : ℕ) (r ks : List ℕ) (i : ℕ) (p : Opened m u r 
         }
 
     -- rebuilt over what is left below it
-    pub rebuilt-grown : passing (decode r) ≡ true → ((x : Bool) → parallelBy (shape (decode r)) (over (decode r) false (treeOf m h)) ≡ parallelBy (shape (decode r)) (over (decode r) x (treeOf m h)))
-        → (m' : List ℕ) (a : At) → Grown m u m' a (parallelBy (shape (decode r)) (over (decode r) false (treeOf m h))) (u + sizeT (treeOf m h) + 2) → Grown m u m' a (parallelizeSorts (node (decode r) false (forest m ks))) (u + stepRoom (suc (size (forest m ks))))
+    pub rebuilt-grown : passing (decode r) ≡ true
+        → ((x : Bool) → parallelBy (shape (decode r)) (over (decode r) false (treeOf m h)) ≡ parallelBy (shape (decode r)) (over (decode r) x (treeOf m h)))
+        → (m' : List ℕ) (a : At) → Grown m u m' a (parallelBy (shape (decode r)) (over (decode r) false (treeOf m h))) (u + sizeT (treeOf m h) + 2)
+        → Grown m u m' a (parallelizeSorts (node (decode r) false (forest m ks))) (u + stepRoom (suc (size (forest m ks))))
     rebuilt-grown x k m' a g =
         let s = ap size (alone x) in
         grown-more m u m' a (parallelizeSorts (node (decode r) false c)) (u + sizeT (treeOf m h) + 2) top (omega arith)
-        (subst (λ t. Grown m u m' a t (u + sizeT (treeOf m h) + 2)) (k y ∙ ap (λ f. parallelBy (shape (decode r)) (node (decode r) y f)) (sym (alone x)) ∙ connected) g)
+        (subst (λ t. Grown m u m' a t (u + sizeT (treeOf m h) + 2)) (k y ∙ ap (λ f. parallelBy (shape (decode r)) (node (decode r) y f)) (sym (alone x))
+        ∙ connected) g)
 
-    pub left-grown : cascades (decode r) (fact (treeOf m h)) ≡ false → isCoalescePartitions (decode r) ≡ false → (b : Bool) → b ≡ updateCoalesceCtxChildren (decode r) (forest m ks) → (m' : List ℕ) (a : At) → Grown m u m' a (node (decode r) b (forest m ks)) (u + 1)
+    pub left-grown : cascades (decode r) (fact (treeOf m h)) ≡ false → isCoalescePartitions (decode r) ≡ false → (b : Bool) → b ≡ updateCoalesceCtxChildren
+        (decode r) (forest m ks) → (m' : List ℕ) (a : At) → Grown m u m' a (node (decode r) b (forest m ks)) (u + 1)
         → Grown m u m' a (parallelizeSorts (node (decode r) false (forest m ks))) (u + stepRoom (suc (size (forest m ks))))
     left-grown s t b hb m' a g = stay-grown b hb m' a g (sym (stays-else (decode r) y c (treeOf m h) alone s t) ∙ connected)

@@ -26,7 +26,8 @@ module _ (p : ℕ → Bool) (ks : List ℕ) where
   passed-none m = refl
 
   module _ (j : ℕ) (q : UnmarkedBefore p ks j) where
-    split : j < length ks → (m : List ℕ) → anyMarkAt (from p j) (forest m (drop j ks)) ≡ (marked (getD ks j 0) && p j) || anyMarkAt (from p (suc j)) (forest m (drop (suc j) ks))
+    split : j < length ks → (m : List ℕ) → anyMarkAt (from p j) (forest m (drop j ks)) ≡ (marked (getD ks j 0) && p j) || anyMarkAt (from p (suc j))
+        (forest m (drop (suc j) ks))
     unfolding forest
     split l m =
         ap (λ hs. anyMarkAt (from p j) (forest m hs)) (drop-cons ks j 0 l)
@@ -50,7 +51,8 @@ module _ (o : Op) where
   alone-unmarked [] m e = refl
   alone-unmarked (k ∷ ks) m e = absurd (omega arith)
 
-  with-children : (ks m : List ℕ) → (length ks ≡ 0 → ⊥) → updateCoalesceCtxChildren o (forest m ks) ≡ cond (isCoalescePartitions o) (bottleneck o) (anyMarkAt (λ i. not (singles o i)) (forest m ks))
+  with-children : (ks m : List ℕ) → (length ks ≡ 0 → ⊥) → updateCoalesceCtxChildren o (forest m ks) ≡ cond (isCoalescePartitions o) (bottleneck o)
+      (anyMarkAt (λ i. not (singles o i)) (forest m ks))
   unfolding forest
   with-children [] m e = absurd (e refl)
   with-children (k ∷ ks) m e = refl
@@ -58,7 +60,8 @@ module _ (o : Op) where
   pub coalesce-marked : (ks m : List ℕ) → (length ks ≡ 0 → ⊥) → isCoalescePartitions o ≡ true → bottleneck o ≡ updateCoalesceCtxChildren o (forest m ks)
   coalesce-marked ks m n e = sym (with-children ks m n ∙ ap (λ b. cond b (bottleneck o) (anyMarkAt (λ i. not (singles o i)) (forest m ks))) e)
 
-  pub other-marked : (ks m : List ℕ) → (length ks ≡ 0 → ⊥) → isCoalescePartitions o ≡ false → anyMarkAt (λ i. not (singles o i)) (forest m ks) ≡ updateCoalesceCtxChildren o (forest m ks)
+  pub other-marked : (ks m : List ℕ) → (length ks ≡ 0 → ⊥) → isCoalescePartitions o ≡ false → anyMarkAt (λ i. not (singles o i)) (forest m ks)
+      ≡ updateCoalesceCtxChildren o (forest m ks)
   other-marked ks m n e = sym (with-children ks m n ∙ ap (λ b. cond b (bottleneck o) (anyMarkAt (λ i. not (singles o i)) (forest m ks))) e)
 
 -- ---- the first child's mark

@@ -70,8 +70,10 @@ module _ (r : List ℕ) (F : Facts) where
   pub no-cascade : eqb (code (decode r)) 8 ≡ false → eqb (code (decode r)) 7 ≡ false → false ≡ cascades (decode r) F
   no-cascade e f = sym (ap₂ (λ x y. (x || y) && leb (factsOp (decode r) (F ∷ []) .streams) 1) f e)
 
-  pub sort-cascades : eqb (code (decode r)) 7 ≡ true → (p : Bool) → p ≡ fromBytes r .preserve → (q : Bool) → q ≡ ltb 1 (F .streams) → not (p && q) ≡ cascades (decode r) F
-  sort-cascades e p hp q hq = ap₂ (λ x y. not (x && y)) hp hq ∙ one (fromBytes r .preserve) ∙ sym (ap (λ o. cascades o F) (op-of r Sort (code-kind r Sort e)))
+  pub sort-cascades : eqb (code (decode r)) 7 ≡ true → (p : Bool) → p ≡ fromBytes r .preserve → (q : Bool) → q ≡ ltb 1 (F .streams)
+      → not (p && q) ≡ cascades (decode r) F
+  sort-cascades e p hp q hq = ap₂ (λ x y. not (x && y)) hp hq ∙ one (fromBytes r .preserve)
+      ∙ sym (ap (λ o. cascades o F) (op-of r Sort (code-kind r Sort e)))
     where
       few : (x : Bool) → ltb 1 (F .streams) ≡ x → not x ≡ leb (F .streams) 1
       few true h = sym (lt-leb (F .streams) 1 (ltb-true 1 (F .streams) h))
@@ -90,7 +92,8 @@ pub record Plain (o : Op) : Type 0 where
   pub coalesce : isCoalescePartitions o ≡ false
   pub stays : (t : Tree) → parallelBy (shape o) t ≡ t
 
-by-kind : (P : Op → Type 0) → ((p : Bool) (ks : List Key) (f : Fetch) → P (sortOp p ks f)) → ((ks : List Key) (f : Fetch) → P (mergeOp ks f)) → ((f : Fetch) → P (coalesce f)) → ((o : Op) → Plain o → P o) → (o : Op) → P o
+by-kind : (P : Op → Type 0) → ((p : Bool) (ks : List Key) (f : Fetch) → P (sortOp p ks f)) → ((ks : List Key) (f : Fetch) → P (mergeOp ks f))
+    → ((f : Fetch) → P (coalesce f)) → ((o : Op) → Plain o → P o) → (o : Op) → P o
 by-kind P s m c q (source d) = q (source d) (record { sort = refl; merge = refl; coalesce = refl; stays = λ t. refl })
 by-kind P s m c q filter = q filter (record { sort = refl; merge = refl; coalesce = refl; stays = λ t. refl })
 by-kind P s m c q (projection cols) = q (projection cols) (record { sort = refl; merge = refl; coalesce = refl; stays = λ t. refl })
@@ -111,7 +114,8 @@ pub record Cascaded (o : Op) (s : SortExprs) (w : ℕ) (t : Tree) : Type 0 where
   pub pass : passing o ≡ true
   pub few : s .keys .len ≤ 8
   pub merge : nodeOk (mergeOp (keysOf (s .keys)) (s .fetch)) (w ∷ []) ≡ true
-  pub is : (x : Bool) → parallelBy (shape o) (over o x t) ≡ over (mergeOp (keysOf (s .keys)) (s .fetch)) false (addSortAboveWithCheck (keysOf (s .keys)) (s .fetch) (withoutSelf (over o x t)))
+  pub is : (x : Bool) → parallelBy (shape o) (over o x t) ≡ over (mergeOp (keysOf (s .keys)) (s .fetch)) false
+      (addSortAboveWithCheck (keysOf (s .keys)) (s .fetch) (withoutSelf (over o x t)))
 
 pub cascaded : (o : Op) (s : SortExprs) (w : ℕ) (t : Tree) → Exprs (shape o) s → nodeOk o (w ∷ []) ≡ true → cascades o (fact t) ≡ true → Cascaded o s w t
 cascaded o s w t =
@@ -121,7 +125,8 @@ cascaded o s w t =
       pass = refl;
       few = x .0 .few;
       merge = ap₂ (λ l g. nodeOk (mergeOp l g) (w ∷ [])) (x .0 .is) (x .1) ∙ k;
-      is = λ y. ap (λ b. cond b (over (mergeOp ks f) false (addSortAboveWithCheck ks f (withoutSelf (over (sortOp p ks f) y t)))) (over (sortOp p ks f) y t)) c
+      is = λ y. ap (λ b. cond b (over (mergeOp ks f) false (addSortAboveWithCheck ks f (withoutSelf (over (sortOp p ks f) y t))))
+          (over (sortOp p ks f) y t)) c
           ∙ ap₂ (λ l g. over (mergeOp l g) false (addSortAboveWithCheck l g (withoutSelf (over (sortOp p ks f) y t)))) (sym (x .0 .is)) (sym (x .1));
     })
     (λ ks f x k c.
@@ -157,10 +162,13 @@ coalesced o t =
     o
 
 -- Anything else stays. c: its children, t where it has one only
-pub stays-else : (o : Op) (x : Bool) (c : Forest Marked) (t : Tree) → (passing o ≡ true → c ≡ plant t none) → cascades o (fact t) ≡ false → isCoalescePartitions o ≡ false → parallelBy (shape o) (node o x c) ≡ node o x c
+pub stays-else : (o : Op) (x : Bool) (c : Forest Marked) (t : Tree) → (passing o ≡ true → c ≡ plant t none) → cascades o (fact t) ≡ false
+    → isCoalescePartitions o ≡ false → parallelBy (shape o) (node o x c) ≡ node o x c
 stays-else o x c t =
-    by-kind (λ p. (passing p ≡ true → c ≡ plant t none) → cascades p (fact t) ≡ false → isCoalescePartitions p ≡ false → parallelBy (shape p) (node p x c) ≡ node p x c)
-    (λ p ks f h e d. subst (λ g. cascade ks f (node (sortOp p ks f) x g) ≡ node (sortOp p ks f) x g) (sym (h refl)) (ap (λ b. cond b (over (mergeOp ks f) false (addSortAboveWithCheck ks f (withoutSelf (over (sortOp p ks f) x t)))) (over (sortOp p ks f) x t)) e))
+    by-kind (λ p. (passing p ≡ true → c ≡ plant t none) → cascades p (fact t) ≡ false → isCoalescePartitions p ≡ false
+    → parallelBy (shape p) (node p x c) ≡ node p x c)
+    (λ p ks f h e d. subst (λ g. cascade ks f (node (sortOp p ks f) x g) ≡ node (sortOp p ks f) x g) (sym (h refl))
+    (ap (λ b. cond b (over (mergeOp ks f) false (addSortAboveWithCheck ks f (withoutSelf (over (sortOp p ks f) x t)))) (over (sortOp p ks f) x t)) e))
     (λ ks f h e d. no-bool (sym e))
     (λ f h e d. no-bool (sym d))
     (λ p k h e d. k .stays (node p x c))
@@ -183,8 +191,10 @@ cascades-alike o x t =
     (λ p e c. no-bool (sym (ap₂ (λ a b. (a || b) && leb (factsOp p (fact t ∷ []) .streams) 1) (e .sort) (e .merge)) ∙ c))
     o
 
-pub coalesced-alike : (o : Op) (x : Bool) (t : Tree) → isCoalescePartitions o ≡ true → parallelBy (shape o) (over o false t) ≡ parallelBy (shape o) (over o x t)
-coalesced-alike o x t c = let k = coalesced o t c in k .is false ∙ ap (over (coalesce (cuts o .fetch)) false) (sym (same-without-self o x t)) ∙ sym (k .is x)
+pub coalesced-alike : (o : Op) (x : Bool) (t : Tree) → isCoalescePartitions o ≡ true → parallelBy (shape o) (over o false t) ≡ parallelBy (shape o)
+    (over o x t)
+coalesced-alike o x t c = let k = coalesced o t c in k .is false ∙ ap (over (coalesce (cuts o .fetch)) false) (sym (same-without-self o x t))
+    ∙ sym (k .is x)
 
 -- ---- what is rebuilt has one child
 

@@ -82,9 +82,11 @@ module _ (m : List ℕ) (i : ℕ) (a : Arena m (i + 1)) (o : Op) where
     first-op k e =
         ap (λ h. opT (treeOf m h)) (sym e) ∙ ap opT (tree-of m k (kid-older m i a 0 some-kid k e))
 
-    pub looks-first : singles o 0 ≡ false → (k : ℕ) → k ≡ getD (slot m i .kids) 0 0 → (b : Bool) → b ≡ bottleneck (decode (slot m (index k) .rec)) → b ≡ firstIs bottleneck (forest m (slot m i .kids)) && not (singles o 0)
+    pub looks-first : singles o 0 ≡ false → (k : ℕ) → k ≡ getD (slot m i .kids) 0 0 → (b : Bool) → b ≡ bottleneck (decode (slot m (index k) .rec))
+        → b ≡ firstIs bottleneck (forest m (slot m i .kids)) && not (singles o 0)
     looks-first s k e b q =
-        q ∙ ap bottleneck (sym (first-op k e)) ∙ sym (first-is bottleneck m hs some-kid) ∙ and-yes (firstIs bottleneck (forest m hs)) ∙ ap (λ x. firstIs bottleneck (forest m hs) && not x) (sym s)
+        q ∙ ap bottleneck (sym (first-op k e)) ∙ sym (first-is bottleneck m hs some-kid) ∙ and-yes (firstIs bottleneck (forest m hs))
+        ∙ ap (λ x. firstIs bottleneck (forest m hs) && not x) (sym s)
       where
         and-yes : (b : Bool) → b ≡ b && true
         and-yes true = refl
@@ -93,7 +95,8 @@ module _ (m : List ℕ) (i : ℕ) (a : Arena m (i + 1)) (o : Op) where
 -- ---- the children's handles
 
 module _ (hs : List ℕ) where
-  pub copied-more : (kids : List ℕ) (j k : ℕ) → length kids ≡ 8 → j < 8 → j < length hs → take j kids ≡ take j hs → k ≡ getD hs j 0 → take (j + 1) (set kids j k) ≡ take (j + 1) hs
+  pub copied-more : (kids : List ℕ) (j k : ℕ) → length kids ≡ 8 → j < 8 → j < length hs → take j kids ≡ take j hs → k ≡ getD hs j 0
+      → take (j + 1) (set kids j k) ≡ take (j + 1) hs
   copied-more kids j k w l h e q = rw (add-one j) (take-suc-set kids j k (omega arith) ∙ ap₂ (λ x y. x ++ (y ∷ [])) e q ∙ sym (take-suc hs j 0 h))
 
 -- ---- idle repartitions
@@ -120,23 +123,28 @@ module _ (m r ks : List ℕ) (a : Over m r ks) (p : eqb (code (decode r)) 5 ≡ 
     child-here = let n = one-child in subst (Here m) (sym e) (a .there 0 (omega arith))
 
     pub child-proper : Proper (slot m (index k) .rec)
-    child-proper = let s = seen m (index k) (child-here .holds .proper) in record-proper (slot m (index k) .rec) (length (slot m (index k) .kids)) (forest m (slot m (index k) .kids)) (s .canon) (s .ok)
+    child-proper = let s = seen m (index k) (child-here .holds .proper) in
+        record-proper (slot m (index k) .rec) (length (slot m (index k) .kids)) (forest m (slot m (index k) .kids)) (s .canon) (s .ok)
 
     child-op : opT (treeOf m k) ≡ decode (slot m (index k) .rec)
     child-op = ap opT (seen m (index k) (child-here .holds .proper) .tree)
 
-    pub idle-is : (h : Bool) → h ≡ fromBytes r .hash → (n s : ℕ) → n ≡ fromBytes r .streams → (b : List ℕ) → Tells (treeOf m k) b → s ≡ told (loaded b) .streams → (q : Bool) → q ≡ samePartitioning (decode r) (decode (slot m (index k) .rec))
+    pub idle-is : (h : Bool) → h ≡ fromBytes r .hash → (n s : ℕ) → n ≡ fromBytes r .streams → (b : List ℕ) → Tells (treeOf m k) b
+        → s ≡ told (loaded b) .streams → (q : Bool) → q ≡ samePartitioning (decode r) (decode (slot m (index k) .rec))
         → ((not h && eqb n s) || q) ≡ idle (shape (decode r)) (decode r) (forest m ks)
     idle-is h eh n s en b t es q eq =
         let c = one-child in
-        let f : s ≡ at0 (known (forest m ks)) .streams = es ∙ ap (λ F. F .streams) (t .is) ∙ ap (λ x. fact (treeOf m x) .streams) e ∙ sym (ap (λ F. F .streams) (facts-at m ks 0 (omega arith))) in
-        let g : q ≡ firstIs (samePartitioning (decode r)) (forest m ks) = eq ∙ ap (samePartitioning (decode r)) (sym child-op ∙ ap (λ x. opT (treeOf m x)) e) ∙ sym (first-is (samePartitioning (decode r)) m ks (omega arith)) in
+        let f : s ≡ at0 (known (forest m ks)) .streams = es ∙ ap (λ F. F .streams) (t .is) ∙ ap (λ x. fact (treeOf m x) .streams) e
+        ∙ sym (ap (λ F. F .streams) (facts-at m ks 0 (omega arith))) in
+        let g : q ≡ firstIs (samePartitioning (decode r)) (forest m ks) = eq ∙ ap (samePartitioning (decode r))
+        (sym child-op ∙ ap (λ x. opT (treeOf m x)) e) ∙ sym (first-is (samePartitioning (decode r)) m ks (omega arith)) in
         ap₂ _||_ (ap₂ (λ x y. not x && y) eh (ap₂ eqb en f)) g
         ∙ sym (ap (λ o. idle (shape o) (decode r) (forest m ks)) is-repartition)
 
 -- ---- the node put back
 
-pub marked-grown : (m : List ℕ) (u : ℕ) (m' : List ℕ) (a : At) (t : Tree) (top : ℕ) → Grown m u m' a t top → (y : Bool) (r : ℕ) → Marks (a .root) y r → Grown m u m' (record { used = a .used; root = r }) (setMark y t) top
+pub marked-grown : (m : List ℕ) (u : ℕ) (m' : List ℕ) (a : At) (t : Tree) (top : ℕ) → Grown m u m' a t top → (y : Bool) (r : ℕ) → Marks (a .root) y r
+    → Grown m u m' (record { used = a .used; root = r }) (setMark y t) top
 marked-grown m u m' a t top g y r q =
     let h = g .here in let s = q .slot in
     record { arena = g .arena; old = g .old; more = g .more; here = omega arith; tree = q .tree m' ∙ ap (setMark y) (g .tree); room = g .room }
@@ -152,14 +160,17 @@ module _ (m : List ℕ) (u : ℕ) (r ks : List ℕ) (p : Puts m u r ks) (b : Boo
   pub idle-some : b ≡ true → 0 < length ks
   idle-some t = let n = one-child m r ks (put-over m u r ks p) (repartitions t) in omega arith
 
-  pub idle-grown : b ≡ true → (k : ℕ) → k ≡ getD ks 0 0 → Grown m u m (record { used = u; root = k }) (withoutIdle (record { op = decode r; mark = true }) (forest m ks)) (u + 1)
+  pub idle-grown : b ≡ true → (k : ℕ) → k ≡ getD ks 0 0 → Grown m u m (record { used = u; root = k })
+      (withoutIdle (record { op = decode r; mark = true }) (forest m ks)) (u + 1)
   idle-grown t k q =
       let l = below-at (2 * u) ks 0 (p .below) (idle-some t) in
       subst (λ x. Grown m u m (record { used = u; root = k }) x (u + 1))
-      (ap (treeOf m) q ∙ kid-is m ks (rebuild (decode r) true (forest m ks)) (idle-some t) ∙ ap (λ x. cond x (kid0 (rebuild (decode r) true (forest m ks)) (forest m ks)) (rebuild (decode r) true (forest m ks))) (sym t ∙ e))
+      (ap (treeOf m) q ∙ kid-is m ks (rebuild (decode r) true (forest m ks)) (idle-some t)
+      ∙ ap (λ x. cond x (kid0 (rebuild (decode r) true (forest m ks)) (forest m ks)) (rebuild (decode r) true (forest m ks))) (sym t ∙ e))
       (grown-none m u k (u + 1) (p .arena) (omega arith) (omega arith))
 
-  pub back-grown : b ≡ false → (m' : List ℕ) (a : At) → Grown m u m' a (rebuild (decode r) false (forest m ks)) (u + 1) → (k : ℕ) → Marks (a .root) true k → Grown m u m' (record { used = a .used; root = k }) (withoutIdle (record { op = decode r; mark = true }) (forest m ks)) (u + 1)
+  pub back-grown : b ≡ false → (m' : List ℕ) (a : At) → Grown m u m' a (rebuild (decode r) false (forest m ks)) (u + 1) → (k : ℕ) → Marks (a .root) true k
+      → Grown m u m' (record { used = a .used; root = k }) (withoutIdle (record { op = decode r; mark = true }) (forest m ks)) (u + 1)
   back-grown t m' a g k q =
       subst (λ x. Grown m u m' (record { used = a .used; root = k }) x (u + 1))
       (ap (λ x. cond x (kid0 (rebuild (decode r) true (forest m ks)) (forest m ks)) (rebuild (decode r) true (forest m ks))) (sym t ∙ e))
@@ -178,7 +189,8 @@ pub record Lifts (m : List ℕ) (u i : ℕ) (r : List ℕ) : Type 0 where
   pub small : u < mostSlots
   pub first : firstIs bottleneck (forest m (slot m i .kids)) ≡ true
 
-lifted : (o : Op) (m hs : List ℕ) (k : ℕ) → 0 < length hs → treeOf m k ≡ skipSame o (treeOf m (getD hs 0 0)) (treeOf m (getD hs 0 0) .kids) → forest m (set hs 0 k) ≡ liftFirst o (forest m hs)
+lifted : (o : Op) (m hs : List ℕ) (k : ℕ) → 0 < length hs → treeOf m k ≡ skipSame o (treeOf m (getD hs 0 0)) (treeOf m (getD hs 0 0) .kids)
+    → forest m (set hs 0 k) ≡ liftFirst o (forest m hs)
 unfolding forest
 lifted o m [] k l e = absurd (omega arith)
 lifted o m (h ∷ hs) k l e = ap (λ t. tree (t .top) (t .kids) (forest m hs)) e
@@ -215,10 +227,15 @@ module _ (m : List ℕ) (u i : ℕ) (r : List ℕ) (p : Lifts m u i r) where
 
   pub lift-skips : (k : ℕ) → k ≡ getD (slot m i .kids) 0 0 → Skips m k
   lift-skips k e =
-      record { arena = kid-older m i node-older 0 lift-some k e; coalesce = ap (λ h. bottleneck (opT (treeOf m h))) e ∙ sym (first-is bottleneck m ls lift-some) ∙ p .first }
+      record {
+        arena = kid-older m i node-older 0 lift-some k e;
+        coalesce = ap (λ h. bottleneck (opT (treeOf m h))) e
+            ∙ sym (first-is bottleneck m ls lift-some) ∙ p .first;
+      }
 
   -- the new children
-  module _ (kids : List ℕ) (w : length kids ≡ 8) (q : take (length (slot m i .kids)) kids ≡ slot m i .kids) (h : ℕ) (eh : h ≡ getD (slot m i .kids) 0 0) (k : ℕ)
+  module _ (kids : List ℕ) (w : length kids ≡ 8) (q : take (length (slot m i .kids)) kids ≡ slot m i .kids) (h : ℕ) (eh : h ≡ getD (slot m i .kids) 0 0)
+      (k : ℕ)
       (sk : (k < h) × (treeOf m k ≡ skipSame (decode r) (treeOf m h) (treeOf m h .kids))) (n : ℕ) (en : n ≡ children (slot m i .rec)) where
     tally : n ≡ length (slot m i .kids)
     tally = en ∙ view m i node-older .count
@@ -237,12 +254,14 @@ module _ (m : List ℕ) (u i : ℕ) (r : List ℕ) (p : Lifts m u i r) where
         rw (p .rec)
         (let v = view m i node-older .ok in
         let f = ok-fit (tree o (strip c) none) (v .0, v .1, tt) in
-        let k₁ : KeepsAll false true true c (liftFirst o c) = subst (λ x. KeepsAll false true true c (cond (x && true) (liftFirst o c) c)) (p .first) (first-removed-kept true o c c (f .1) (all-kept-refl c (f .1))) in
+        let k₁ : KeepsAll false true true c (liftFirst o c) = subst (λ x. KeepsAll false true true c (cond (x && true) (liftFirst o c) c)) (p .first)
+        (first-removed-kept true o c c (f .1) (all-kept-refl c (f .1))) in
         kept-node o o false false c (liftFirst o c) (like-refl o) (f .0) k₁ .ok refl v)
 
     pub lift-puts : Puts m u r (take n (set kids 0 k))
     lift-puts =
-        let v = view m i node-older in let s = v .small in let z = lift-size (decode r) c in let l = p .low in let f = sk .0 in let j = kid-low m i node-older 0 lift-some in
+        let v = view m i node-older in let s = v .small in let z = lift-size (decode r) c in let l = p .low in let f = sk .0 in
+        let j = kid-low m i node-older 0 lift-some in
         let y : length (take n (set kids 0 k)) ≡ length (slot m i .kids) = ap length handles ∙ length-set ls 0 k in
         record {
           arena = p .arena;
@@ -254,6 +273,7 @@ module _ (m : List ℕ) (u i : ℕ) (r : List ℕ) (p : Lifts m u i r) where
           few = subst (λ f. suc (size f) ≤ mostNodes) (sym forest-is) (omega arith);
         }
 
-    pub lift-grown : (m' : List ℕ) (a : At) → Grown m u m' a (withoutIdle (record { op = decode r; mark = true }) (forest m (take n (set kids 0 k)))) (u + 1)
+    pub lift-grown : (m' : List ℕ) (a : At) → Grown m u m' a (withoutIdle (record { op = decode r; mark = true }) (forest m (take n (set kids 0 k))))
+        (u + 1)
         → Grown m u m' a (withoutIdle (record { op = decode r; mark = true }) (liftFirst (decode r) (forest m (slot m i .kids)))) (u + 1)
     lift-grown m' a g = subst (λ f. Grown m u m' a (withoutIdle (record { op = decode r; mark = true }) f) (u + 1)) forest-is g

@@ -34,7 +34,9 @@ use Rattle.parallelize_sorts.specs.IdleNodes.{Lifts}
 
 -- One root of removeBottleneckInSubplanImpl; q: it is removable
 abbrev pub openOne : Bool → Tree → Tree
-openOne q t = cond (t .top .mark && q) (withoutIdle (t .top) (firstBottleneckRemoved (not (singles (opT t) 0)) (opT t) (t .kids) (removeBottleneckInSubplanImpl (λ i. not (singles (opT t) i)) (t .kids)))) t
+openOne q t = cond (t .top .mark && q)
+    (withoutIdle (t .top) (firstBottleneckRemoved (not (singles (opT t) 0)) (opT t) (t .kids)
+    (removeBottleneckInSubplanImpl (λ i. not (singles (opT t) i)) (t .kids)))) t
 
 pub record Opens (m : List ℕ) (u h : ℕ) : Type 0 where
   pub arena : Arena m u
@@ -45,7 +47,9 @@ pub record Opens (m : List ℕ) (u h : ℕ) : Type 0 where
 -- The first j children are opened
 pub record Going (b₀ : List ℕ) (u h j w : ℕ) (kids b : List ℕ) : Type 0 where
   pub made : Kids b₀ u j w kids b
-  pub is : forest b (take j kids) ⊕ removeBottleneckInSubplanImpl (from (λ i. not (singles (decode (slot b₀ (index h) .rec)) i)) j) (forest b₀ (drop j (slot b₀ (index h) .kids))) ≡ removeBottleneckInSubplanImpl (λ i. not (singles (decode (slot b₀ (index h) .rec)) i)) (forest b₀ (slot b₀ (index h) .kids))
+  pub is : forest b (take j kids) ⊕ removeBottleneckInSubplanImpl (from (λ i. not (singles (decode (slot b₀ (index h) .rec)) i)) j)
+      (forest b₀ (drop j (slot b₀ (index h) .kids))) ≡ removeBottleneckInSubplanImpl (λ i. not (singles (decode (slot b₀ (index h) .rec)) i))
+      (forest b₀ (slot b₀ (index h) .kids))
   pub left : w + size (forest b₀ (drop j (slot b₀ (index h) .kids))) ≤ u + size (forest b₀ (slot b₀ (index h) .kids))
 
 module _ (b₀ : List ℕ) (u h : ℕ) (p : Opens b₀ u h) where
@@ -79,12 +83,16 @@ module _ (b₀ : List ℕ) (u h : ℕ) (p : Opens b₀ u h) where
   stays q e =
       let t : Tree = treeOf b₀ h in
       subst (λ x. Grown b₀ u b₀ (record { used = u; root = h }) x (u + sizeT (treeOf b₀ h)))
-      (sym (ap (λ b. cond b (withoutIdle (t .top) (firstBottleneckRemoved (not (singles (opT t) 0)) (opT t) (t .kids) (removeBottleneckInSubplanImpl (λ i. not (singles (opT t) i)) (t .kids)))) t) e))
+      (sym (ap (λ b. cond b (withoutIdle (t .top)
+      (firstBottleneckRemoved (not (singles (opT t) 0)) (opT t) (t .kids) (removeBottleneckInSubplanImpl (λ i. not (singles (opT t) i)) (t .kids)))) t)
+      e))
       (grown-none b₀ u h (u + sizeT (treeOf b₀ h)) (p .arena) (p .here) (omega arith))
 
   -- a connected one
   module _ (q : Bool) (e : marked h && q ≡ true) where
-    now : openOne q (treeOf b₀ h) ≡ withoutIdle (record { op = decode (slot b₀ (index h) .rec); mark = true }) (firstBottleneckRemoved (not (singles (decode (slot b₀ (index h) .rec)) 0)) (decode (slot b₀ (index h) .rec)) (forest b₀ (slot b₀ (index h) .kids)) (removeBottleneckInSubplanImpl (λ i. not (singles (decode (slot b₀ (index h) .rec)) i)) (forest b₀ (slot b₀ (index h) .kids))))
+    now : openOne q (treeOf b₀ h) ≡ withoutIdle (record { op = decode (slot b₀ (index h) .rec); mark = true })
+        (firstBottleneckRemoved (not (singles (decode (slot b₀ (index h) .rec)) 0)) (decode (slot b₀ (index h) .rec)) (forest b₀ (slot b₀ (index h) .kids))
+        (removeBottleneckInSubplanImpl (λ i. not (singles (decode (slot b₀ (index h) .rec)) i)) (forest b₀ (slot b₀ (index h) .kids))))
     now =
         let d : Forest Marked = firstBottleneckRemoved (free 0) o c₀ (removeBottleneckInSubplanImpl free c₀) in
         ap (openOne q) (tree-of b₀ h own)
@@ -96,16 +104,28 @@ module _ (b₀ : List ℕ) (u h : ℕ) (p : Opens b₀ u h) where
         pub first-lifts : Lifts b₀ u (index h) r
         first-lifts =
             let x = p .room in let y = p .small in let z = sized in
-            record { arena = p .arena; low = half (p .arena) (p .here); rec = hr; room = omega arith; small = omega arith; first = and-left (firstIs bottleneck c₀) (free 0) (sym f ∙ t) }
+            record {
+              arena = p .arena;
+              low = half (p .arena) (p .here);
+              rec = hr;
+              room = omega arith;
+              small = omega arith;
+              first = and-left (firstIs bottleneck c₀) (free 0) (sym f ∙ t);
+            }
 
-        pub first-grown : (b' : List ℕ) (a : At) → Grown b₀ u b' a (withoutIdle (record { op = decode r; mark = true }) (liftFirst (decode r) (forest b₀ (slot b₀ (index h) .kids)))) (u + 1) → Grown b₀ u b' a (openOne q (treeOf b₀ h)) (u + sizeT (treeOf b₀ h))
+        pub first-grown : (b' : List ℕ) (a : At)
+            → Grown b₀ u b' a (withoutIdle (record { op = decode r; mark = true }) (liftFirst (decode r) (forest b₀ (slot b₀ (index h) .kids)))) (u + 1)
+            → Grown b₀ u b' a (openOne q (treeOf b₀ h)) (u + sizeT (treeOf b₀ h))
         first-grown b' a g =
             let z = sized in
             grown-more b₀ u b' a (openOne q (treeOf b₀ h)) (u + 1) (u + sizeT (treeOf b₀ h)) (omega arith)
             (subst (λ x. Grown b₀ u b' a x (u + 1))
-            (ap (λ x. withoutIdle (record { op = decode x; mark = true }) (liftFirst (decode x) c₀)) hr ∙ ap (λ x. withoutIdle (record { op = o; mark = true }) (cond x (liftFirst o c₀) (removeBottleneckInSubplanImpl free c₀))) (sym t ∙ f) ∙ sym now) g)
+            (ap (λ x. withoutIdle (record { op = decode x; mark = true }) (liftFirst (decode x) c₀)) hr
+            ∙ ap (λ x. withoutIdle (record { op = o; mark = true }) (cond x (liftFirst o c₀) (removeBottleneckInSubplanImpl free c₀))) (sym t ∙ f)
+            ∙ sym now) g)
 
-      pub others : b ≡ false → openOne q (treeOf b₀ h) ≡ withoutIdle (record { op = decode (slot b₀ (index h) .rec); mark = true }) (removeBottleneckInSubplanImpl (λ i. not (singles (decode (slot b₀ (index h) .rec)) i)) (forest b₀ (slot b₀ (index h) .kids)))
+      pub others : b ≡ false → openOne q (treeOf b₀ h) ≡ withoutIdle (record { op = decode (slot b₀ (index h) .rec); mark = true })
+          (removeBottleneckInSubplanImpl (λ i. not (singles (decode (slot b₀ (index h) .rec)) i)) (forest b₀ (slot b₀ (index h) .kids)))
       others t = now ∙ ap (λ x. withoutIdle (record { op = o; mark = true }) (cond x (liftFirst o c₀) (removeBottleneckInSubplanImpl free c₀))) (sym f ∙ t)
 
   pub going-none : (kids : List ℕ) → length kids ≡ 8 → Going b₀ u h 0 u kids b₀
@@ -119,7 +139,8 @@ module _ (b₀ : List ℕ) (u h : ℕ) (p : Opens b₀ u h) where
 
       pub going-next : (sizeT (treeOf b k) < sizeT (treeOf b₀ h)) × Opens b w k
       going-next =
-          let s = ap size next-split in let t = sized in let v = q .left in let y = q .made .long in let r = p .room in let m = p .small in let x = q .made .more in let z = kid-below (p .arena) (p .here) (q .made) l e in
+          let s = ap size next-split in let t = sized in let v = q .left in let y = q .made .long in let r = p .room in let m = p .small in
+          let x = q .made .more in let z = kid-below (p .arena) (p .here) (q .made) l e in
           let d = drop-size b₀ hs j in
           (omega arith, record { arena = q .made .arena; here = omega arith; room = omega arith; small = omega arith })
 
@@ -127,16 +148,21 @@ module _ (b₀ : List ℕ) (u h : ℕ) (p : Opens b₀ u h) where
         first-free : not one ≡ from free j 0
         first-free = ap not ho ∙ ap (λ x. not (singles (decode x) j)) hr ∙ sym (from-first free j)
 
-        step : removeBottleneckInSubplanImpl (from free j) (plant (treeOf b k) (forest b₀ (drop (suc j) (slot b₀ (index h) .kids)))) ≡ plant (openOne (not one) (treeOf b k)) (removeBottleneckInSubplanImpl (from free (suc j)) (forest b₀ (drop (suc j) (slot b₀ (index h) .kids))))
-        step = ap₂ (λ s q. plant (openOne s (treeOf b k)) (removeBottleneckInSubplanImpl q (forest b₀ (drop (suc j) hs)))) (sym first-free) (from-next free j)
+        step : removeBottleneckInSubplanImpl (from free j) (plant (treeOf b k) (forest b₀ (drop (suc j) (slot b₀ (index h) .kids)))) ≡ plant
+            (openOne (not one) (treeOf b k)) (removeBottleneckInSubplanImpl (from free (suc j)) (forest b₀ (drop (suc j) (slot b₀ (index h) .kids))))
+        step = ap₂ (λ s q. plant (openOne s (treeOf b k)) (removeBottleneckInSubplanImpl q (forest b₀ (drop (suc j) hs)))) (sym first-free)
+            (from-next free j)
 
-        pub going-more : (b' : List ℕ) → length b' ≡ length b → (a : At) → Grown b w b' a (openOne (not one) (treeOf b k)) (w + sizeT (treeOf b k)) → Going b₀ u h (j + 1) (a .used) (set kids j (a .root)) b'
+        pub going-more : (b' : List ℕ) → length b' ≡ length b → (a : At) → Grown b w b' a (openOne (not one) (treeOf b k)) (w + sizeT (treeOf b k))
+            → Going b₀ u h (j + 1) (a .used) (set kids j (a .root)) b'
         going-more b' lb a g =
             let y = shown .few in let s = ap size next-split in let v = q .left in let top = g .room in
             record {
               made = kids-more b₀ u j w kids b (q .made) (omega arith) b' lb a (openOne (not one) (treeOf b k)) (w + sizeT (treeOf b k)) g;
-              is = kids-forest b₀ u j w kids b (q .made) (omega arith) b' lb a (openOne (not one) (treeOf b k)) (w + sizeT (treeOf b k)) g (removeBottleneckInSubplanImpl (from free (j + 1)) (forest b₀ (drop (j + 1) hs)))
-                  ∙ rw (add-one j) (ap (λ x. forest b (take j kids) ⊕ x) (sym (ap (removeBottleneckInSubplanImpl (from free j)) next-split ∙ step))) ∙ q .is;
+              is = kids-forest b₀ u j w kids b (q .made) (omega arith) b' lb a (openOne (not one) (treeOf b k)) (w + sizeT (treeOf b k)) g
+                  (removeBottleneckInSubplanImpl (from free (j + 1)) (forest b₀ (drop (j + 1) hs)))
+                  ∙ rw (add-one j) (ap (λ x. forest b (take j kids) ⊕ x) (sym (ap (removeBottleneckInSubplanImpl (from free j)) next-split ∙ step)))
+                  ∙ q .is;
               left = rw (add-one j) (omega arith);
             }
 
@@ -155,21 +181,25 @@ module _ (b₀ : List ℕ) (u h : ℕ) (p : Opens b₀ u h) where
       module _ (r : List ℕ) (hr : r ≡ slot b₀ (index h) .rec) where
         pub end-puts : Puts b w r (take n kids) × (index h < w)
         end-puts =
-            let v = q .left in let t = sized in let l = q .made .long in let x = p .room in let y = p .small in let z = each-size free c₀ in let s = shown .small in let f = ap size news in let d = q .made .more in let i = half (p .arena) (p .here) in (
+            let v = q .left in let t = sized in let l = q .made .long in let x = p .room in let y = p .small in let z = each-size free c₀ in
+            let s = shown .small in let f = ap size news in let d = q .made .more in let i = half (p .arena) (p .here) in (
               record {
                 arena = q .made .arena;
                 room = omega arith;
                 small = omega arith;
                 below = new-below (p .arena) (p .here) (q .made) e c;
                 canon = hr ∙ shown .canon ∙ ap₂ (λ i x. encode i (decode x)) (sym (counted (p .arena) (p .here) (q .made) e c)) (sym hr);
-                ok = subst (λ f. OkT (node (decode r) false f)) (sym news) (subst (λ x. OkT (node (decode x) false (removeBottleneckInSubplanImpl free c₀))) (sym hr) new-ok);
+                ok = subst (λ f. OkT (node (decode r) false f)) (sym news) (subst (λ x. OkT (node (decode x) false (removeBottleneckInSubplanImpl free c₀)))
+                    (sym hr) new-ok);
                 few = omega arith;
               },
               omega arith,
             )
 
-        pub end-grown : (z : Bool) → openOne z (treeOf b₀ h) ≡ withoutIdle (record { op = decode (slot b₀ (index h) .rec); mark = true }) (removeBottleneckInSubplanImpl (λ i. not (singles (decode (slot b₀ (index h) .rec)) i)) (forest b₀ (slot b₀ (index h) .kids)))
-            → (b' : List ℕ) (a : At) → Grown b w b' a (withoutIdle (record { op = decode r; mark = true }) (forest b (take n kids))) (w + 1) → Grown b₀ u b' a (openOne z (treeOf b₀ h)) (u + sizeT (treeOf b₀ h))
+        pub end-grown : (z : Bool) → openOne z (treeOf b₀ h) ≡ withoutIdle (record { op = decode (slot b₀ (index h) .rec); mark = true })
+            (removeBottleneckInSubplanImpl (λ i. not (singles (decode (slot b₀ (index h) .rec)) i)) (forest b₀ (slot b₀ (index h) .kids)))
+            → (b' : List ℕ) (a : At) → Grown b w b' a (withoutIdle (record { op = decode r; mark = true }) (forest b (take n kids))) (w + 1)
+            → Grown b₀ u b' a (openOne z (treeOf b₀ h)) (u + sizeT (treeOf b₀ h))
         end-grown z f b' a g =
             let v = q .left in let t = sized in let x = q .made .more in let y = g .room in let m = g .more in
             record {
@@ -186,7 +216,9 @@ module _ (b₀ : List ℕ) (u h : ℕ) (p : Opens b₀ u h) where
 pub without-self-by : (o : Op) (x : Bool) (t : Tree) → withoutSelf (over o x t) ≡ cond (bottleneck (opT t)) (skipSame o t (t .kids)) (openOne true t)
 without-self-by o x t = go (bottleneck (opT t))
   where
-    go : (y : Bool) → kid0 (removeBottleneckInSubplan (over o x t)) (cond (y && true) (liftFirst o (plant t none)) (removeBottleneckInSubplanImpl (λ i. true) (plant t none))) ≡ cond y (skipSame o t (t .kids)) (openOne true t)
+    go : (y : Bool) → kid0 (removeBottleneckInSubplan (over o x t))
+        (cond (y && true) (liftFirst o (plant t none)) (removeBottleneckInSubplanImpl (λ i. true) (plant t none))) ≡ cond y (skipSame o t (t .kids))
+        (openOne true t)
     go true = refl
     go false = refl
 
@@ -195,7 +227,8 @@ without-self-size o x t = subst (λ y. sizeT y ≤ sizeT t) (sym (without-self-b
   where
     go : (y : Bool) → sizeT (cond y (skipSame o t (t .kids)) (openOne true t)) ≤ sizeT t
     go true = skip-size o t (t .kids) (omega arith)
-    go false = one-size true (t .top) (t .kids) (removeBottleneckInSubplanImpl (λ i. not (singles (opT t) i)) (t .kids)) (each-size (λ i. not (singles (opT t) i)) (t .kids))
+    go false = one-size true (t .top) (t .kids) (removeBottleneckInSubplanImpl (λ i. not (singles (opT t) i)) (t .kids))
+        (each-size (λ i. not (singles (opT t) i)) (t .kids))
 
 module _ (m : List ℕ) (u h : ℕ) (p : Opens m u h) (r : List ℕ) where
   abbrev t : Tree
@@ -205,14 +238,20 @@ module _ (m : List ℕ) (u h : ℕ) (p : Opens m u h) (r : List ℕ) where
   op-is = ap opT (sym (tree-of m h (up-to (p .arena) (p .here))))
 
   module _ (b : Bool) (e : b ≡ bottleneck (decode (slot m (index h) .rec))) where
-    by-first : (x : Bool) → b ≡ x → cond x (skipSame (decode r) (treeOf m h) (treeOf m h .kids)) (openOne true (treeOf m h)) ≡ withoutSelf (over (decode r) false (treeOf m h))
-    by-first x f = ap (λ y. cond y (skipSame (decode r) t (t .kids)) (openOne true t)) (sym f ∙ e ∙ ap bottleneck op-is) ∙ sym (without-self-by (decode r) false t)
+    by-first : (x : Bool) → b ≡ x → cond x (skipSame (decode r) (treeOf m h) (treeOf m h .kids)) (openOne true (treeOf m h)) ≡ withoutSelf
+        (over (decode r) false (treeOf m h))
+    by-first x f = ap (λ y. cond y (skipSame (decode r) t (t .kids)) (openOne true t)) (sym f ∙ e ∙ ap bottleneck op-is)
+        ∙ sym (without-self-by (decode r) false t)
 
     pub root-skips : b ≡ true → Skips m h
     root-skips x = record { arena = up-to (p .arena) (p .here); coalesce = ap bottleneck (sym op-is) ∙ sym e ∙ x }
 
-    pub root-lifted : b ≡ true → (k : ℕ) → (k < h) × (treeOf m k ≡ skipSame (decode r) (treeOf m h) (treeOf m h .kids)) → Grown m u m (record { used = u; root = k }) (withoutSelf (over (decode r) false (treeOf m h))) (u + sizeT (treeOf m h))
-    root-lifted x k q = let l = q .0 in let y = p .here in subst (λ y. Grown m u m (record { used = u; root = k }) y (u + sizeT (treeOf m h))) (q .1 ∙ by-first true x) (grown-none m u k (u + sizeT (treeOf m h)) (p .arena) (omega arith) (omega arith))
+    pub root-lifted : b ≡ true → (k : ℕ) → (k < h) × (treeOf m k ≡ skipSame (decode r) (treeOf m h) (treeOf m h .kids))
+        → Grown m u m (record { used = u; root = k }) (withoutSelf (over (decode r) false (treeOf m h))) (u + sizeT (treeOf m h))
+    root-lifted x k q = let l = q .0 in let y = p .here in
+        subst (λ y. Grown m u m (record { used = u; root = k }) y (u + sizeT (treeOf m h))) (q .1 ∙ by-first true x)
+        (grown-none m u k (u + sizeT (treeOf m h)) (p .arena) (omega arith) (omega arith))
 
-    pub root-opened : b ≡ false → (m' : List ℕ) (a : At) → Grown m u m' a (openOne true (treeOf m h)) (u + sizeT (treeOf m h)) → Grown m u m' a (withoutSelf (over (decode r) false (treeOf m h))) (u + sizeT (treeOf m h))
+    pub root-opened : b ≡ false → (m' : List ℕ) (a : At) → Grown m u m' a (openOne true (treeOf m h)) (u + sizeT (treeOf m h))
+        → Grown m u m' a (withoutSelf (over (decode r) false (treeOf m h))) (u + sizeT (treeOf m h))
     root-opened x m' a g = subst (λ y. Grown m u m' a y (u + sizeT (treeOf m h))) (by-first false x) g

@@ -28,7 +28,8 @@ module _ (m : List ℕ) (i : ℕ) (a : Arena m (i + 1)) where
   node-proper = record-proper (slot m i .rec) (length (slot m i .kids)) (forest m (slot m i .kids)) (view .canon) (view .ok)
 
   pub counted : childrenOk (decode (slot m i .rec)) (length (slot m i .kids)) ≡ true
-  counted = ap (childrenOk (decode (slot m i .rec))) (sym (length-facts m (slot m i .kids))) ∙ counts-of (decode (slot m i .rec)) (known (forest m (slot m i .kids))) (view .ok .0) .count
+  counted = ap (childrenOk (decode (slot m i .rec))) (sym (length-facts m (slot m i .kids))) ∙ counts-of (decode (slot m i .rec))
+      (known (forest m (slot m i .kids))) (view .ok .0) .count
 
   -- child j
   module _ (j : ℕ) (l : j < length (slot m i .kids)) where
@@ -42,5 +43,6 @@ module _ (m : List ℕ) (i : ℕ) (a : Arena m (i + 1)) where
     kid-older k e = let x = kid-low in fewer m (i + 1) (index k + 1) (omega arith) a
 
 -- the tree of a handle
-pub tree-of : (m : List ℕ) (h : ℕ) → Arena m (index h + 1) → treeOf m h ≡ node (decode (slot m (index h) .rec)) (marked h) (forest m (slot m (index h) .kids))
+pub tree-of : (m : List ℕ) (h : ℕ) → Arena m (index h + 1) → treeOf m h ≡ node (decode (slot m (index h) .rec)) (marked h)
+    (forest m (slot m (index h) .kids))
 tree-of m h a = ap (setMark (marked h)) (view m (index h) a .tree)

@@ -14,7 +14,8 @@ cond-few n false t u h k = k
 
 pub skip-size : (o : Op) (d : Tree) (c : Forest Marked) → size c ≤ size (d .kids) → sizeT (skipSame o d c) ≤ sizeT d
 skip-size o d none h = omega arith
-skip-size o d (tree m c r) h = let x = skip-size o (at m c) c (omega arith) in cond-few (sizeT d) (samePartitioning o (m .op)) (skipSame o (at m c) c) (at m c) (omega arith) (omega arith)
+skip-size o d (tree m c r) h = let x = skip-size o (at m c) c (omega arith) in
+    cond-few (sizeT d) (samePartitioning o (m .op)) (skipSame o (at m c) c) (at m c) (omega arith) (omega arith)
 
 pub lift-size : (o : Op) (c : Forest Marked) → size (liftFirst o c) ≤ size c
 lift-size o none = omega arith
@@ -28,17 +29,21 @@ first-removed-size x o c d h = go (firstIs bottleneck c && x)
     go false = h
 
 idle-size : (m : Marked) (d : Forest Marked) → sizeT (withoutIdle m d) ≤ suc (size d)
-idle-size m d = cond-few (suc (size d)) (idle (shape (m .op)) (m .op) d) (kid0 (rebuild (m .op) (m .mark) d) d) (rebuild (m .op) (m .mark) d) (first d) (omega arith)
+idle-size m d = cond-few (suc (size d)) (idle (shape (m .op)) (m .op) d) (kid0 (rebuild (m .op) (m .mark) d) d) (rebuild (m .op) (m .mark) d) (first d)
+    (omega arith)
   where
     first : (e : Forest Marked) → sizeT (kid0 (rebuild (m .op) (m .mark) e) e) ≤ suc (size e)
     first none = omega arith
     first (tree j c r) = omega arith
 
 -- the tree t, opened
-pub one-size : (q : Bool) (m : Marked) (c d : Forest Marked) → size d ≤ size c → sizeT (cond (m .mark && q) (withoutIdle m (firstBottleneckRemoved (not (singles (m .op) 0)) (m .op) c d)) (at m c)) ≤ suc (size c)
+pub one-size : (q : Bool) (m : Marked) (c d : Forest Marked) → size d ≤ size c
+    → sizeT (cond (m .mark && q) (withoutIdle m (firstBottleneckRemoved (not (singles (m .op) 0)) (m .op) c d)) (at m c)) ≤ suc (size c)
 one-size q m c d h =
-    let x = idle-size m (firstBottleneckRemoved (not (singles (m .op) 0)) (m .op) c d) in let y = first-removed-size (not (singles (m .op) 0)) (m .op) c d h in
-    cond-few (suc (size c)) (m .mark && q) (withoutIdle m (firstBottleneckRemoved (not (singles (m .op) 0)) (m .op) c d)) (at m c) (omega arith) (omega arith)
+    let x = idle-size m (firstBottleneckRemoved (not (singles (m .op) 0)) (m .op) c d) in
+    let y = first-removed-size (not (singles (m .op) 0)) (m .op) c d h in
+    cond-few (suc (size c)) (m .mark && q) (withoutIdle m (firstBottleneckRemoved (not (singles (m .op) 0)) (m .op) c d)) (at m c) (omega arith)
+    (omega arith)
 
 pub each-size : (q : ℕ → Bool) (c : Forest Marked) → size (removeBottleneckInSubplanImpl q c) ≤ size c
 each-size q none = omega arith

@@ -27,13 +27,16 @@ pub record Skips (m : List ℕ) (h : ℕ) : Type 0 where
 -- k, below h, stands where a look at repartitions is due
 pub record Skipping (m : List ℕ) (o : Op) (h k : ℕ) : Type 0 where
   pub low : k < h
-  pub is : cond (samePartitioning o (opT (treeOf m k))) (skipSame o (treeOf m k) (treeOf m k .kids)) (treeOf m k) ≡ skipSame o (treeOf m h) (treeOf m h .kids)
+  pub is : cond (samePartitioning o (opT (treeOf m k))) (skipSame o (treeOf m k) (treeOf m k .kids)) (treeOf m k) ≡ skipSame o (treeOf m h)
+      (treeOf m h .kids)
 
 -- kinds 5 to 8 have one child
 passing-one : (m : List ℕ) (i : ℕ) → Arena m (i + 1) → passing (decode (slot m i .rec)) ≡ true → length (slot m i .kids) ≡ 1
-passing-one m i a e = subst (λ z. FitsA z (length (slot m i .kids))) (pass-one (decode (slot m i .rec)) e) (children-fit (decode (slot m i .rec)) (length (slot m i .kids)) (counted m i a))
+passing-one m i a e = subst (λ z. FitsA z (length (slot m i .kids))) (pass-one (decode (slot m i .rec)) e)
+    (children-fit (decode (slot m i .rec)) (length (slot m i .kids)) (counted m i a))
 
-first-skip : (o : Op) (d : Tree) (m : List ℕ) (hs : List ℕ) → 0 < length hs → skipSame o d (forest m hs) ≡ cond (samePartitioning o (opT (treeOf m (getD hs 0 0)))) (skipSame o (treeOf m (getD hs 0 0)) (treeOf m (getD hs 0 0) .kids)) (treeOf m (getD hs 0 0))
+first-skip : (o : Op) (d : Tree) (m : List ℕ) (hs : List ℕ) → 0 < length hs → skipSame o d (forest m hs) ≡ cond
+    (samePartitioning o (opT (treeOf m (getD hs 0 0)))) (skipSame o (treeOf m (getD hs 0 0)) (treeOf m (getD hs 0 0) .kids)) (treeOf m (getD hs 0 0))
 unfolding forest
 first-skip o d m [] l = absurd (omega arith)
 first-skip o d m (h ∷ hs) l = refl
@@ -52,7 +55,8 @@ module _ (m : List ℕ) (o : Op) (h : ℕ) (a : Arena m (index h + 1)) (p : pass
       let z = first-skip o (treeOf m h) m (slot m (index h) .kids) (omega arith) in
       record {
         low = omega arith;
-        is = ap (λ c. cond (samePartitioning o (opT (treeOf m c))) (skipSame o (treeOf m c) (treeOf m c .kids)) (treeOf m c)) e ∙ sym z ∙ ap (λ t. skipSame o (treeOf m h) (t .kids)) (sym (tree-of m h a));
+        is = ap (λ c. cond (samePartitioning o (opT (treeOf m c))) (skipSame o (treeOf m c) (treeOf m c .kids)) (treeOf m c)) e ∙ sym z
+            ∙ ap (λ t. skipSame o (treeOf m h) (t .kids)) (sym (tree-of m h a));
       }
 
 module _ (m : List ℕ) (h : ℕ) (p : Skips m h) (o : Op) where
@@ -73,13 +77,20 @@ module _ (m : List ℕ) (h : ℕ) (p : Skips m h) (o : Op) where
       same-is : samePartitioning o (opT (treeOf m k)) ≡ b
       same-is = ap (samePartitioning o) op-is ∙ sym e
 
-      pub skip-asks-more : b ≡ true → ((index k + 1) * slotSize ≤ length m) × (0 < children (slot m (index k) .rec)) × (children (slot m (index k) .rec) ≤ 8)
+      pub skip-asks-more : b ≡ true → ((index k + 1) * slotSize ≤ length m) × (0 < children (slot m (index k) .rec))
+          × (children (slot m (index k) .rec) ≤ 8)
       skip-asks-more t = down-asks m o k older (part-pass o (opT (treeOf m k)) (same-is ∙ t))
 
       pub skip-more : b ≡ true → (j : ℕ) → j ≡ getD (slot m (index k) .kids) 0 0 → (j < k) × Skipping m o h j
       skip-more t j f =
-          let d = down m o k older (part-pass o (opT (treeOf m k)) (same-is ∙ t)) j f in let x = d .low in let y = q .low in
-          (x, record { low = omega arith; is = d .is ∙ ap (λ x. cond x (skipSame o (treeOf m k) (treeOf m k .kids)) (treeOf m k)) (sym (same-is ∙ t)) ∙ q .is })
+          let d = down m o k older (part-pass o (opT (treeOf m k)) (same-is ∙ t)) j f in let x = d .low in let y = q .low in (
+            x,
+            record {
+              low = omega arith;
+              is = d .is ∙ ap (λ x. cond x (skipSame o (treeOf m k) (treeOf m k .kids)) (treeOf m k)) (sym (same-is ∙ t))
+                  ∙ q .is;
+            },
+          )
 
       pub skip-end : b ≡ false → treeOf m k ≡ skipSame o (treeOf m h) (treeOf m h .kids)
       skip-end t = ap (λ x. cond x (skipSame o (treeOf m k) (treeOf m k .kids)) (treeOf m k)) (sym (same-is ∙ t)) ∙ q .is

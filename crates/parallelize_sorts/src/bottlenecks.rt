@@ -33,7 +33,8 @@ ghost use Rattle.parallelize_sorts.specs.Removing.{openOne, Opens};
 // The first tree below the coalesce at h, past repartitions that are equal to the node with the record r.
 fn skip_same(m: &[u8], r: &[u8], h: usize) -> usize
     requires { ⌜ Proper (now r) × Skips (now m) h ⌝ }
-    ensures { λ k. ⌜ (k < h) × (treeOf (now (m .entry)) k ≡ skipSame (decode (now (r .entry))) (treeOf (now (m .entry)) h) (treeOf (now (m .entry)) h .kids)) ⌝ }
+    ensures { λ k. ⌜ (k < h) × (treeOf (now (m .entry)) k ≡ skipSame (decode (now (r .entry))) (treeOf (now (m .entry)) h)
+        (treeOf (now (m .entry)) h .kids)) ⌝ }
 {
     let mut k = child(m, h / 2, 0);
     while same_partitioning(r, record_at(m, k / 2)) {
@@ -45,7 +46,8 @@ fn skip_same(m: &[u8], r: &[u8], h: usize) -> usize
 // Whether the first child of node i, which has the record r, is a coalesce that can be taken out.
 fn removes_first(m: &[u8], r: &[u8], i: usize) -> bool
     requires { ⌜ Arena (now m) (i + 1) × (now r ≡ slot (now m) i .rec) ⌝ }
-    ensures { λ b. ⌜ b ≡ firstIs bottleneck (forest (now (m .entry)) (slot (now (m .entry)) i .kids)) && not (singles (decode (slot (now (m .entry)) i .rec)) 0) ⌝ }
+    ensures { λ b. ⌜ b ≡ firstIs bottleneck (forest (now (m .entry)) (slot (now (m .entry)) i .kids))
+        && not (singles (decode (slot (now (m .entry)) i .rec)) 0) ⌝ }
 {
     if child_count(m, i) == 0 {
         return false;
@@ -88,7 +90,8 @@ fn is_idle(m: &[u8], r: &[u8], ks: &[usize]) -> bool
 // The node with the record r put back over the children ks, marked; where it is idle, its child. Slot i holds it as it was.
 fn without_idle(m: &mut [u8], u: usize, r: &[u8], ks: &[usize], i: usize) -> At
     requires { ⌜ Puts (now m) u (now r) (now ks) × (i < u) ⌝ }
-    ensures { λ a. ⌜ Grown (now (m .entry)) u (now (m .exit)) a (withoutIdle (record { op = decode (now (r .entry)); mark = true }) (forest (now (m .entry)) (now (ks .entry)))) (u + 1) ⌝ }
+    ensures { λ a. ⌜ Grown (now (m .entry)) u (now (m .exit)) a
+        (withoutIdle (record { op = decode (now (r .entry)); mark = true }) (forest (now (m .entry)) (now (ks .entry)))) (u + 1) ⌝ }
 {
     if is_idle(m, r, ks) {
         return At {
@@ -106,7 +109,9 @@ fn without_idle(m: &mut [u8], u: usize, r: &[u8], ks: &[usize], i: usize) -> At
 // Node i, with the record r, whose first child, a coalesce, gives its place to what stands below it.
 fn lift_first(m: &mut [u8], u: usize, r: &[u8], i: usize) -> At
     requires { ⌜ Lifts (now m) u i (now r) ⌝ }
-    ensures { λ a. ⌜ Grown (now (m .entry)) u (now (m .exit)) a (withoutIdle (record { op = decode (now (r .entry)); mark = true }) (liftFirst (decode (now (r .entry))) (forest (now (m .entry)) (slot (now (m .entry)) i .kids)))) (u + 1) ⌝ }
+    ensures { λ a. ⌜ Grown (now (m .entry)) u (now (m .exit)) a
+        (withoutIdle (record { op = decode (now (r .entry)); mark = true })
+        (liftFirst (decode (now (r .entry))) (forest (now (m .entry)) (slot (now (m .entry)) i .kids)))) (u + 1) ⌝ }
 {
     let n = child_count(m, i);
     let k = child(m, i, 0);
@@ -147,7 +152,8 @@ fn remove_bottleneck_in_subplan_impl(m: &mut [u8], u: usize, h: usize, removable
 // What stands below the node with the record r and the only child at h, without bottlenecks: the caller takes the node itself out.
 pub fn remove_bottleneck_in_subplan(m: &mut [u8], u: usize, r: &[u8], h: usize) -> At
     requires { ⌜ Opens (now m) u h × Proper (now r) ⌝ }
-    ensures { λ a. ⌜ Grown (now (m .entry)) u (now (m .exit)) a (withoutSelf (over (decode (now (r .entry))) false (treeOf (now (m .entry)) h))) (u + sizeT (treeOf (now (m .entry)) h)) ⌝ }
+    ensures { λ a. ⌜ Grown (now (m .entry)) u (now (m .exit)) a (withoutSelf (over (decode (now (r .entry))) false (treeOf (now (m .entry)) h)))
+        (u + sizeT (treeOf (now (m .entry)) h)) ⌝ }
 {
     if is_bottleneck(record_at(m, h / 2)) {
         let k = skip_same(m, r, h);

@@ -52,7 +52,9 @@ pub fn sorts_one_stream(m: &[u8], r: &[u8], h: usize) -> bool
 // The sort or merge with the record r over the tree at h: a merge over a sort of what is left below it.
 pub fn cascade(m: &mut [u8], u: usize, r: &[u8], h: usize) -> At
     requires { ⌜ Rebuilds (now m) u (now r) h × (cascades (decode (now r)) (fact (treeOf (now m) h)) ≡ true) ⌝ }
-    ensures { λ a. ⌜ Grown (now (m .entry)) u (now (m .exit)) a (parallelBy (shape (decode (now (r .entry)))) (over (decode (now (r .entry))) false (treeOf (now (m .entry)) h))) (u + sizeT (treeOf (now (m .entry)) h) + 2) ⌝ }
+    ensures { λ a. ⌜ Grown (now (m .entry)) u (now (m .exit)) a
+        (parallelBy (shape (decode (now (r .entry)))) (over (decode (now (r .entry))) false (treeOf (now (m .entry)) h)))
+        (u + sizeT (treeOf (now (m .entry)) h) + 2) ⌝ }
 {
     let e = get_sort_exprs(r);
     let keys = e.keys;
@@ -66,7 +68,9 @@ pub fn cascade(m: &mut [u8], u: usize, r: &[u8], h: usize) -> At
 // The coalesce with the record r over the tree at h: over what is left below it.
 pub fn coalesce_again(m: &mut [u8], u: usize, r: &[u8], h: usize) -> At
     requires { ⌜ Rebuilds (now m) u (now r) h × (isCoalescePartitions (decode (now r)) ≡ true) ⌝ }
-    ensures { λ a. ⌜ Grown (now (m .entry)) u (now (m .exit)) a (parallelBy (shape (decode (now (r .entry)))) (over (decode (now (r .entry))) false (treeOf (now (m .entry)) h))) (u + sizeT (treeOf (now (m .entry)) h) + 2) ⌝ }
+    ensures { λ a. ⌜ Grown (now (m .entry)) u (now (m .exit)) a
+        (parallelBy (shape (decode (now (r .entry)))) (over (decode (now (r .entry))) false (treeOf (now (m .entry)) h)))
+        (u + sizeT (treeOf (now (m .entry)) h) + 2) ⌝ }
 {
     let f = fetch(r);
     let a = remove_bottleneck_in_subplan(m, u, r, h);

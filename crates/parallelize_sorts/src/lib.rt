@@ -45,7 +45,9 @@ fn stay(m: &mut [u8], u: usize, r: &[u8], ks: &[usize], i: usize, b: bool) -> At
 // The step at an open node. If the first child has no connection, it only gets its mark.
 pub fn parallelize_sorts(m: &mut [u8], u: usize, r: &[u8], ks: &[usize], i: usize) -> At
     requires { ⌜ Opened (now m) u (now r) (now ks) i ⌝ }
-    ensures { λ a. ⌜ Grown (now (m .entry)) u (now (m .exit)) a (parallelizeSorts (node (decode (now (r .entry))) false (forest (now (m .entry)) (now (ks .entry))))) (u + stepRoom (suc (size (forest (now (m .entry)) (now (ks .entry)))))) ⌝ }
+    ensures { λ a. ⌜ Grown (now (m .entry)) u (now (m .exit)) a
+        (parallelizeSorts (node (decode (now (r .entry))) false (forest (now (m .entry)) (now (ks .entry)))))
+        (u + stepRoom (suc (size (forest (now (m .entry)) (now (ks .entry)))))) ⌝ }
 {
     let b = update_coalesce_ctx_children(r, ks);
     if !first_connected(ks) {

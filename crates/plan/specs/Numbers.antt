@@ -31,7 +31,8 @@ kindNumber PartialSort = 14
 
 -- The kind of a number; a number that no kind has is read as 14, and refused before anything is read from it
 abbrev pub kinds : List Kind
-kinds = PartialSort ∷ Source ∷ Filter ∷ Projection ∷ Union ∷ Repartition ∷ Coalesce ∷ Sort ∷ Merge ∷ GlobalLimit ∷ LocalLimit ∷ SortMergeJoin ∷ HashJoin ∷ OutputRequirement ∷ []
+kinds = PartialSort ∷ Source ∷ Filter ∷ Projection ∷ Union ∷ Repartition ∷ Coalesce ∷ Sort ∷ Merge ∷ GlobalLimit ∷ LocalLimit ∷ SortMergeJoin ∷ HashJoin
+    ∷ OutputRequirement ∷ []
 
 unfoldable pub kindOf : ℕ → Kind
 kindOf k = getD kinds k PartialSort

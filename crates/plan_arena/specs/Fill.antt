@@ -89,17 +89,22 @@ module _ (s : List ℕ) (c room : ℕ) (a : Fillable s c room) where
     fill-fine k e = let f = found in (length-take-le k (drop t w) (omega arith) ∙ e, below-take (2 * u) k (drop t w) (p .below))
 
     -- each node's tree is a part of the new forest
-    part-more : (k j : ℕ) → k ≡ childrenAt s (i - 1) → j < u + 1 → Dec (j ≡ u) → Part (treeAt (nodeOf (recordAt s (i - 1)) (take k (drop t w)) ∷ held m u) (2 * j)) (build (recordAt s (i - 1) ∷ rest s c i))
+    part-more : (k j : ℕ) → k ≡ childrenAt s (i - 1) → j < u + 1 → Dec (j ≡ u)
+        → Part (treeAt (nodeOf (recordAt s (i - 1)) (take k (drop t w)) ∷ held m u) (2 * j)) (build (recordAt s (i - 1) ∷ rest s c i))
     unfolding trees
     part-more k j e v (yes q) =
         let ns : List Node = held m u in
         let r : List ℕ = recordAt s (i - 1) in
-        let new : at leaf (trees (nodeOf r (take k (drop t w)) ∷ ns)) (index (2 * j)) ≡ planted (trees ns) (nodeOf r (take k (drop t w))) = at-new leaf _ (trees ns) (index (2 * j)) (index-even j ∙ q ∙ sym (length-held m u) ∙ sym (length-trees ns)) in
-        let kids : forest (trees ns) (take k (drop t w)) ≡ takeF (children r) (build (rest s c i)) = forest-take (trees ns) k (drop t w) ∙ ap₂ takeF e (p .are) in
+        let new : at leaf (trees (nodeOf r (take k (drop t w)) ∷ ns)) (index (2 * j)) ≡ planted (trees ns) (nodeOf r (take k (drop t w))) =
+        at-new leaf _ (trees ns) (index (2 * j)) (index-even j ∙ q ∙ sym (length-held m u) ∙ sym (length-trees ns)) in
+        let kids : forest (trees ns) (take k (drop t w)) ≡ takeF (children r) (build (rest s c i)) = forest-take (trees ns) k (drop t w)
+        ∙ ap₂ takeF e (p .are) in
         subst (λ x. Part x (build (r ∷ rest s c i))) (sym (ap (λ x. beside x none) new ∙ ap (λ f. tree r f none) kids)) here
     part-more k j e v (no f) =
         let l : j < u = omega arith in
-        subst (λ x. Part x (build (recordAt s (i - 1) ∷ rest s c i))) (sym (ext-tree {a = held m u} {b = nodeOf (recordAt s (i - 1)) (take k (drop t w)) ∷ held m u} (more same) (2 * j) (rw (index-even j, length-held) l)))
+        subst (λ x. Part x (build (recordAt s (i - 1) ∷ rest s c i)))
+        (sym (ext-tree {a = held m u} {b = nodeOf (recordAt s (i - 1)) (take k (drop t w)) ∷ held m u} (more same) (2 * j)
+        (rw (index-even j, length-held) l)))
         (part-new (recordAt s (i - 1)) (childrenAt s (i - 1)) (p .parts j l))
 
     pub fill-more : (k : ℕ) (m' : List ℕ) → k ≡ childrenAt s (i - 1) → held m' (u + 1) ≡ nodeOf (recordAt s (i - 1)) (take k (drop t w)) ∷ held m u
@@ -113,8 +118,14 @@ module _ (s : List ℕ) (c room : ℕ) (a : Fillable s c room) where
         let st : drop (t + k - 1) (set w (t + k - 1) (2 * u)) ≡ 2 * u ∷ drop k ws = pushed s c i t w z (p .stack) (a .count) (a .shape) k e (2 * u) in
         let back : rest s c (i - 1) ≡ recordAt s (i - 1) ∷ rest s c i = rest-back s c i z (omega arith) in
         let bk : Below (2 * u) (drop k ws) = below-drop (2 * u) k ws (p .below) in
-        let fine : GoodNode u node = record { below = fill-fine k e .1; long = long-record (i - 1) (omega arith); count = fill-fine k e .0; few = few-children (i - 1) (omega arith) } in
-        let new : forest (trees (node ∷ ns)) (2 * u ∷ drop k ws) ≡ tree (recordAt s (i - 1)) (forest (trees ns) (take k ws)) (forest (trees ns) (drop k ws)) =
+        let fine : GoodNode u node = record {
+          below = fill-fine k e .1;
+          long = long-record (i - 1) (omega arith);
+          count = fill-fine k e .0;
+          few = few-children (i - 1) (omega arith);
+        } in
+        let new : forest (trees (node ∷ ns)) (2 * u ∷ drop k ws) ≡ tree (recordAt s (i - 1)) (forest (trees ns) (take k ws))
+        (forest (trees ns) (drop k ws)) =
         (ap (λ (x : ℕ). forest (trees (node ∷ ns)) (2 * x ∷ drop k ws)) (sym lu) ∙ forest-new ns node (drop k ws) (rw lu bk)) in
         record {
           new = omega arith;
@@ -155,7 +166,8 @@ module _ (s : List ℕ) (c room : ℕ) (a : Fillable s c room) where
       let d = length-drop t w in
       let lt : t < 126 = omega arith in
       let d₁ = length-drop (suc t) w in
-      let one : drop t w ≡ getD w t 0 ∷ [] = drop-cons w t 0 (omega arith) ∙ ap (λ (x : List ℕ). getD w t 0 ∷ x) (drop-of-length-le w {i = suc t} (omega arith)) in
+      let one : drop t w ≡ getD w t 0 ∷ [] = drop-cons w t 0 (omega arith) ∙ ap (λ (x : List ℕ). getD w t 0 ∷ x)
+      (drop-of-length-le w {i = suc t} (omega arith)) in
       let c₀ : c - 0 ≡ recordCount s = omega arith in
       let whole : build (rest s c i) ≡ treeOf s = ap (λ (x : ℕ). build (rest s c x)) i₀ ∙ ap (λ (x : ℕ). build (span (recordAt s) 0 x)) c₀ in (
         lt,

@@ -35,7 +35,8 @@ pub record Pushed (ks : List ℕ) (t : ℕ) (w₀ : List ℕ) (j top : ℕ) (w :
 pub pushed-none : (ks : List ℕ) (t : ℕ) (w : List ℕ) → Pushed ks t w (length ks) t w
 pushed-none ks t w = record { low = omega arith; here = omega arith; wide = refl; are = ap (λ (l : List ℕ). l ++ drop t w) (sym (drop-length ks)) }
 
-pub pushed-more : (ks : List ℕ) (t : ℕ) (w₀ : List ℕ) (j top : ℕ) (w : List ℕ) (x : ℕ) → 0 < j → length ks ≤ t → t ≤ length w₀ → x ≡ getD ks (j - 1) 0 → Pushed ks t w₀ j top w
+pub pushed-more : (ks : List ℕ) (t : ℕ) (w₀ : List ℕ) (j top : ℕ) (w : List ℕ) (x : ℕ) → 0 < j → length ks ≤ t → t ≤ length w₀ → x ≡ getD ks (j - 1) 0
+    → Pushed ks t w₀ j top w
     → Pushed ks t w₀ (j - 1) (top - 1) (set w (top - 1) x)
 pushed-more ks t w₀ j top w x z f h e p =
     let a = p .low in let b = p .here in let l = p .wide in
@@ -48,7 +49,8 @@ pushed-more ks t w₀ j top w x z f h e p =
       are = push-top w top x (omega arith) (omega arith) ∙ ap (λ (q : List ℕ). x ∷ q) (p .are) ∙ ap (λ (q : List ℕ). q ++ drop t w₀) (sym d);
     }
 
-pub pushed-end : (ks : List ℕ) (t : ℕ) (w₀ : List ℕ) (j top : ℕ) (w : List ℕ) → j ≤ 0 → Pushed ks t w₀ j top w → (top + length ks ≡ t) × (drop top w ≡ ks ++ drop t w₀)
+pub pushed-end : (ks : List ℕ) (t : ℕ) (w₀ : List ℕ) (j top : ℕ) (w : List ℕ) → j ≤ 0 → Pushed ks t w₀ j top w → (top + length ks ≡ t)
+    × (drop top w ≡ ks ++ drop t w₀)
 pushed-end ks t w₀ j top w h p =
     let e : j ≡ 0 = omega arith in
     let b = p .here in
@@ -65,7 +67,8 @@ unfolding forest
 nodes-append ts [] y = refl
 nodes-append ts (k ∷ x) y =
     let t : Tree = at leaf ts (index k) in
-    ap (λ (l : List (List ℕ)). t .root ∷ (nodes (t .below) ++ l)) (nodes-append ts x y) ∙ ap (λ (l : List (List ℕ)). t .root ∷ l) (sym (append-assoc (nodes (t .below)) (nodes (forest ts x)) (nodes (forest ts y))))
+    ap (λ (l : List (List ℕ)). t .root ∷ (nodes (t .below) ++ l)) (nodes-append ts x y) ∙ ap (λ (l : List (List ℕ)). t .root ∷ l)
+    (sym (append-assoc (nodes (t .below)) (nodes (forest ts x)) (nodes (forest ts y))))
 
 size-append : (ts : List Tree) (x y : List ℕ) → size (forest ts (x ++ y)) ≡ size (forest ts x) + size (forest ts y)
 unfolding forest
@@ -107,7 +110,8 @@ module _ (m : List ℕ) (u i : ℕ) (rs₀ : List ℕ) (a : Flattens m u i (leng
   pub flat-start : (w : List ℕ) → length w ≡ 126 → Flat m u i 0 125 (set w 125 i) rs₀ rs₀
   unfolding forest
   flat-start w l =
-      let e : drop 125 (set w 125 i) ≡ i ∷ [] = push-top w 126 i (omega arith) (omega arith) ∙ ap (λ (x : List ℕ). i ∷ x) (ap (λ (n : ℕ). drop n w) (sym l) ∙ drop-length w) in
+      let e : drop 125 (set w 125 i) ≡ i ∷ [] = push-top w 126 i (omega arith) (omega arith) ∙ ap (λ (x : List ℕ). i ∷ x)
+      (ap (λ (n : ℕ). drop n w) (sym l) ∙ drop-length w) in
       record {
         wide = length-set w 125 i ∙ l;
         top = omega arith;
@@ -127,7 +131,8 @@ module _ (m : List ℕ) (u i : ℕ) (rs₀ : List ℕ) (a : Flattens m u i (leng
     pub flat-here : getD w t 0 < 2 * u
     flat-here = (rw stack at (p .below)) .0
 
-    grown : forest (trees (held m u)) (drop t w) ≡ tree (slot m (index k) .rec) (forest (trees (held m u)) (slot m (index k) .kids)) (forest (trees (held m u)) (drop (t + 1) w))
+    grown : forest (trees (held m u)) (drop t w) ≡ tree (slot m (index k) .rec) (forest (trees (held m u)) (slot m (index k) .kids))
+        (forest (trees (held m u)) (drop (t + 1) w))
     grown = ap (forest (trees (held m u))) stack ∙ first-tree m u k (drop (t + 1) w) (a .good) flat-here
 
     pub flat-fine : GoodNode (index (getD w t 0)) (slot m (index (getD w t 0)))
@@ -145,7 +150,8 @@ module _ (m : List ℕ) (u i : ℕ) (rs₀ : List ℕ) (a : Flattens m u i (leng
     pub flat-next : n < size (treeAt (held m u) i)
     flat-next = let l = p .left in let s = ap size grown in omega arith
 
-    pub flat-more : (t' : ℕ) (w' p' : List ℕ) → length w' ≡ length w → t' ≤ 126 → drop t' w' ≡ slot m (index (getD w t 0)) .kids ++ drop (t + 1) w → p' ≡ slot m (index (getD w t 0)) .rec
+    pub flat-more : (t' : ℕ) (w' p' : List ℕ) → length w' ≡ length w → t' ≤ 126 → drop t' w' ≡ slot m (index (getD w t 0)) .kids ++ drop (t + 1) w
+        → p' ≡ slot m (index (getD w t 0)) .rec
         → Flat m u i (n + 1) t' w' rs₀ (splice rs (64 * n) 64 p')
     flat-more t' w' p' lw ht e ep =
         let l = p .left in let fr = flat-room .0 in let g = p .long in
@@ -155,7 +161,8 @@ module _ (m : List ℕ) (u i : ℕ) (rs₀ : List ℕ) (a : Flattens m u i (leng
         let lp : length p' ≡ 64 = ap length ep ∙ fine .long in
         let s = ap size grown in
         let sa = size-append (trees (held m u)) ks ws in
-        let se : size (forest (trees (held m u)) (drop t' w')) ≡ size (forest (trees (held m u)) (ks ++ ws)) = ap (λ (x : List ℕ). size (forest (trees (held m u)) x)) e in
+        let se : size (forest (trees (held m u)) (drop t' w')) ≡ size (forest (trees (held m u)) (ks ++ ws)) =
+        ap (λ (x : List ℕ). size (forest (trees (held m u)) x)) e in
         let here = flat-here in
         let q : 64 * (n + 1) ≡ 64 * n + 64 = omega arith in
         let N : List ℕ = joined (nodes (forest (trees (held m u)) (ks ++ ws))) in
@@ -177,11 +184,15 @@ module _ (m : List ℕ) (u i : ℕ) (rs₀ : List ℕ) (a : Flattens m u i (leng
         below-join b [] y p q = q .1
         below-join b (c ∷ x) y p q = (p .0, below-join b x y (p .1) q)
 
-  pub flat-end : (n t : ℕ) (w rs : List ℕ) → 126 ≤ t → Flat m u i n t w rs₀ rs → (n ≡ size (treeAt (held m u) i)) × (take (64 * n) rs ≡ joined (nodes (treeAt (held m u) i)))
+  pub flat-end : (n t : ℕ) (w rs : List ℕ) → 126 ≤ t → Flat m u i n t w rs₀ rs → (n ≡ size (treeAt (held m u) i))
+      × (take (64 * n) rs ≡ joined (nodes (treeAt (held m u) i)))
   unfolding forest
   flat-end n t w rs h p =
       let l = p .wide in
       let e : drop t w ≡ [] = drop-of-length-le w {i = t} (omega arith) in
       let s = p .left in
-      let z : size (forest (trees (held m u)) (drop t w)) ≡ 0 = ap (λ (x : List ℕ). size (forest (trees (held m u)) x)) e in
-      (omega arith, sym (append-nil (take (64 * n) rs)) ∙ ap (λ (x : List ℕ). take (64 * n) rs ++ joined (nodes (forest (trees (held m u)) x))) (sym e) ∙ p .done)
+      let z : size (forest (trees (held m u)) (drop t w)) ≡ 0 = ap (λ (x : List ℕ). size (forest (trees (held m u)) x)) e in (
+        omega arith,
+        sym (append-nil (take (64 * n) rs)) ∙ ap (λ (x : List ℕ). take (64 * n) rs ++ joined (nodes (forest (trees (held m u)) x))) (sym e)
+            ∙ p .done,
+      )

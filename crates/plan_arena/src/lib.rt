@@ -75,8 +75,10 @@ pub fn read(s: &[u8], m: &mut [u8]) -> PlanRead
 
 // The children of node k onto the stack that starts at t of w, the first on top: where it starts then.
 fn push_children(m: &[u8], k: usize, w: &mut [usize], t: usize) -> usize
-    requires { ⌜ ((k + 1) * slotSize ≤ length (now m)) × (children (slot (now m) k .rec) ≤ 8) × (children (slot (now m) k .rec) ≤ t) × (t ≤ length (now w)) ⌝ }
-    ensures { λ r. ⌜ (r + length (slot (now (m .entry)) k .kids) ≡ t) × (drop r (now (w .exit)) ≡ slot (now (m .entry)) k .kids ++ drop t (now (w .entry))) ⌝ }
+    requires { ⌜ ((k + 1) * slotSize ≤ length (now m)) × (children (slot (now m) k .rec) ≤ 8) × (children (slot (now m) k .rec) ≤ t)
+        × (t ≤ length (now w)) ⌝ }
+    ensures { λ r. ⌜ (r + length (slot (now (m .entry)) k .kids) ≡ t) × (drop r (now (w .exit)) ≡ slot (now (m .entry)) k .kids ++ drop t (now (w .entry)))
+        ⌝ }
 {
     let mut j = arena::child_count(m, k);
     let mut top = t;
@@ -91,7 +93,8 @@ fn push_children(m: &[u8], k: usize, w: &mut [usize], t: usize) -> usize
 // The records of the tree at the handle i in node order, one after the other, over the start of rs: how many.
 fn flatten(m: &[u8], u: usize, i: usize, rs: &mut [u8]) -> usize
     requires { ⌜ Flattens (now m) u i (length (now rs)) ⌝ }
-    ensures { λ n. ⌜ (n ≡ size (treeAt (held (now (m .entry)) u) i)) × (take (64 * n) (now (rs .exit)) ≡ joined (nodes (treeAt (held (now (m .entry)) u) i))) ⌝ }
+    ensures { λ n. ⌜ (n ≡ size (treeAt (held (now (m .entry)) u) i))
+        × (take (64 * n) (now (rs .exit)) ≡ joined (nodes (treeAt (held (now (m .entry)) u) i))) ⌝ }
 {
     let mut w = [0usize; 126];
     w[125] = i;
@@ -112,7 +115,8 @@ fn flatten(m: &[u8], u: usize, i: usize, rs: &mut [u8]) -> usize
 // The file of the tree at the handle i over the start of out.
 pub fn write(m: &[u8], u: usize, i: usize, out: &mut [u8]) -> Refusal
     requires { ⌜ Flattens (now m) u i 8064 ⌝ }
-    ensures { λ x. ⌜ (x ≡ writeRefusal (joined (nodes (treeAt (held (now (m .entry)) u) i))) (now (out .entry))) × (now (out .exit) ≡ written (joined (nodes (treeAt (held (now (m .entry)) u) i))) (now (out .entry))) ⌝ }
+    ensures { λ x. ⌜ (x ≡ writeRefusal (joined (nodes (treeAt (held (now (m .entry)) u) i))) (now (out .entry)))
+        × (now (out .exit) ≡ written (joined (nodes (treeAt (held (now (m .entry)) u) i))) (now (out .entry))) ⌝ }
 {
     let mut rs = [0u8; 8064];
     let n = flatten(m, u, i, &mut rs);

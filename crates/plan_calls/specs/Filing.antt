@@ -42,8 +42,15 @@ good : (m : List ℕ) (u : ℕ) → ((i : ℕ) → i < u → Proper m i) → Goo
 unfolding held
 good m zero p = tt
 good m (suc u) p =
-    let s = seen m u (p u (omega arith)) in let l = length-held m u in
-    (good m u (λ i h. p i (omega arith)), record { below = subst (λ n. Below (2 * n) (slot m u .kids)) (sym l) (s .below); long = s .long; count = sym (s .count); few = let k = s .few in let c = s .count in omega arith })
+    let s = seen m u (p u (omega arith)) in let l = length-held m u in (
+      good m u (λ i h. p i (omega arith)),
+      record {
+        below = subst (λ n. Below (2 * n) (slot m u .kids)) (sym l) (s .below);
+        long = s .long;
+        count = sym (s .count);
+        few = let k = s .few in let c = s .count in omega arith;
+      },
+    )
 
 root-count : (m hs : List ℕ) → length (roots (strip (forest m hs))) ≡ length hs
 unfolding forest
@@ -58,13 +65,15 @@ module _ (m : List ℕ) (u₀ : ℕ) (p : (i : ℕ) → i < u₀ → Proper m i)
       → records.forest (records.trees (held m u)) hs ≡ recorded (strip (forest m hs))
   unfolding records.forest forest
   kids-are u [] b f = refl
-  kids-are u (h ∷ hs) b f = let k = b .0 in ap₂ (λ (t : records.Tree) (r : Forest (List ℕ)). records.beside t r) (f (index h) (omega arith)) (kids-are u hs (b .1) f)
+  kids-are u (h ∷ hs) b f = let k = b .0 in ap₂ (λ (t : records.Tree) (r : Forest (List ℕ)). records.beside t r) (f (index h) (omega arith))
+      (kids-are u hs (b .1) f)
 
   here-is : (u : ℕ) → u < u₀ → ((i : ℕ) → i < u → at records.leaf (records.trees (held m u)) i ≡ asTree (treeIn m i))
       → records.planted (records.trees (held m u)) (slot m u) ≡ asTree (treeIn m u)
   here-is u h f =
       let s = seen m u (p u h) in
-      let e : slot m u .rec ≡ encode (length (roots (strip (forest m (slot m u .kids))))) (decode (slot m u .rec)) = s .canon ∙ ap (λ n. encode n (decode (slot m u .rec))) (sym (root-count m (slot m u .kids))) in
+      let e : slot m u .rec ≡ encode (length (roots (strip (forest m (slot m u .kids))))) (decode (slot m u .rec)) =
+      s .canon ∙ ap (λ n. encode n (decode (slot m u .rec))) (sym (root-count m (slot m u .kids))) in
       let k = kids-are u (slot m u .kids) (s .below) f in
       (λ i. record { root = e i; below = k i }) ∙ ap asTree (sym (s .tree))
 
@@ -76,7 +85,8 @@ module _ (m : List ℕ) (u₀ : ℕ) (p : (i : ℕ) → i < u₀ → Proper m i)
       n : length (records.trees (held m u)) ≡ u
       n = length-trees (held m u) ∙ length-held m u
 
-      go : Dec (i ≡ u) → ((j : ℕ) → j < u → at records.leaf (records.trees (held m u)) j ≡ asTree (treeIn m j)) → at records.leaf (records.trees (slot m u ∷ held m u)) i ≡ asTree (treeIn m i)
+      go : Dec (i ≡ u) → ((j : ℕ) → j < u → at records.leaf (records.trees (held m u)) j ≡ asTree (treeIn m j))
+          → at records.leaf (records.trees (slot m u ∷ held m u)) i ≡ asTree (treeIn m i)
       go (yes e) f = at-new records.leaf _ (records.trees (held m u)) i (e ∙ sym n) ∙ here-is u (omega arith) f ∙ ap (λ j. asTree (treeIn m j)) (sym e)
       go (no q) f = at-old records.leaf _ (records.trees (held m u)) i (let x = n in omega arith) ∙ f i (omega arith)
 

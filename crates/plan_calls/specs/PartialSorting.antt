@@ -31,31 +31,39 @@ set-size n p none = refl
 set-size zero p (tree o c r) = refl
 set-size (suc n) p (tree o c r) = go (ltb n (size c)) (set-size n p c) (set-size (n - size c) p r)
   where
-    go : (b : Bool) → size (setNode n p c) ≡ size c → size (setNode (n - size c) p r) ≡ size r → size (cond b (tree o (setNode n p c) r) (tree o c (setNode (n - size c) p r))) ≡ size (tree o c r)
+    go : (b : Bool) → size (setNode n p c) ≡ size c → size (setNode (n - size c) p r) ≡ size r
+        → size (cond b (tree o (setNode n p c) r) (tree o c (setNode (n - size c) p r))) ≡ size (tree o c r)
     go true x y = omega arith
     go false x y = omega arith
 
-module _ (m : List ℕ) (u h : ℕ) (p : Formed m u h) (few : u ≤ 126) (m' : List ℕ) (l : length m' ≡ length m) (a : Arena m' u) (k : (v : ℕ) → held m' v ≡ held m v) (i : ℕ) (ei : i ≡ sizeT (treeOf m' h)) where
+module _ (m : List ℕ) (u h : ℕ) (p : Formed m u h) (few : u ≤ 126) (m' : List ℕ) (l : length m' ≡ length m) (a : Arena m' u)
+    (k : (v : ℕ) → held m' v ≡ held m v) (i : ℕ) (ei : i ≡ sizeT (treeOf m' h)) where
   same-tree : treeOf m' h ≡ treeOf m h
   same-tree = tree-held m m' h k
 
   -- too little room: then the arena is not a full one
-  pub partial-no-room : (n : ℕ) (out : List ℕ) → length m' / slotSize < u + i → CalledAs NoRoom (resultOf (PartialSort n) (planT (treeOf m h))) out out (length m)
+  pub partial-no-room : (n : ℕ) (out : List ℕ) → length m' / slotSize < u + i → CalledAs NoRoom (resultOf (PartialSort n) (planT (treeOf m h))) out out
+      (length m)
   partial-no-room n out g = let s = p .size in let q = ap sizeT same-tree in (refl, omega arith)
 
   pub partial-asks : u + i ≤ length m' / slotSize → Sorting m' u h
   partial-asks g = let s = p .size in let q = ap sizeT same-tree in record { arena = a; here = p .here; room = omega arith; small = omega arith }
 
   module _ (n : ℕ) (out : List ℕ) where
-    pub partial-refuses : (x : Refusal) → partiallySorted n (planT (treeOf m' h)) ≡ refused x → (j : ℕ) → j ≡ numberOf x → CalledAs (Done j false) (resultOf (PartialSort n) (planT (treeOf m h))) out out (length m)
+    pub partial-refuses : (x : Refusal) → partiallySorted n (planT (treeOf m' h)) ≡ refused x → (j : ℕ) → j ≡ numberOf x
+        → CalledAs (Done j false) (resultOf (PartialSort n) (planT (treeOf m h))) out out (length m)
     partial-refuses x e j q =
-        subst (λ R. CalledAs (Done j false) R out out (length m)) (sym (ap rewritten (ap (λ t. partiallySorted n (planT t)) (sym same-tree) ∙ e))) (q, refl, refl)
+        subst (λ R. CalledAs (Done j false) R out out (length m)) (sym (ap rewritten (ap (λ t. partiallySorted n (planT t)) (sym same-tree) ∙ e)))
+        (q, refl, refl)
 
     module _ (m'' : List ℕ) (b : At) (d : Became m' u m'' h n b) where
       pub partial-small : sizeT (treeOf m'' (b .root)) ≤ 126
       partial-small =
-          let x = plan-size (treeOf m'' (b .root)) in let y = ap size (d .plan) in let z = set-size n (d .op) (planT (treeOf m' h)) in let w = plan-size (treeOf m' h) in let q = ap sizeT same-tree in let s = p .size in
+          let x = plan-size (treeOf m'' (b .root)) in let y = ap size (d .plan) in let z = set-size n (d .op) (planT (treeOf m' h)) in
+          let w = plan-size (treeOf m' h) in let q = ap sizeT same-tree in let s = p .size in
           omega arith
 
-      pub partial-wrote : (r : Called) (out' : List ℕ) → ((room : ℕ) → CalledAs r (gives (planT (treeOf m'' (b .root)))) out out' room) → CalledAs r (resultOf (PartialSort n) (planT (treeOf m h))) out out' (length m)
-      partial-wrote r out' f = subst (λ R. CalledAs r R out out' (length m)) (sym (ap rewritten (ap (λ t. partiallySorted n (planT t)) (sym same-tree) ∙ d .is))) (f (length m))
+      pub partial-wrote : (r : Called) (out' : List ℕ) → ((room : ℕ) → CalledAs r (gives (planT (treeOf m'' (b .root)))) out out' room)
+          → CalledAs r (resultOf (PartialSort n) (planT (treeOf m h))) out out' (length m)
+      partial-wrote r out' f = subst (λ R. CalledAs r R out out' (length m))
+          (sym (ap rewritten (ap (λ t. partiallySorted n (planT t)) (sym same-tree) ∙ d .is))) (f (length m))

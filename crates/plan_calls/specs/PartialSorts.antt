@@ -50,9 +50,11 @@ module _ (m : List ℕ) (u i : ℕ) (a : Loaded m u) (h : i < u) where
     abbrev t : Tree
     t = treeOf m (getD (slot m i .kids) j 0)
 
-    split : hasPartialSort (strip (forest m (drop j (slot m i .kids)))) ≡ partialT (treeIn m (index (getD (slot m i .kids) j 0))) || hasPartialSort (strip (forest m (drop (suc j) (slot m i .kids))))
+    split : hasPartialSort (strip (forest m (drop j (slot m i .kids)))) ≡ partialT (treeIn m (index (getD (slot m i .kids) j 0)))
+        || hasPartialSort (strip (forest m (drop (suc j) (slot m i .kids))))
     unfolding forest
-    split = ap (λ k. hasPartialSort (strip (forest m k))) (drop-cons ks j 0 l) ∙ assoc (eqb (code (opT t)) 14) (hasPartialSort (strip (t .kids))) (hasPartialSort (strip (forest m (drop (suc j) ks))))
+    split = ap (λ k. hasPartialSort (strip (forest m k))) (drop-cons ks j 0 l) ∙ assoc (eqb (code (opT t)) 14) (hasPartialSort (strip (t .kids)))
+        (hasPartialSort (strip (forest m (drop (suc j) ks))))
       where
         assoc : (a b c : Bool) → a || (b || c) ≡ (a || b) || c
         assoc true b c = refl
@@ -63,16 +65,23 @@ module _ (m : List ℕ) (u i : ℕ) (a : Loaded m u) (h : i < u) where
 
     pub looking-found : (b : Bool) → b ≡ partialT (treeIn m (index (getD (slot m i .kids) j 0))) → b ≡ true → true ≡ partialT (treeIn m i)
     looking-found b e z =
-        sym (tree-is ∙ ap (λ x. eqb (code (decode (slot m i .rec))) 14 || x) (q .is ∙ split ∙ ap (λ x. x || hasPartialSort (strip (forest m (drop (suc j) ks)))) (sym e ∙ z)) ∙ or-true (eqb (code (decode (slot m i .rec))) 14))
+        sym (tree-is ∙ ap (λ x. eqb (code (decode (slot m i .rec))) 14 || x)
+        (q .is ∙ split ∙ ap (λ x. x || hasPartialSort (strip (forest m (drop (suc j) ks)))) (sym e ∙ z))
+        ∙ or-true (eqb (code (decode (slot m i .rec))) 14))
       where
         or-true : (b : Bool) → b || true ≡ true
         or-true true = refl
         or-true false = refl
 
     pub looking-more : (b : Bool) → b ≡ partialT (treeIn m (index (getD (slot m i .kids) j 0))) → b ≡ false → Looking m (slot m i .kids) (j + 1)
-    looking-more b e z = record { low = omega arith; is = rw (add-one j) (q .is ∙ split ∙ ap (λ x. x || hasPartialSort (strip (forest m (drop (suc j) ks)))) (sym e ∙ z)) }
+    looking-more b e z = record {
+      low = omega arith;
+      is = rw (add-one j) (q .is ∙ split ∙ ap (λ x. x || hasPartialSort (strip (forest m (drop (suc j) ks)))) (sym e ∙ z));
+    }
 
-  pub looking-all : (j : ℕ) → length (slot m i .kids) ≤ j → Looking m (slot m i .kids) j → eqb (getD (slot m i .rec) 0 0) 14 ≡ false → false ≡ partialT (treeIn m i)
+  pub looking-all : (j : ℕ) → length (slot m i .kids) ≤ j → Looking m (slot m i .kids) j → eqb (getD (slot m i .rec) 0 0) 14 ≡ false
+      → false ≡ partialT (treeIn m i)
   unfolding forest
   looking-all j l q e =
-      sym (tree-is ∙ ap₂ _||_ (ap (λ n. eqb n 14) (sym code-is) ∙ e) (q .is ∙ ap (λ k. hasPartialSort (strip (forest m k))) (drop-of-length-le ks {i = j} l)))
+      sym (tree-is ∙ ap₂ _||_ (ap (λ n. eqb n 14) (sym code-is) ∙ e)
+      (q .is ∙ ap (λ k. hasPartialSort (strip (forest m k))) (drop-of-length-le ks {i = j} l)))

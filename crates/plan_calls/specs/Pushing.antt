@@ -48,11 +48,13 @@ alone D false false (stopped e) = refl
 alone D false false (counted d m) = refl
 
 count-plan : (n : ℕ) (t : Tree) → countDown (λ i. atRoot) n (planT t) ≡ bind (countedT atRoot n t) (λ y k. counted (plant y none) k)
-count-plan n t = alone (decided atRoot t) (constantSort (opT t) (strip (t .kids))) (overflows (decided atRoot t) n) (countDown (decided atRoot t .reqs) (afterwards (decided atRoot t) n) (strip (t .kids)))
+count-plan n t = alone (decided atRoot t) (constantSort (opT t) (strip (t .kids))) (overflows (decided atRoot t) n)
+    (countDown (decided atRoot t .reqs) (afterwards (decided atRoot t) n) (strip (t .kids)))
 
 module _ (t : Tree) where
   pub push-partial : partialT t ≡ true → resultOf PushDown (planT t) ≡ refuses HasPartialSort
-  push-partial p = ap (λ b. rewritten (cond b (refused HasPartialSort) (answerOf (countDown (λ i. atRoot) (size (planT t)) (planT t))))) (partial-plan t ∙ p)
+  push-partial p = ap (λ b. rewritten (cond b (refused HasPartialSort) (answerOf (countDown (λ i. atRoot) (size (planT t)) (planT t)))))
+      (partial-plan t ∙ p)
 
   module _ (p : partialT t ≡ false) (n : ℕ) (e : n ≡ sizeT t) where
     no-partial : (x : Counted Tree) → countedT atRoot n t ≡ x → pushed (planT t) ≡ answerOf (bind x (λ y k. counted (plant y none) k))
@@ -77,7 +79,13 @@ module _ (m : List ℕ) (u h n : ℕ) (p : Pushable m u h n) where
   push-asks b l v e r =
       let c = p .count in let f = p .few in
       record {
-        visits = record { from = p .arena; here = p .here; real = r; fits = subst (VisitFits (fact (treeOf m h) .width)) (sym e) (root-fits (planT (treeOf m h)) 0 (omega arith)) };
+        visits = record {
+          from = p .arena;
+          here = p .here;
+          real = r;
+          fits = subst (VisitFits (fact (treeOf m h) .width)) (sym e)
+              (root-fits (planT (treeOf m h)) 0 (omega arith));
+        };
         arena = record { slots = omega arith; small = omega arith; all = λ i k. absurd (omega arith) };
         room = omega arith;
         small = omega arith;
@@ -86,20 +94,25 @@ module _ (m : List ℕ) (u h n : ℕ) (p : Pushable m u h n) where
       }
 
   module _ (out : List ℕ) (v : Visit) (e : visitOf v ≡ atRoot) (b b' : List ℕ) where
-    pub push-refused : (x : Refusal) → Ends (visitOf v) n (treeIn m (index h)) b 0 b' (pushed.Refused x) → (k : ℕ) → k ≡ numberOf x → (room : ℕ) → CalledAs (Done k false) (resultOf PushDown (planT (treeOf m h))) out out room
+    pub push-refused : (x : Refusal) → Ends (visitOf v) n (treeIn m (index h)) b 0 b' (pushed.Refused x) → (k : ℕ) → k ≡ numberOf x → (room : ℕ)
+        → CalledAs (Done k false) (resultOf PushDown (planT (treeOf m h))) out out room
     push-refused x d k q room =
-        subst (λ R. CalledAs (Done k false) R out out room) (sym (ap rewritten (push-stops (treeOf m h) (p .whole) n (p .count) x (ap (λ w. countedT w n (treeOf m h)) (sym e) ∙ d)))) (q, refl, refl)
+        subst (λ R. CalledAs (Done k false) R out out room)
+        (sym (ap rewritten (push-stops (treeOf m h) (p .whole) n (p .count) x (ap (λ w. countedT w n (treeOf m h)) (sym e) ∙ d)))) (q, refl, refl)
 
     module _ (x : Walked) (d : Ends (visitOf v) n (treeIn m (index h)) b 0 b' (pushed.Done x)) where
       answers : pushed (planT (treeOf m h)) ≡ answered (planT (treeOf b' (x .root)))
       answers =
-          push-answers (treeOf m h) (p .whole) n (p .count) (pushedT (visitOf v) (treeIn m (index h))) (x .count) (ap (λ w. countedT w n (treeOf m h)) (sym e) ∙ d .is)
+          push-answers (treeOf m h) (p .whole) n (p .count) (pushedT (visitOf v) (treeIn m (index h))) (x .count)
+          (ap (λ w. countedT w n (treeOf m h)) (sym e) ∙ d .is)
           ∙ ap (λ t. answered (planT t)) (sym (d .grown .tree))
 
       pub push-small : sizeT (treeOf b' (x .root)) ≤ 126
-      push-small = let y = few-nodes (planT (treeOf b' (x .root))) (pushed-well (planT (treeOf m h)) (planT (treeOf b' (x .root))) (p .plan) answers) in let z = plan-size (treeOf b' (x .root)) in omega arith
+      push-small = let y = few-nodes (planT (treeOf b' (x .root))) (pushed-well (planT (treeOf m h)) (planT (treeOf b' (x .root))) (p .plan) answers) in
+          let z = plan-size (treeOf b' (x .root)) in omega arith
 
-      pub push-wrote : (r : Called) (out' : List ℕ) (k : ℕ) → CalledAs r (gives (planT (treeOf b' (x .root)))) out out' k → CalledAs r (resultOf PushDown (planT (treeOf m h))) out out' k
+      pub push-wrote : (r : Called) (out' : List ℕ) (k : ℕ) → CalledAs r (gives (planT (treeOf b' (x .root)))) out out' k
+          → CalledAs r (resultOf PushDown (planT (treeOf m h))) out out' k
       push-wrote r out' k y = subst (λ R. CalledAs r R out out' k) (sym (ap rewritten answers)) y
 
 -- ---- settled slots
@@ -113,9 +126,12 @@ module _ (m : List ℕ) (u h : ℕ) (p : Formed m u h) (m' : List ℕ) (a : Aren
       let s = p .size in let q = ap sizeT same-tree in
       record { arena = a; here = p .here; plan = ap (λ t. wellFormed (planT t)) same-tree ∙ p .plan; count = c; few = omega arith; whole = sym e ∙ z }
 
-  pub partial-refused : (b : Bool) → b ≡ partialT (treeIn m' (index h)) → b ≡ true → (n : ℕ) → n ≡ numberOf HasPartialSort → (out : List ℕ) (room : ℕ) → CalledAs (Done n false) (resultOf PushDown (planT (treeOf m h))) out out room
+  pub partial-refused : (b : Bool) → b ≡ partialT (treeIn m' (index h)) → b ≡ true → (n : ℕ) → n ≡ numberOf HasPartialSort → (out : List ℕ) (room : ℕ)
+      → CalledAs (Done n false) (resultOf PushDown (planT (treeOf m h))) out out room
   partial-refused b e z n q out room =
-      subst (λ R. CalledAs (Done n false) R out out room) (sym (push-partial (treeOf m' h) (sym e ∙ z)) ∙ ap (λ t. resultOf PushDown (planT t)) same-tree) (q, refl, refl)
+      subst (λ R. CalledAs (Done n false) R out out room) (sym (push-partial (treeOf m' h) (sym e ∙ z)) ∙ ap (λ t. resultOf PushDown (planT t)) same-tree)
+      (q, refl, refl)
 
-  pub as-read : (r : Called) (out out' : List ℕ) → ((room : ℕ) → CalledAs r (resultOf PushDown (planT (treeOf m' h))) out out' room) → (room : ℕ) → CalledAs r (resultOf PushDown (planT (treeOf m h))) out out' room
+  pub as-read : (r : Called) (out out' : List ℕ) → ((room : ℕ) → CalledAs r (resultOf PushDown (planT (treeOf m' h))) out out' room) → (room : ℕ)
+      → CalledAs r (resultOf PushDown (planT (treeOf m h))) out out' room
   as-read r out out' f room = subst (λ t. CalledAs r (resultOf PushDown (planT t)) out out' room) same-tree (f room)

@@ -104,7 +104,8 @@ fn stopped(s: Stop) -> Called
 // The walk of the tree at h, and its answer to the output.
 fn walk_in(w: Walk, m: &mut [u8], u: usize, h: usize, out: &mut [u8], c: &mut [u8]) -> Called
     requires { ⌜ Loads (now m) u h (now c) ⌝ }
-    ensures { λ r. ⌜ CalledAs r (resultOf (TransformUp w) (planT (treeOf (now (m .entry)) h))) (now (out .entry)) (now (out .exit)) (length (now (m .entry))) ⌝ }
+    ensures { λ r. ⌜ CalledAs r (resultOf (TransformUp w) (planT (treeOf (now (m .entry)) h))) (now (out .entry)) (now (out .exit))
+        (length (now (m .entry))) ⌝ }
 {
     settle_all(m, u);
     if has_partial_sort(m, u, h / 2) {
@@ -153,7 +154,8 @@ fn push_in(m: &mut [u8], u: usize, h: usize, out: &mut [u8]) -> Called
 // Node number n of the tree at h partially sorted, and the answer to the output.
 fn sort_partially(m: &mut [u8], u: usize, h: usize, n: u32, out: &mut [u8]) -> Called
     requires { ⌜ Formed (now m) u h × (u ≤ 126) ⌝ }
-    ensures { λ r. ⌜ CalledAs r (resultOf (PartialSort n) (planT (treeOf (now (m .entry)) h))) (now (out .entry)) (now (out .exit)) (length (now (m .entry))) ⌝ }
+    ensures { λ r. ⌜ CalledAs r (resultOf (PartialSort n) (planT (treeOf (now (m .entry)) h))) (now (out .entry)) (now (out .exit))
+        (length (now (m .entry))) ⌝ }
 {
     settle_all(m, u);
     if m.len() / SLOT < u + kept::nodes(m, h) {

@@ -43,7 +43,8 @@ row f g n h i l = eqb-true (f i) (g i) (all-at (λ i. eqb (f i) (g i)) n h i l)
 pub kind-back : (k : ℕ) → between 1 14 k ≡ true → kindNumber (kindOf k) ≡ k
 unfolding allBelow kindOf
 kind-back zero e = no-false e
-kind-back (suc k) e = row (λ i. kindNumber (kindOf (suc i))) suc 14 refl k (omega (arith, leb-true (suc k) 14 (and-right (leb 1 (suc k)) (leb (suc k) 14) e)))
+kind-back (suc k) e = row (λ i. kindNumber (kindOf (suc i))) suc 14 refl k
+    (omega (arith, leb-true (suc k) 14 (and-right (leb 1 (suc k)) (leb (suc k) 14) e)))
 
 pub number-back : (k : Kind) → kindOf (kindNumber k) ≡ k
 unfolding kindOf

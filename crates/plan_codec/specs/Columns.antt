@@ -82,7 +82,8 @@ columns-list l w = iff (allBelow (columnOk l w) (length l)) (columnsFit w l) the
     there h =
         let at : (i : ℕ) → i < length l → columnOk l w i ≡ true = all-at (columnOk l w) (length l) h in
         both (below w l) (distinct l) (at-every (λ c. ltb c w) l (λ i q. and-left (ltb (getD l i 0) w) (freshOk l i) (at i q)))
-        (fresh-distinct l (λ i j q r. not-true (eqb (getD l j 0) (getD l i 0)) (all-at (λ j. not (eqb (getD l j 0) (getD l i 0))) i (and-right (ltb (getD l i 0) w) (freshOk l i) (at i r)) j q)))
+        (fresh-distinct l (λ i j q r. not-true (eqb (getD l j 0) (getD l i 0))
+        (all-at (λ j. not (eqb (getD l j 0) (getD l i 0))) i (and-right (ltb (getD l i 0) w) (freshOk l i) (at i r)) j q)))
 
     back : columnsFit w l ≡ true → allBelow (columnOk l w) (length l) ≡ true
     back h =

@@ -57,20 +57,202 @@ keyedSet (Keyed s) = s
 -- What each kind has; all else is zero. "32-35 a column set by bits (source: constants; kind 13: keyed columns); 32-63 projection: child columns;
 -- 32-39 joins: right key columns"
 abbrev pub recordOf : ℕ → Op → NodeRecord
-recordOf k (source s) = record { kind = Source; children = k; streams = s .streams; preserve = false; hash = false; unbounded = s .unbounded; fetch = AtMost 0; skip = 0; keys = s .keys; width = s .width; role = 0; tail = fill 32 (fourBytes (s .constants)) }
-recordOf k filter = record { kind = Filter; children = k; streams = 0; preserve = false; hash = false; unbounded = false; fetch = AtMost 0; skip = 0; keys = []; width = 0; role = 0; tail = fill 32 [] }
-recordOf k (projection cols) = record { kind = Projection; children = k; streams = 0; preserve = false; hash = false; unbounded = false; fetch = AtMost 0; skip = 0; keys = []; width = length cols; role = 0; tail = fill 32 cols }
-recordOf k union = record { kind = Union; children = k; streams = 0; preserve = false; hash = false; unbounded = false; fetch = AtMost 0; skip = 0; keys = []; width = 0; role = 0; tail = fill 32 [] }
-recordOf k (repartition p n h ks) = record { kind = Repartition; children = k; streams = n; preserve = p; hash = h; unbounded = false; fetch = AtMost 0; skip = 0; keys = ks; width = 0; role = 0; tail = fill 32 [] }
-recordOf k (coalesce f) = record { kind = Coalesce; children = k; streams = 0; preserve = false; hash = false; unbounded = false; fetch = f; skip = 0; keys = []; width = 0; role = 0; tail = fill 32 [] }
-recordOf k (sortOp p ks f) = record { kind = Sort; children = k; streams = 0; preserve = p; hash = false; unbounded = false; fetch = f; skip = 0; keys = ks; width = 0; role = 0; tail = fill 32 [] }
-recordOf k (mergeOp ks f) = record { kind = Merge; children = k; streams = 0; preserve = false; hash = false; unbounded = false; fetch = f; skip = 0; keys = ks; width = 0; role = 0; tail = fill 32 [] }
-recordOf k (globalLimit s f note) = record { kind = GlobalLimit; children = k; streams = 0; preserve = false; hash = false; unbounded = false; fetch = f; skip = s; keys = note; width = 0; role = 0; tail = fill 32 [] }
-recordOf k (localLimit f note) = record { kind = LocalLimit; children = k; streams = 0; preserve = false; hash = false; unbounded = false; fetch = f; skip = 0; keys = note; width = 0; role = 0; tail = fill 32 [] }
-recordOf k (sortMergeJoin t on) = record { kind = SortMergeJoin; children = k; streams = 0; preserve = false; hash = false; unbounded = false; fetch = AtMost 0; skip = 0; keys = map (λ k. k .key) on; width = 0; role = joinNumber t; tail = fill 32 (map (λ k. k .other) on) }
-recordOf k (hashJoin t on) = record { kind = HashJoin; children = k; streams = 0; preserve = false; hash = false; unbounded = false; fetch = AtMost 0; skip = 0; keys = map (λ k. k .key) on; width = 0; role = joinNumber t; tail = fill 32 (map (λ k. k .other) on) }
-recordOf k (outputRequirement ks d f) = record { kind = OutputRequirement; children = k; streams = 0; preserve = false; hash = false; unbounded = false; fetch = f; skip = 0; keys = ks; width = 0; role = distributionNumber d; tail = fill 32 (fourBytes (keyedSet d)) }
-recordOf k (partialSort p ks n f) = record { kind = PartialSort; children = k; streams = 0; preserve = p; hash = false; unbounded = false; fetch = f; skip = 0; keys = ks; width = 0; role = n; tail = fill 32 [] }
+recordOf k (source s) = record {
+  kind = Source;
+  children = k;
+  streams = s .streams;
+  preserve = false;
+  hash = false;
+  unbounded = s .unbounded;
+  fetch = AtMost 0;
+  skip = 0;
+  keys = s .keys;
+  width = s .width;
+  role = 0;
+  tail = fill 32 (fourBytes (s .constants));
+}
+recordOf k filter = record {
+  kind = Filter;
+  children = k;
+  streams = 0;
+  preserve = false;
+  hash = false;
+  unbounded = false;
+  fetch = AtMost 0;
+  skip = 0;
+  keys = [];
+  width = 0;
+  role = 0;
+  tail = fill 32 [];
+}
+recordOf k (projection cols) = record {
+  kind = Projection;
+  children = k;
+  streams = 0;
+  preserve = false;
+  hash = false;
+  unbounded = false;
+  fetch = AtMost 0;
+  skip = 0;
+  keys = [];
+  width = length cols;
+  role = 0;
+  tail = fill 32 cols;
+}
+recordOf k union = record {
+  kind = Union;
+  children = k;
+  streams = 0;
+  preserve = false;
+  hash = false;
+  unbounded = false;
+  fetch = AtMost 0;
+  skip = 0;
+  keys = [];
+  width = 0;
+  role = 0;
+  tail = fill 32 [];
+}
+recordOf k (repartition p n h ks) = record {
+  kind = Repartition;
+  children = k;
+  streams = n;
+  preserve = p;
+  hash = h;
+  unbounded = false;
+  fetch = AtMost 0;
+  skip = 0;
+  keys = ks;
+  width = 0;
+  role = 0;
+  tail = fill 32 [];
+}
+recordOf k (coalesce f) = record {
+  kind = Coalesce;
+  children = k;
+  streams = 0;
+  preserve = false;
+  hash = false;
+  unbounded = false;
+  fetch = f;
+  skip = 0;
+  keys = [];
+  width = 0;
+  role = 0;
+  tail = fill 32 [];
+}
+recordOf k (sortOp p ks f) = record {
+  kind = Sort;
+  children = k;
+  streams = 0;
+  preserve = p;
+  hash = false;
+  unbounded = false;
+  fetch = f;
+  skip = 0;
+  keys = ks;
+  width = 0;
+  role = 0;
+  tail = fill 32 [];
+}
+recordOf k (mergeOp ks f) = record {
+  kind = Merge;
+  children = k;
+  streams = 0;
+  preserve = false;
+  hash = false;
+  unbounded = false;
+  fetch = f;
+  skip = 0;
+  keys = ks;
+  width = 0;
+  role = 0;
+  tail = fill 32 [];
+}
+recordOf k (globalLimit s f note) = record {
+  kind = GlobalLimit;
+  children = k;
+  streams = 0;
+  preserve = false;
+  hash = false;
+  unbounded = false;
+  fetch = f;
+  skip = s;
+  keys = note;
+  width = 0;
+  role = 0;
+  tail = fill 32 [];
+}
+recordOf k (localLimit f note) = record {
+  kind = LocalLimit;
+  children = k;
+  streams = 0;
+  preserve = false;
+  hash = false;
+  unbounded = false;
+  fetch = f;
+  skip = 0;
+  keys = note;
+  width = 0;
+  role = 0;
+  tail = fill 32 [];
+}
+recordOf k (sortMergeJoin t on) = record {
+  kind = SortMergeJoin;
+  children = k;
+  streams = 0;
+  preserve = false;
+  hash = false;
+  unbounded = false;
+  fetch = AtMost 0;
+  skip = 0;
+  keys = map (λ k. k .key) on;
+  width = 0;
+  role = joinNumber t;
+  tail = fill 32 (map (λ k. k .other) on);
+}
+recordOf k (hashJoin t on) = record {
+  kind = HashJoin;
+  children = k;
+  streams = 0;
+  preserve = false;
+  hash = false;
+  unbounded = false;
+  fetch = AtMost 0;
+  skip = 0;
+  keys = map (λ k. k .key) on;
+  width = 0;
+  role = joinNumber t;
+  tail = fill 32 (map (λ k. k .other) on);
+}
+recordOf k (outputRequirement ks d f) = record {
+  kind = OutputRequirement;
+  children = k;
+  streams = 0;
+  preserve = false;
+  hash = false;
+  unbounded = false;
+  fetch = f;
+  skip = 0;
+  keys = ks;
+  width = 0;
+  role = distributionNumber d;
+  tail = fill 32 (fourBytes (keyedSet d));
+}
+recordOf k (partialSort p ks n f) = record {
+  kind = PartialSort;
+  children = k;
+  streams = 0;
+  preserve = p;
+  hash = false;
+  unbounded = false;
+  fetch = f;
+  skip = 0;
+  keys = ks;
+  width = 0;
+  role = n;
+  tail = fill 32 [];
+}
 
 unfoldable pub encode : ℕ → Op → List ℕ
 encode k o = toBytes (recordOf k o)

@@ -98,17 +98,33 @@ clean-same f k x e g long =
     let un = bit-used (f .unbounded) (x .unbounded) (g .unbounded) in
     let fe = fetch-used (f .fetch) (not (f .limit && eqb (fetchNumber (x .fetch)) noFetch)) (x .fetch) (g .fetch) in
     let sk = number-free (f .skip) (x .skip) (g .skip) in
-    let ks = keys-used (f .«needs_key») (f .hash) (x .hash) (f .noted) (x .keys) (and-right (leb n 8) (either (f .«needs_key» || (f .hash && x .hash)) (leb 1 n) (f .noted || eqb n 0)) (g .count)) in
+    let ks = keys-used (f .«needs_key») (f .hash) (x .hash) (f .noted) (x .keys)
+    (and-right (leb n 8) (either (f .«needs_key» || (f .hash && x .hash)) (leb 1 n) (f .noted || eqb n 0)) (g .count)) in
     let wi = number-used (f .width) (between 1 32 (x .width)) (x .width) (g .width) in
-    let ro = role-used (f .join) (f .distribution) (f .prefix) (leb (x .role) 7) (leb (x .role) 2) (leb 1 (x .role) && ltb (x .role) n) (x .role) (g .role) in
+    let ro = role-used (f .join) (f .distribution) (f .prefix) (leb (x .role) 7) (leb (x .role) 2) (leb 1 (x .role) && ltb (x .role) n) (x .role)
+    (g .role) in
     let ta : fill 32 (take u (x .tail)) ≡ x .tail = ap (λ (m : ℕ). fill m (take u (x .tail))) (sym long) ∙ fill-back u (x .tail) (g .rest) in
-    λ i. record { kind = sym e i; children = x .children; streams = st i; preserve = pr i; hash = ha i; unbounded = un i; fetch = fe i; skip = sk i; keys = ks i; width = wi i; role = ro i; tail = ta i }
+    λ i. record {
+      kind = sym e i;
+      children = x .children;
+      streams = st i;
+      preserve = pr i;
+      hash = ha i;
+      unbounded = un i;
+      fetch = fe i;
+      skip = sk i;
+      keys = ks i;
+      width = wi i;
+      role = ro i;
+      tail = ta i;
+    }
 
 -- ---- bytes from 32 on
 
 four-bytes : (l : List ℕ) → 4 ≤ length l → ((i : ℕ) → getD l i 0 < 256) → fourBytes (le32 l 0) ≡ take 4 l
 unfolding span
-four-bytes l h by = fourth (getD l 0 0) (getD l 1 0) (getD l 2 0) (getD l 3 0) (by 0) (by 1) (by 2) (by 3) (le32 l 0) refl ∙ sym (part-bytes l 4 0 (omega arith))
+four-bytes l h by = fourth (getD l 0 0) (getD l 1 0) (getD l 2 0) (getD l 3 0) (by 0) (by 1) (by 2) (by 3) (le32 l 0) refl
+    ∙ sym (part-bytes l 4 0 (omega arith))
 
 set-fits : (l : List ℕ) → ((i : ℕ) → getD l i 0 < 256) → ltb (le32 l 0) (2 ^ 32) ≡ true
 set-fits l by = lt-ltb (le32 l 0) 4294967296 (let a = by 0 in let b = by 1 in let c = by 2 in let d = by 3 in omega arith)
@@ -120,13 +136,15 @@ role-back (suc zero) s e = refl
 role-back (suc (suc zero)) s e = refl
 role-back (suc (suc (suc v))) s e = absurd (let z = leb-true (suc (suc (suc v))) 2 e in omega arith)
 
-set-back : (v : ℕ) (l : List ℕ) → leb v 2 ≡ true → 4 ≤ length l → ((i : ℕ) → getD l i 0 < 256) → fill 32 (fourBytes (keyedSet (distributionOf v (le32 l 0)))) ≡ fill 32 (take (cond (eqb v 2) 4 0) l)
+set-back : (v : ℕ) (l : List ℕ) → leb v 2 ≡ true → 4 ≤ length l → ((i : ℕ) → getD l i 0 < 256)
+    → fill 32 (fourBytes (keyedSet (distributionOf v (le32 l 0)))) ≡ fill 32 (take (cond (eqb v 2) 4 0) l)
 set-back zero l e h by = refl
 set-back (suc zero) l e h by = refl
 set-back (suc (suc zero)) l e h by = ap (fill 32) (four-bytes l h by)
 set-back (suc (suc (suc v))) l e h by = absurd (let z = leb-true (suc (suc (suc v))) 2 e in omega arith)
 
-keyed-ok : (v : ℕ) (s : ℕ) → ltb s (2 ^ 32) ≡ true → (not (eqb v 2) || between 1 8 (ones s)) ≡ true → leb v 2 ≡ true → distributionOk (distributionOf v s) ≡ true
+keyed-ok : (v : ℕ) (s : ℕ) → ltb s (2 ^ 32) ≡ true → (not (eqb v 2) || between 1 8 (ones s)) ≡ true → leb v 2 ≡ true
+    → distributionOk (distributionOf v s) ≡ true
 keyed-ok zero s h e q = refl
 keyed-ok (suc zero) s h e q = refl
 keyed-ok (suc (suc zero)) s h e q = both (ltb s (2 ^ 32)) (between 1 8 (ones s)) h e
@@ -148,7 +166,8 @@ limited Unlimited e = no-false e
 limited (AtMost n) e = refl
 
 -- a repartition's keys: those of a hash, none of a round robin
-hash-keys : (h : Bool) (ks : List Key) → leb (length ks) 8 && either h (leb 1 (length ks)) (eqb (length ks) 0) ≡ true → (h ≡ true → every plain ks ≡ true) → cond h (some ks && every plain ks) (eqb (length ks) 0) ≡ true
+hash-keys : (h : Bool) (ks : List Key) → leb (length ks) 8 && either h (leb 1 (length ks)) (eqb (length ks) 0) ≡ true → (h ≡ true → every plain ks ≡ true)
+    → cond h (some ks && every plain ks) (eqb (length ks) 0) ≡ true
 hash-keys true ks e p = both (some ks) (every plain ks) (some-are (length ks) e) (p refl)
 hash-keys false ks e p = and-right (leb (length ks) 8) (eqb (length ks) 0) e
 
@@ -156,16 +175,31 @@ hash-keys false ks e p = and-right (leb (length ks) 8) (eqb (length ks) 0) e
 
 -- a record with other keys, width, byte 14 and tail
 edit : NodeRecord → List Key → ℕ → ℕ → List ℕ → NodeRecord
-edit x ks w v t = record { kind = x .kind; children = x .children; streams = x .streams; preserve = x .preserve; hash = x .hash; unbounded = x .unbounded; fetch = x .fetch; skip = x .skip; keys = ks; width = w; role = v; tail = t }
+edit x ks w v t = record {
+  kind = x .kind;
+  children = x .children;
+  streams = x .streams;
+  preserve = x .preserve;
+  hash = x .hash;
+  unbounded = x .unbounded;
+  fetch = x .fetch;
+  skip = x .skip;
+  keys = ks;
+  width = w;
+  role = v;
+  tail = t;
+}
 
 module _ (x : NodeRecord) (long : length (x .tail) ≡ 32) (by : (i : ℕ) → getD (x .tail) i 0 < 256) where
   F : Kind → Fields
   F k = fieldsOf (kindNumber k)
 
   joined : (k : Kind) → length (x .keys) ≤ 8 → leb (x .role) 7 ≡ true
-      → edit (clean (F k) k x) (map (λ k. k .key) (onOf (x .keys) (x .tail))) 0 (joinNumber (joinTypeOf (x .role))) (fill 32 (map (λ k. k .other) (onOf (x .keys) (x .tail))))
+      → edit (clean (F k) k x) (map (λ k. k .key) (onOf (x .keys) (x .tail))) 0 (joinNumber (joinTypeOf (x .role)))
+      (fill 32 (map (λ k. k .other) (onOf (x .keys) (x .tail))))
       ≡ edit (clean (F k) k x) (x .keys) 0 (x .role) (fill 32 (take (length (x .keys)) (x .tail)))
-  joined k h e = λ i. edit (clean (F k) k x) (on-keys (x .keys) (x .tail) (omega arith) i) 0 (join-back (x .role) e i) (fill 32 (on-others (x .keys) (x .tail) (omega arith) i))
+  joined k h e = λ i. edit (clean (F k) k x) (on-keys (x .keys) (x .tail) (omega arith) i) 0 (join-back (x .role) e i)
+      (fill 32 (on-others (x .keys) (x .tail) (omega arith) i))
 
   record-clean : (k : Kind) → Rules (F k) x → recordOf (x .children) (operatorOf k x) ≡ clean (F k) k x
   unfolding clean edit F
@@ -185,7 +219,8 @@ module _ (x : NodeRecord) (long : length (x .tail) ≡ 32) (by : (i : ℕ) → g
   record-clean HashJoin g = joined HashJoin (few-keys (F HashJoin) false (length (x .keys)) (g .count)) (used (leb (x .role) 7) (g .role))
   record-clean OutputRequirement g =
       let v : leb (x .role) 2 ≡ true = used (leb (x .role) 2) (g .role) in
-      λ i. edit (clean (F OutputRequirement) OutputRequirement x) (x .keys) 0 (role-back (x .role) (le32 (x .tail) 0) v i) (set-back (x .role) (x .tail) v (omega arith) by i)
+      λ i. edit (clean (F OutputRequirement) OutputRequirement x) (x .keys) 0 (role-back (x .role) (le32 (x .tail) 0) v i)
+      (set-back (x .role) (x .tail) v (omega arith) by i)
   record-clean PartialSort g = refl
 
   -- the record of the operator that a record holds
@@ -203,7 +238,8 @@ module _ (x : NodeRecord) (long : length (x .tail) ≡ 32) (by : (i : ℕ) → g
 
     pub record-fields : (k : Kind) → Rules (fieldsOf (kindNumber k)) x → fieldsOk (operatorOf k x) ≡ true
     record-fields Source g =
-        ap₂ _&&_ (both (between 1 32 (x .width)) (between 1 64 (x .streams)) (used (between 1 32 (x .width)) (g .width)) (used (between 1 64 (x .streams)) (g .streams)))
+        ap₂ _&&_ (both (between 1 32 (x .width)) (between 1 64 (x .streams)) (used (between 1 32 (x .width)) (g .width))
+        (used (between 1 64 (x .streams)) (g .streams)))
         (both (ltb (le32 (x .tail) 0) (2 ^ 32)) (few (x .keys)) (set-fits (x .tail) by) (few-are (x .keys) _ (g .count)))
     record-fields Filter g = refl
     record-fields Projection g =
@@ -217,15 +253,19 @@ module _ (x : NodeRecord) (long : length (x .tail) ≡ 32) (by : (i : ℕ) → g
     record-fields Coalesce g = fetch
     record-fields Sort g = both (some (x .keys)) (fetchOk (x .fetch)) (some-are (length (x .keys)) (g .count)) fetch
     record-fields Merge g = both (some (x .keys)) (fetchOk (x .fetch)) (some-are (length (x .keys)) (g .count)) fetch
-    record-fields GlobalLimit g = ap₂ _&&_ (lt-ltb (x .skip) (2 ^ 32) skip) (both (few (x .keys)) (fetchOk (x .fetch)) (few-are (x .keys) _ (g .count)) fetch)
+    record-fields GlobalLimit g = ap₂ _&&_ (lt-ltb (x .skip) (2 ^ 32) skip)
+        (both (few (x .keys)) (fetchOk (x .fetch)) (few-are (x .keys) _ (g .count)) fetch)
     record-fields LocalLimit g = ap₂ _&&_ (limited (x .fetch) (g .fetch)) (both (few (x .keys)) (fetchOk (x .fetch)) (few-are (x .keys) _ (g .count)) fetch)
     record-fields SortMergeJoin g = joined-fields (g .count)
-    record-fields HashJoin g = both (some (onOf (x .keys) (x .tail))) (every (λ k. plain (k .key)) (onOf (x .keys) (x .tail))) (joined-fields (g .count)) (on-plain (x .keys) (x .tail) (g .options refl))
+    record-fields HashJoin g = both (some (onOf (x .keys) (x .tail))) (every (λ k. plain (k .key)) (onOf (x .keys) (x .tail))) (joined-fields (g .count))
+        (on-plain (x .keys) (x .tail) (g .options refl))
     record-fields OutputRequirement g =
         ap₂ _&&_ (few-are (x .keys) _ (g .count))
         (both (distributionOk (distributionOf (x .role) (le32 (x .tail) 0))) (fetchOk (x .fetch))
         (keyed-ok (x .role) (le32 (x .tail) 0) (set-fits (x .tail) by) (g .set) (used (leb (x .role) 2) (g .role))) fetch)
-    record-fields PartialSort g = both (some (x .keys) && fetchOk (x .fetch)) (leb 1 (x .role) && ltb (x .role) (length (x .keys))) (both (some (x .keys)) (fetchOk (x .fetch)) (some-are (length (x .keys)) (g .count)) fetch) (used (leb 1 (x .role) && ltb (x .role) (length (x .keys))) (g .role))
+    record-fields PartialSort g = both (some (x .keys) && fetchOk (x .fetch)) (leb 1 (x .role) && ltb (x .role) (length (x .keys)))
+        (both (some (x .keys)) (fetchOk (x .fetch)) (some-are (length (x .keys)) (g .count)) fetch)
+        (used (leb 1 (x .role) && ltb (x .role) (length (x .keys))) (g .role))
 
 pub operator-kind : (k : Kind) (x : NodeRecord) → kind (operatorOf k x) ≡ k
 operator-kind Source x = refl

@@ -99,7 +99,8 @@ pub slots : (p : Bool) (ks : List Key) → (p ≡ true → every plain ks ≡ tr
 slots p [] h i = let e : ltb i 0 ≡ false = le-ltb i 0 (omega arith) in rw e
 slots p (k ∷ ks) h zero =
     let e : ltb 0 (suc (length ks)) ≡ true = lt-ltb 0 (suc (length ks)) (omega arith) in
-    let o : either p (eqb (optionsByte k) 0) (eqb (optionsByte k / 4) 0) ≡ true = options-ok p (k .desc) (k .first) (λ t. and-left (plain k) (every plain ks) (h t)) in
+    let o : either p (eqb (optionsByte k) 0) (eqb (optionsByte k / 4) 0) ≡ true =
+    options-ok p (k .desc) (k .first) (λ t. and-left (plain k) (every plain ks) (h t)) in
     rw e (or-false (either p (eqb (optionsByte k) 0) (eqb (optionsByte k / 4) 0)) ∙ o)
 slots p (k ∷ ks) h (suc i) =
     slot-next (k .col) (optionsByte k) (keyBytes ks) i p (suc (length ks)) (length ks) (omega arith)
@@ -107,7 +108,8 @@ slots p (k ∷ ks) h (suc i) =
 
 -- ---- columns of keys, and right key columns
 
-pub columns-of : (ks : List Key) (f : ℕ → ℕ) (a m : ℕ) → length ks ≤ m → ((i : ℕ) → i < length ks → f (a + i) ≡ getD (keyBytes ks) (2 * i) 0) → take (length ks) (span f a m) ≡ map (λ k. k .col) ks
+pub columns-of : (ks : List Key) (f : ℕ → ℕ) (a m : ℕ) → length ks ≤ m → ((i : ℕ) → i < length ks → f (a + i) ≡ getD (keyBytes ks) (2 * i) 0)
+    → take (length ks) (span f a m) ≡ map (λ k. k .col) ks
 unfolding span
 columns-of [] f a m h e = refl
 columns-of (k ∷ ks) f a zero h e = absurd (omega arith)
@@ -145,7 +147,8 @@ length-on (k ∷ ks) (c ∷ l) h = ap suc (length-on ks l (omega arith))
 pub on-plain : (ks : List Key) (l : List ℕ) → every plain ks ≡ true → every (λ k. plain (k .key)) (onOf ks l) ≡ true
 on-plain [] l h = refl
 on-plain (k ∷ ks) [] h = refl
-on-plain (k ∷ ks) (c ∷ l) h = both (plain k) (every (λ k. plain (k .key)) (onOf ks l)) (and-left (plain k) (every plain ks) h) (on-plain ks l (and-right (plain k) (every plain ks) h))
+on-plain (k ∷ ks) (c ∷ l) h = both (plain k) (every (λ k. plain (k .key)) (onOf ks l)) (and-left (plain k) (every plain ks) h)
+    (on-plain ks l (and-right (plain k) (every plain ks) h))
 
 pub plain-on : (on : List On) → every (λ k. plain (k .key)) on ≡ true → every plain (map (λ k. k .key) on) ≡ true
 plain-on [] h = refl

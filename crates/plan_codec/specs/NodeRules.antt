@@ -105,7 +105,8 @@ module _ (x : NodeRecord) where
       let n = length-bytes (x .keys) in
       columns-of (x .keys) (λ i. getD (toBytes x) (16 + 2 * i) 0) 0 8 h
       (λ i q. (let z : 0 + i ≡ i = omega arith in ap (λ (j : ℕ). getD (toBytes x) (16 + 2 * j) 0) z
-      ∙ sym (key-byte (toBytes x) (2 * i) (omega arith)) ∙ ap (λ (l : List ℕ). getD l (2 * i) 0) (keys-are x) ∙ fill-at 16 (keyBytes (x .keys)) (2 * i) (omega arith)))
+      ∙ sym (key-byte (toBytes x) (2 * i) (omega arith)) ∙ ap (λ (l : List ℕ). getD l (2 * i) 0) (keys-are x) ∙ fill-at 16 (keyBytes (x .keys)) (2 * i)
+      (omega arith)))
 
   keys-rule : (w : ℕ) → length (x .keys) ≤ 8 → columnsBelow (take (length (x .keys)) (keyColumns (toBytes x))) w ≡ keysFit w (x .keys)
   keys-rule w h = columns-list (take (length (x .keys)) (keyColumns (toBytes x))) w ∙ ap (columnsFit w) (key-columns h)
@@ -128,13 +129,15 @@ and-one false = refl
 empty-set : (w : ℕ) → setFits w 0 ≡ true
 empty-set w = eq-eqb (0 / 2 ^ w) 0 (zero-div (2 ^ w))
 
-distribution-rule : (x : NodeRecord) (w : ℕ) (d : Distribution) → x .tail ≡ fill 32 (fourBytes (keyedSet d)) → distributionOk d ≡ true → setBelow (le32 (toBytes x) 32) w ≡ distributionFits w d
+distribution-rule : (x : NodeRecord) (w : ℕ) (d : Distribution) → x .tail ≡ fill 32 (fourBytes (keyedSet d)) → distributionOk d ≡ true
+    → setBelow (le32 (toBytes x) 32) w ≡ distributionFits w d
 distribution-rule x w Unspecified e h = set-rule x w 0 e refl ∙ empty-set w
 distribution-rule x w Single e h = set-rule x w 0 e refl ∙ empty-set w
 distribution-rule x w (Keyed s) e h = set-rule x w s e (and-left (ltb s (2 ^ 32)) (between 1 8 (ones s)) h)
 
 -- records whose only columns are their keys'
-keys-alone : (x : NodeRecord) (w : ℕ) → length (x .keys) ≤ 8 → columnsBelow (take (length (x .keys)) (keyColumns (toBytes x))) w && true && true ≡ keysFit w (x .keys)
+keys-alone : (x : NodeRecord) (w : ℕ) → length (x .keys) ≤ 8 → columnsBelow (take (length (x .keys)) (keyColumns (toBytes x))) w && true
+    && true ≡ keysFit w (x .keys)
 keys-alone x w h = ones-only (columnsBelow (take (length (x .keys)) (keyColumns (toBytes x))) w) ∙ keys-rule x w h
 
 -- a join's: the left key columns below w, the right ones below v
@@ -144,20 +147,25 @@ join-rule x w v on ek et h =
     let a = length-map on (λ k. k .key) in
     let b = length-map on (λ k. k .other) in
     let n : length (x .keys) ≡ length (map (λ k. k .other) on) = ap length ek ∙ a ∙ sym b in
-    ap₂ _&&_ (and-one (columnsBelow (take (length (x .keys)) (keyColumns (toBytes x))) w) ∙ keys-rule x w h ∙ ap (keysFit w) ek ∙ ap (columnsFit w) (on-columns on))
-    (ap (λ (m : ℕ). columnsBelow (part 32 m (toBytes x)) v) n ∙ columns-list (part 32 (length (map (λ k. k .other) on)) (toBytes x)) v ∙ ap (columnsFit v) (tail-columns x (map (λ k. k .other) on) et (omega arith)))
+    ap₂ _&&_ (and-one (columnsBelow (take (length (x .keys)) (keyColumns (toBytes x))) w) ∙ keys-rule x w h ∙ ap (keysFit w) ek
+    ∙ ap (columnsFit w) (on-columns on))
+    (ap (λ (m : ℕ). columnsBelow (part 32 m (toBytes x)) v) n ∙ columns-list (part 32 (length (map (λ k. k .other) on)) (toBytes x)) v
+    ∙ ap (columnsFit v) (tail-columns x (map (λ k. k .other) on) et (omega arith)))
 
-pub columns-same : (k : ℕ) (o : Op) (ws : List ℕ) → fieldsOk o ≡ true → columnsRule (fields (encode k o)) (encode k o) (columnLimit (fields (encode k o)) (encode k o) ws) (getD ws 1 0) ≡ columnsOk o ws
+pub columns-same : (k : ℕ) (o : Op) (ws : List ℕ) → fieldsOk o ≡ true → columnsRule (fields (encode k o)) (encode k o)
+    (columnLimit (fields (encode k o)) (encode k o) ws) (getD ws 1 0) ≡ columnsOk o ws
 unfolding encode
 columns-same k (source s) ws e =
     let x : NodeRecord = recordOf k (source s) in
     let b = and-right (between 1 32 (s .width) && between 1 64 (s .streams)) (ltb (s .constants) (2 ^ 32) && few (s .keys)) e in
     and-one (columnsBelow (take (length (s .keys)) (keyColumns (toBytes x))) (s .width) && setBelow (le32 (toBytes x) 32) (s .width))
-    ∙ ap₂ _&&_ (keys-rule x (s .width) (few-of k (source s) e)) (set-rule x (s .width) (s .constants) refl (and-left (ltb (s .constants) (2 ^ 32)) (few (s .keys)) b))
+    ∙ ap₂ _&&_ (keys-rule x (s .width) (few-of k (source s) e))
+    (set-rule x (s .width) (s .constants) refl (and-left (ltb (s .constants) (2 ^ 32)) (few (s .keys)) b))
 columns-same k filter ws e = keys-alone (recordOf k filter) (getD ws 0 0) (few-of k filter e)
 columns-same k (projection cols) ws e =
     let x : NodeRecord = recordOf k (projection cols) in
-    ap₂ (λ (a b : Bool). a && true && (b && true)) (keys-rule x (getD ws 0 0) (omega arith)) (below-list (part 32 (length cols) (toBytes x)) (getD ws 0 0) ∙ ap (below (getD ws 0 0)) (tail-columns x cols refl (leb-true (length cols) 32 (and-right (leb 1 (length cols)) (leb (length cols) 32) e))))
+    ap₂ (λ (a b : Bool). a && true && (b && true)) (keys-rule x (getD ws 0 0) (omega arith)) (below-list (part 32 (length cols) (toBytes x)) (getD ws 0 0)
+    ∙ ap (below (getD ws 0 0)) (tail-columns x cols refl (leb-true (length cols) 32 (and-right (leb 1 (length cols)) (leb (length cols) 32) e))))
     ∙ and-one (below (getD ws 0 0) cols)
 columns-same k union ws e = keys-alone (recordOf k union) (getD ws 0 0) (few-of k union e)
 columns-same k (repartition p n h ks) ws e = keys-alone (recordOf k (repartition p n h ks)) (getD ws 0 0) (few-of k (repartition p n h ks) e)
@@ -166,10 +174,12 @@ columns-same k (sortOp p ks f) ws e = keys-alone (recordOf k (sortOp p ks f)) (g
 columns-same k (mergeOp ks f) ws e = keys-alone (recordOf k (mergeOp ks f)) (getD ws 0 0) (few-of k (mergeOp ks f) e)
 columns-same k (globalLimit s f note) ws e = keys-alone (recordOf k (globalLimit s f note)) (getD ws 0 0) (few-of k (globalLimit s f note) e)
 columns-same k (localLimit f note) ws e = keys-alone (recordOf k (localLimit f note)) (getD ws 0 0) (few-of k (localLimit f note) e)
-columns-same k (sortMergeJoin t on) ws e = join-rule (recordOf k (sortMergeJoin t on)) (getD ws 0 0) (getD ws 1 0) on refl refl (few-of k (sortMergeJoin t on) e)
+columns-same k (sortMergeJoin t on) ws e = join-rule (recordOf k (sortMergeJoin t on)) (getD ws 0 0) (getD ws 1 0) on refl refl
+    (few-of k (sortMergeJoin t on) e)
 columns-same k (hashJoin t on) ws e = join-rule (recordOf k (hashJoin t on)) (getD ws 0 0) (getD ws 1 0) on refl refl (few-of k (hashJoin t on) e)
 columns-same k (outputRequirement ks d f) ws e =
     let x : NodeRecord = recordOf k (outputRequirement ks d f) in
     and-one (columnsBelow (take (length ks) (keyColumns (toBytes x))) (getD ws 0 0) && setBelow (le32 (toBytes x) 32) (getD ws 0 0))
-    ∙ ap₂ _&&_ (keys-rule x (getD ws 0 0) (few-of k (outputRequirement ks d f) e)) (distribution-rule x (getD ws 0 0) d refl (and-left (distributionOk d) (fetchOk f) (and-right (few ks) (distributionOk d && fetchOk f) e)))
+    ∙ ap₂ _&&_ (keys-rule x (getD ws 0 0) (few-of k (outputRequirement ks d f) e))
+    (distribution-rule x (getD ws 0 0) d refl (and-left (distributionOk d) (fetchOk f) (and-right (few ks) (distributionOk d && fetchOk f) e)))
 columns-same k (partialSort p ks n f) ws e = keys-alone (recordOf k (partialSort p ks n f)) (getD ws 0 0) (few-of k (partialSort p ks n f) e)

@@ -67,12 +67,14 @@ module _ (k : ℕ) (o : Op) (e : fieldsOk o ≡ true) where
 
   pub encode-rules : recordOk (encode k o) ≡ true
   unfolding encode
-  encode-rules = let v = fits-of k o e in rules-bytes (recordOf k o) (fieldsOf (kindNumber (recordOf k o .kind))) rules-here (fetch-fits (recordOf k o .fetch) (v .fetch)) (v .skip)
+  encode-rules = let v = fits-of k o e in
+      rules-bytes (recordOf k o) (fieldsOf (kindNumber (recordOf k o .kind))) rules-here (fetch-fits (recordOf k o .fetch) (v .fetch)) (v .skip)
 
   pub encode-kind : childrenOk o k ≡ true → kindOk (encode k o) ≡ true
   unfolding encode
   encode-kind h =
-      both (between 1 14 (kindNumber (recordOf k o .kind))) (countOk (kindNumber (recordOf k o .kind)) (recordOf k o .children)) (known (recordOf k o .kind))
+      both (between 1 14 (kindNumber (recordOf k o .kind))) (countOk (kindNumber (recordOf k o .kind)) (recordOf k o .children))
+      (known (recordOf k o .kind))
       (ap₂ countOk (ap kindNumber (kind-of k o)) (children-of k o) ∙ children-same o k ∙ h)
 
   pub encode-bytes : (ws : List ℕ) → childrenOk o k ≡ true → columnsOk o ws ≡ true → getD ws 0 0 ≤ 32 → getD ws 1 0 ≤ 32 → every byte (encode k o) ≡ true
@@ -84,7 +86,8 @@ module _ (k : ℕ) (o : Op) (e : fieldsOk o ≡ true) where
       bytes-record (fieldsOf (kindNumber (recordOf k o .kind))) (recordOf k o) rules-here (omega arith) (s .keys) (s .tail)
 
   -- the last pass at this record, over children of widths ws
-  pub node-same : (ws : List ℕ) → nodeRefusal (encode k o) ws ≡ cond (unionOk o ws) (cond (columnsOk o ws) (cond (leb (width o ws) 32) Accepted Width) Column) Field
+  pub node-same : (ws : List ℕ) → nodeRefusal (encode k o) ws ≡ cond (unionOk o ws)
+      (cond (columnsOk o ws) (cond (leb (width o ws) 32) Accepted Width) Column) Field
   unfolding nodeRefusal
   node-same ws = λ i. cond (union-same k o ws i) (cond (columns-same k o ws e i) (cond (leb (width-same k o ws i) 32) Accepted Width) Column) Field
 

@@ -83,7 +83,8 @@ narrow-at (tree o c r) e zero = leb-true (width o (widths c)) 32 (here o c r e .
 narrow-at (tree o c r) e (suc i) = narrow-at r (beside o c r e) i
 
 -- a test of every record
-each : (p : List ℕ → Bool) → ((o : Op) (c : Plan) → NodeFine o (widths c) → nodesOk c ≡ true → p (encode (length (roots c)) o) ≡ true) → (f : Plan) → nodesOk f ≡ true → every p (recordsOf f) ≡ true
+each : (p : List ℕ → Bool) → ((o : Op) (c : Plan) → NodeFine o (widths c) → nodesOk c ≡ true → p (encode (length (roots c)) o) ≡ true) → (f : Plan)
+    → nodesOk f ≡ true → every p (recordsOf f) ≡ true
 each p t none e = refl
 each p t (tree o c r) e =
     both (p (encode (length (roots c)) o)) (every p (recordsOf c ++ recordsOf r)) (t o c (here o c r e) (below o c r e))
@@ -105,12 +106,15 @@ passes-recorded (tree o c r) e =
     let k : ℕ = length (roots c) in
     let ws : List ℕ = widths c in
     let z : numberOf (nodeRefusal (encode k o) (widthsF (recorded c))) ≡ 0 =
-    ap (λ (ws : List ℕ). numberOf (nodeRefusal (encode k o) ws)) (widths-recorded c) ∙ ap numberOf (node-same k o (v .fields) ws) ∙ three (unionOk o ws) (columnsOk o ws) (leb (width o ws) 32) (v .union) (v .columns) (v .narrow) in
-    ap₂ _&&_ (eq-eqb (numberOf (nodeRefusal (encode k o) (widthsF (recorded c)))) 0 z) (ap₂ _&&_ (passes-recorded c (below o c r e)) (passes-recorded r (beside o c r e)))
+    ap (λ (ws : List ℕ). numberOf (nodeRefusal (encode k o) ws)) (widths-recorded c) ∙ ap numberOf (node-same k o (v .fields) ws)
+    ∙ three (unionOk o ws) (columnsOk o ws) (leb (width o ws) 32) (v .union) (v .columns) (v .narrow) in
+    ap₂ _&&_ (eq-eqb (numberOf (nodeRefusal (encode k o) (widthsF (recorded c)))) 0 z)
+    (ap₂ _&&_ (passes-recorded c (below o c r e)) (passes-recorded r (beside o c r e)))
 
 pub decoded : (f : Plan) → nodesOk f ≡ true → mapF decode (recorded f) ≡ f
 decoded none e = refl
-decoded (tree o c r) e = λ i. tree (decode-encode (length (roots c)) o (here o c r e .fields) i) (decoded c (below o c r e) i) (decoded r (beside o c r e) i)
+decoded (tree o c r) e = λ i. tree (decode-encode (length (roots c)) o (here o c r e .fields) i) (decoded c (below o c r e) i)
+    (decoded r (beside o c r e) i)
 
 pub plan-fine : (f : Plan) → wellFormed f ≡ true → FineTree (recorded f)
 plan-fine f e =
@@ -120,9 +124,11 @@ plan-fine f e =
     let ok = and-right (leb (size f) 126) (nodesOk f) rest in
     let l : List (List ℕ) = recordsOf f in
     let same : nodes (recorded f) ≡ l = nodes-recorded f in
-    let built : build l ≡ recorded f = ap build (sym same ∙ sym (append-nil (nodes (recorded f)))) ∙ build-nodes (recorded f) [] (arity-recorded f) ∙ join-none (recorded f) in
+    let built : build l ≡ recorded f = ap build (sym same ∙ sym (append-nil (nodes (recorded f)))) ∙ build-nodes (recorded f) [] (arity-recorded f)
+    ∙ join-none (recorded f) in
     let fin : finished (map children l) ≡ 1 = sym (roots-build l) ∙ ap (λ (x : Forest (List ℕ)). length (roots x)) built ∙ roots-recorded f ∙ one in
-    let enough-l : enough (map children l) ≡ true = ap (λ (x : List (List ℕ)). enough (map children x)) (sym same ∙ sym (append-nil (nodes (recorded f)))) ∙ enough-nodes (recorded f) [] (arity-recorded f) refl in
+    let enough-l : enough (map children l) ≡ true = ap (λ (x : List (List ℕ)). enough (map children x)) (sym same ∙ sym (append-nil (nodes (recorded f))))
+    ∙ enough-nodes (recorded f) [] (arity-recorded f) refl in
     let n = length-records f in
     record {
       one = roots-recorded f ∙ one;
@@ -131,7 +137,8 @@ plan-fine f e =
         some = some-nodes f one;
         most = omega arith;
         longs = each long (λ o c v q. eq-eqb (length (encode (length (roots c)) o)) 64 (encode-long (length (roots c)) o (v .fields))) f ok;
-        bytes = each (every byte) (λ o c v q. encode-bytes (length (roots c)) o (v .fields) (widths c) (counted o c v) (v .columns) (narrow-at c q 0) (narrow-at c q 1)) f ok;
+        bytes = each (every byte) (λ o c v q. encode-bytes (length (roots c)) o (v .fields) (widths c) (counted o c v) (v .columns) (narrow-at c q 0)
+            (narrow-at c q 1)) f ok;
         kinds = each kindOk (λ o c v q. encode-kind (length (roots c)) o (v .fields) (counted o c v)) f ok;
         shape = both (enough (map children l)) (eqb (finished (map children l)) 1) enough-l (eq-eqb (finished (map children l)) 1 fin);
         fields = each recordOk (λ o c v q. encode-rules (length (roots c)) o (v .fields)) f ok;
@@ -204,10 +211,12 @@ module _ (a : List ℕ) (c r : Forest (List ℕ)) (v : Fit (tree a c r)) where
   long-here = eqb-true (length a) 64 (root long (v .longs))
 
   children-here : length (roots (mapF decode c)) ≡ children a
-  children-here = roots-map decode c ∙ sym (eqb-true (children a) (length (roots c)) (and-left (eqb (children a) (length (roots c))) (arity c && arity r) (v .counts)))
+  children-here = roots-map decode c
+      ∙ sym (eqb-true (children a) (length (roots c)) (and-left (eqb (children a) (length (roots c))) (arity c && arity r) (v .counts)))
 
   record-here : encode (length (roots (mapF decode c))) (decode a) ≡ a
-  record-here = ap (λ (k : ℕ). encode k (decode a)) children-here ∙ encode-decode a long-here (root (every byte) (v .bytes)) (root kindOk (v .kinds)) (root recordOk (v .rules))
+  record-here = ap (λ (k : ℕ). encode k (decode a)) children-here ∙ encode-decode a long-here (root (every byte) (v .bytes)) (root kindOk (v .kinds))
+      (root recordOk (v .rules))
 
   fields-here : fieldsOk (decode a) ≡ true
   fields-here = decode-fields a long-here (root (every byte) (v .bytes)) (root kindOk (v .kinds)) (root recordOk (v .rules))
@@ -219,13 +228,15 @@ module _ (a : List ℕ) (c r : Forest (List ℕ)) (v : Fit (tree a c r)) where
       let o : Op = decode a in
       let k : ℕ = length (roots (mapF decode c)) in
       let ws : List ℕ = widths (mapF decode c) in
-      let z : numberOf (nodeRefusal a (widthsF c)) ≡ 0 = eqb-true (numberOf (nodeRefusal a (widthsF c))) 0 (and-left pass (passes c && passes r) (v .last)) in
+      let z : numberOf (nodeRefusal a (widthsF c)) ≡ 0 = eqb-true (numberOf (nodeRefusal a (widthsF c))) 0
+      (and-left pass (passes c && passes r) (v .last)) in
       let q : numberOf (cond (unionOk o ws) (cond (columnsOk o ws) (cond (leb (width o ws) 32) Accepted Width) Column) Field) ≡ 0 =
       ap numberOf (sym (node-same k o fields-here ws) ∙ ap₂ nodeRefusal record-here (sym w)) ∙ z in
       let t = three-hold (unionOk o ws) (columnsOk o ws) (leb (width o ws) 32) q in
       record {
         fields = fields-here;
-        counts = ap (childrenOk o) (length-widths (mapF decode c) ∙ children-here) ∙ decode-children a long-here (root (every byte) (v .bytes)) (root kindOk (v .kinds)) (root recordOk (v .rules));
+        counts = ap (childrenOk o) (length-widths (mapF decode c) ∙ children-here) ∙ decode-children a long-here (root (every byte) (v .bytes))
+            (root kindOk (v .kinds)) (root recordOk (v .rules));
         union = t .0;
         columns = t .1;
         narrow = t .2;
@@ -239,5 +250,6 @@ pub nodes-fine : (t : Forest (List ℕ)) → Fit t → nodesOk (mapF decode t) �
 nodes-fine none v = refl
 nodes-fine (tree a c r) v =
     let w : widthsF c ≡ widths (mapF decode c) = ap widthsF (sym (recorded-back c (kids a c r v))) ∙ widths-recorded (mapF decode c) in
-    both (nodeOk (decode a) (widths (mapF decode c))) (nodesOk (mapF decode c) && nodesOk (mapF decode r)) (fine-node (decode a) (widths (mapF decode c)) (node-here a c r v w))
+    both (nodeOk (decode a) (widths (mapF decode c))) (nodesOk (mapF decode c) && nodesOk (mapF decode r))
+    (fine-node (decode a) (widths (mapF decode c)) (node-here a c r v w))
     (both (nodesOk (mapF decode c)) (nodesOk (mapF decode r)) (nodes-fine c (kids a c r v)) (nodes-fine r (siblings a c r v)))

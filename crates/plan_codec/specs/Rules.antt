@@ -55,7 +55,8 @@ le32-drop r = λ i. getD-drop 32 r 0 0 i + 256 * getD-drop 32 r 1 0 i + 65536 * 
 pub key-byte : (r : List ℕ) (j : ℕ) → j < 16 → getD (part 16 16 r) j 0 ≡ getD r (16 + j) 0
 key-byte r j h = getD-take 16 (drop 16 r) j 0 h ∙ getD-drop 16 r j 0
 
-slot-bytes : (p : Bool) (r : List ℕ) (i : ℕ) → i < 8 → keyOk p (getD r 12 0) i (getD (part 16 16 r) (2 * i) 0) (getD (part 16 16 r) (2 * i + 1) 0) ≡ keySlotOk p r i
+slot-bytes : (p : Bool) (r : List ℕ) (i : ℕ) → i < 8 → keyOk p (getD r 12 0) i (getD (part 16 16 r) (2 * i) 0) (getD (part 16 16 r) (2 * i + 1) 0)
+    ≡ keySlotOk p r i
 slot-bytes p r i h =
     let e : 16 + (2 * i + 1) ≡ 17 + 2 * i = omega arith in
     ap₂ (keyOk p (getD r 12 0) i) (key-byte r (2 * i) (omega arith)) (key-byte r (2 * i + 1) (omega arith) ∙ ap (λ (j : ℕ). getD r j 0) e)
@@ -77,20 +78,37 @@ module _ (x : NodeRecord) where
   fields-same hf hs few =
       let k = number-back (x .kind) in
       let b = marks-bits (x .preserve) (x .hash) (x .unbounded) in
-      let fe : fetchOf (le32 (toBytes x) 4) ≡ x .fetch = ap fetchOf (four-again (fetchNumber (x .fetch)) (fetch-fits (x .fetch) hf)) ∙ fetch-number (x .fetch) hf in
+      let fe : fetchOf (le32 (toBytes x) 4) ≡ x .fetch = ap fetchOf (four-again (fetchNumber (x .fetch)) (fetch-fits (x .fetch) hf))
+      ∙ fetch-number (x .fetch) hf in
       let sk = four-again (x .skip) hs in
-      let ks : keysOf (length (x .keys)) (part 16 16 (toBytes x)) ≡ x .keys = ap (keysOf (length (x .keys))) keys-are ∙ keys-back 16 (x .keys) (omega arith) in
-      λ i. record { kind = k i; children = x .children; streams = x .streams; preserve = b .preserve i; hash = b .hash i; unbounded = b .unbounded i; fetch = fe i; skip = sk i; keys = ks i; width = x .width; role = x .role; tail = tail-is i }
+      let ks : keysOf (length (x .keys)) (part 16 16 (toBytes x)) ≡ x .keys = ap (keysOf (length (x .keys))) keys-are
+      ∙ keys-back 16 (x .keys) (omega arith) in
+      λ i. record {
+        kind = k i;
+        children = x .children;
+        streams = x .streams;
+        preserve = b .preserve i;
+        hash = b .hash i;
+        unbounded = b .unbounded i;
+        fetch = fe i;
+        skip = sk i;
+        keys = ks i;
+        width = x .width;
+        role = x .role;
+        tail = tail-is i;
+      }
 
   module _ (f : Fields) (g : Rules f x) (hf : fetchNumber (x .fetch) < 4294967296) (hs : x .skip < 4294967296) where
     head-ok : headOk f (toBytes x) ≡ true
     head-ok =
-        let b : Marks (x .preserve) (x .hash) (x .unbounded) (marksByte (x .preserve) (x .hash) (x .unbounded)) = marks-bits (x .preserve) (x .hash) (x .unbounded) in
+        let b : Marks (x .preserve) (x .hash) (x .unbounded) (marksByte (x .preserve) (x .hash) (x .unbounded)) =
+        marks-bits (x .preserve) (x .hash) (x .unbounded) in
         let marks : marksOk f (marksByte (x .preserve) (x .hash) (x .unbounded)) ≡ true =
         ap₂ _&&_ (b .small)
         (ap₂ _&&_ (ap (λ (t : Bool). f .preserve || not t) (b .preserve) ∙ g .preserve)
         (ap₂ _&&_ (ap (λ (t : Bool). f .hash || not t) (b .hash) ∙ g .hash) (ap (λ (t : Bool). f .unbounded || not t) (b .unbounded) ∙ g .unbounded))) in
-        ap₂ _&&_ (ap₂ _&&_ (g .streams) marks) (ap₂ _&&_ (ap (fetchOk f) (four-again (fetchNumber (x .fetch)) hf) ∙ g .fetch) (ap (skipOk f) (four-again (x .skip) hs) ∙ g .skip))
+        ap₂ _&&_ (ap₂ _&&_ (g .streams) marks) (ap₂ _&&_ (ap (fetchOk f) (four-again (fetchNumber (x .fetch)) hf) ∙ g .fetch)
+        (ap (skipOk f) (four-again (x .skip) hs) ∙ g .skip))
 
     body-ok : bodyOk f (toBytes x) ≡ true
     body-ok =
@@ -104,9 +122,11 @@ module _ (x : NodeRecord) where
         let l : List ℕ = keyBytes (x .keys) in
         let few = few-keys f (f .hash && x .hash) n (g .count) in
         let long = length-bytes (x .keys) in
-        let byte : (j : ℕ) → getD (part 16 16 (toBytes x)) j 0 ≡ getD l j 0 = λ j. ap (λ (l : List ℕ). getD l j 0) keys-are ∙ fill-at 16 l j (omega arith) in
+        let byte : (j : ℕ) → getD (part 16 16 (toBytes x)) j 0 ≡ getD l j 0 = λ j. ap (λ (l : List ℕ). getD l j 0) keys-are
+        ∙ fill-at 16 l j (omega arith) in
         all-intro (keySlotOk (plainKeys f x) (toBytes x)) 8
-        (λ i h. sym (slot-bytes (plainKeys f x) (toBytes x) i h) ∙ ap₂ (keyOk (plainKeys f x) n i) (byte (2 * i)) (byte (2 * i + 1)) ∙ slots (plainKeys f x) (x .keys) (g .options) i)
+        (λ i h. sym (slot-bytes (plainKeys f x) (toBytes x) i h) ∙ ap₂ (keyOk (plainKeys f x) n i) (byte (2 * i)) (byte (2 * i + 1))
+        ∙ slots (plainKeys f x) (x .keys) (g .options) i)
 
     tail-ok : tailOk f (toBytes x) ≡ true
     tail-ok =
@@ -135,11 +155,13 @@ module _ (f : Fields) (r : List ℕ) (long : length r ≡ 64) (e : rulesOk f r �
 
   body : bodyOk f r ≡ true
   unfolding rulesOk
-  body = and-left (bodyOk f r) (keySlotsOk (f .plain || h) r && tailOk f r) (and-right (headOk f r) (bodyOk f r && (keySlotsOk (f .plain || h) r && tailOk f r)) e)
+  body = and-left (bodyOk f r) (keySlotsOk (f .plain || h) r && tailOk f r)
+      (and-right (headOk f r) (bodyOk f r && (keySlotsOk (f .plain || h) r && tailOk f r)) e)
 
   keys-tail : (keySlotsOk (f .plain || h) r && tailOk f r) ≡ true
   unfolding rulesOk
-  keys-tail = and-right (bodyOk f r) (keySlotsOk (f .plain || h) r && tailOk f r) (and-right (headOk f r) (bodyOk f r && (keySlotsOk (f .plain || h) r && tailOk f r)) e)
+  keys-tail = and-right (bodyOk f r) (keySlotsOk (f .plain || h) r && tailOk f r)
+      (and-right (headOk f r) (bodyOk f r && (keySlotsOk (f .plain || h) r && tailOk f r)) e)
 
   marks : marksOk f (getD r 3 0) ≡ true
   marks =
@@ -147,7 +169,9 @@ module _ (f : Fields) (r : List ℕ) (long : length r ≡ 64) (e : rulesOk f r �
       (and-left (streamsOk f (getD r 2 0) && marksOk f (getD r 3 0)) (fetchOk f (le32 r 4) && skipOk f (le32 r 8)) head)
 
   small-marks : getD r 3 0 < 8
-  small-marks = ltb-true (getD r 3 0) 8 (and-left (ltb (getD r 3 0) 8) ((f .preserve || not (mark (getD r 3 0) 0)) && ((f .hash || not (mark (getD r 3 0) 1)) && (f .unbounded || not (mark (getD r 3 0) 2)))) marks)
+  small-marks = ltb-true (getD r 3 0) 8
+      (and-left (ltb (getD r 3 0) 8)
+      ((f .preserve || not (mark (getD r 3 0) 0)) && ((f .hash || not (mark (getD r 3 0) 1)) && (f .unbounded || not (mark (getD r 3 0) 2)))) marks)
 
   counts : (keyCountOk f h n && widthOk f (getD r 13 0)) ≡ true
   counts = and-left (keyCountOk f h n && widthOk f (getD r 13 0)) (byte14Ok f n (getD r 14 0) && eqb (getD r 15 0) 0) body
@@ -166,7 +190,8 @@ module _ (f : Fields) (r : List ℕ) (long : length r ≡ 64) (e : rulesOk f r �
 
   slot-at : (i : ℕ) → i < 8 → Slot (f .plain || h) n (part 16 16 r) i
   unfolding keySlotsOk
-  slot-at i q = slot-bytes (f .plain || h) r i q ∙ all-at (keySlotOk (f .plain || h) r) 8 (and-left (keySlotsOk (f .plain || h) r) (tailOk f r) keys-tail) i q
+  slot-at i q = slot-bytes (f .plain || h) r i q ∙ all-at (keySlotOk (f .plain || h) r) 8 (and-left (keySlotsOk (f .plain || h) r) (tailOk f r) keys-tail) i
+      q
 
   keys-same : fill 16 (keyBytes (keysOf n (part 16 16 r))) ≡ part 16 16 r
   keys-same = ap (λ (k : ℕ). fill k (keyBytes (keysOf n (part 16 16 r)))) (sym long-keys) ∙ bytes-back (f .plain || h) n 8 (part 16 16 r) long-keys slot-at
@@ -180,7 +205,8 @@ module _ (f : Fields) (r : List ℕ) (long : length r ≡ 64) (e : rulesOk f r �
       let tops = and-right (streamsOk f (getD r 2 0) && marksOk f m) (fetchOk f (le32 r 4) && skipOk f (le32 r 8)) head in
       let tail = and-right (keySlotsOk (f .plain || h) r) (tailOk f r) keys-tail in
       record {
-        streams = and-left (streamsOk f (getD r 2 0)) (marksOk f m) (and-left (streamsOk f (getD r 2 0) && marksOk f m) (fetchOk f (le32 r 4) && skipOk f (le32 r 8)) head);
+        streams = and-left (streamsOk f (getD r 2 0)) (marksOk f m)
+            (and-left (streamsOk f (getD r 2 0) && marksOk f m) (fetchOk f (le32 r 4) && skipOk f (le32 r 8)) head);
         preserve = and-left (f .preserve || not (mark m 0)) ((f .hash || not (mark m 1)) && (f .unbounded || not (mark m 2))) three;
         hash = and-left (f .hash || not (mark m 1)) (f .unbounded || not (mark m 2)) two;
         unbounded = and-right (f .hash || not (mark m 1)) (f .unbounded || not (mark m 2)) two;
@@ -191,7 +217,8 @@ module _ (f : Fields) (r : List ℕ) (long : length r ≡ 64) (e : rulesOk f r �
         role = ap (λ (k : ℕ). byte14Ok f k (getD r 14 0)) key-count ∙ and-left (byte14Ok f n (getD r 14 0)) (eqb (getD r 15 0) 0) last;
         options = λ q. bytes-plain n 8 (part 16 16 r) long-keys (λ i t. rw q at (slot-at i t));
         set = ap (keyedSetOk f (getD r 14 0)) (le32-drop r) ∙ and-left (keyedSetOk f (getD r 14 0) (le32 r 32)) (zeros (drop (32 + u) r)) tail;
-        rest = ap (λ (k : ℕ). zeros (drop (tailUsed f (getD r 14 0) (getD r 13 0) k) (drop 32 r))) key-count ∙ ap zeros (drop-drop u 32 r) ∙ and-right (keyedSetOk f (getD r 14 0) (le32 r 32)) (zeros (drop (32 + u) r)) tail;
+        rest = ap (λ (k : ℕ). zeros (drop (tailUsed f (getD r 14 0) (getD r 13 0) k) (drop 32 r))) key-count ∙ ap zeros (drop-drop u 32 r)
+            ∙ and-right (keyedSetOk f (getD r 14 0) (le32 r 32)) (zeros (drop (32 + u) r)) tail;
       }
 
   -- the same bytes again

@@ -26,12 +26,15 @@ use Rattle.plan_codec.specs.Rules.{Rules, few-keys}
 -- ---- lists of bytes
 
 bytes-four : (x : ℕ) → every byte (fourBytes x) ≡ true
-bytes-four x = ap₂ _&&_ (lt-ltb (x % 256) 256 (omega arith)) (ap₂ _&&_ (lt-ltb (x / 256 % 256) 256 (omega arith)) (ap₂ _&&_ (lt-ltb (x / 65536 % 256) 256 (omega arith)) (ap₂ _&&_ (lt-ltb (x / 16777216 % 256) 256 (omega arith)) refl)))
+bytes-four x = ap₂ _&&_ (lt-ltb (x % 256) 256 (omega arith))
+    (ap₂ _&&_ (lt-ltb (x / 256 % 256) 256 (omega arith))
+    (ap₂ _&&_ (lt-ltb (x / 65536 % 256) 256 (omega arith)) (ap₂ _&&_ (lt-ltb (x / 16777216 % 256) 256 (omega arith)) refl)))
 
 bytes-fill : (n : ℕ) (l : List ℕ) → every byte l ≡ true → every byte (fill n l) ≡ true
 bytes-fill zero l h = refl
 bytes-fill (suc n) [] h = bytes-fill n [] h
-bytes-fill (suc n) (x ∷ l) h = both (byte x) (every byte (fill n l)) (and-left (byte x) (every byte l) h) (bytes-fill n l (and-right (byte x) (every byte l) h))
+bytes-fill (suc n) (x ∷ l) h = both (byte x) (every byte (fill n l)) (and-left (byte x) (every byte l) h)
+    (bytes-fill n l (and-right (byte x) (every byte l) h))
 
 bytes-below : (w : ℕ) (l : List ℕ) → w ≤ 32 → below w l ≡ true → every byte l ≡ true
 bytes-below w [] h e = refl
@@ -47,7 +50,8 @@ bytes-keys [] h = refl
 bytes-keys (k ∷ ks) h =
     let o = options-bits (k .desc) (k .first) .2 in
     both (byte (k .col)) (byte (optionsByte k) && every byte (keyBytes ks)) (and-left (byte (k .col)) (every byte (map (λ k. k .col) ks)) h)
-    (both (byte (optionsByte k)) (every byte (keyBytes ks)) (lt-ltb (optionsByte k) 256 (omega arith)) (bytes-keys ks (and-right (byte (k .col)) (every byte (map (λ k. k .col) ks)) h)))
+    (both (byte (optionsByte k)) (every byte (keyBytes ks)) (lt-ltb (optionsByte k) 256 (omega arith))
+    (bytes-keys ks (and-right (byte (k .col)) (every byte (map (λ k. k .col) ks)) h)))
 
 -- ---- the first 16 bytes
 
@@ -73,10 +77,15 @@ module _ (f : Fields) (x : NodeRecord) (g : Rules f x) where
       let ki = leb-true (kindNumber (x .kind)) 14 (and-right (leb 1 (kindNumber (x .kind))) (leb (kindNumber (x .kind)) 14) (known (x .kind))) in
       let ma = ltb-true m 8 (marks-bits (x .preserve) (x .hash) (x .unbounded) .small) in
       let start : every byte (kindNumber (x .kind) ∷ x .children ∷ x .streams ∷ m ∷ []) ≡ true =
-      ap₂ _&&_ (lt-ltb (kindNumber (x .kind)) 256 (omega arith)) (ap₂ _&&_ (lt-ltb (x .children) 256 (omega arith)) (ap₂ _&&_ (lt-ltb (x .streams) 256 (omega arith)) (ap₂ _&&_ (lt-ltb m 256 (omega arith)) refl))) in
-      let end : every byte (n ∷ x .width ∷ x .role ∷ 0 ∷ []) ≡ true = ap₂ _&&_ (lt-ltb n 256 (omega arith)) (ap₂ _&&_ (lt-ltb (x .width) 256 (omega arith)) (ap₂ _&&_ (lt-ltb (x .role) 256 (omega arith)) refl)) in
-      every-append byte (kindNumber (x .kind) ∷ x .children ∷ x .streams ∷ m ∷ []) (fourBytes (fetchNumber (x .fetch)) ++ (fourBytes (x .skip) ++ (n ∷ x .width ∷ x .role ∷ 0 ∷ []))) start
-      (every-append byte (fourBytes (fetchNumber (x .fetch))) (fourBytes (x .skip) ++ (n ∷ x .width ∷ x .role ∷ 0 ∷ [])) (bytes-four (fetchNumber (x .fetch)))
+      ap₂ _&&_ (lt-ltb (kindNumber (x .kind)) 256 (omega arith))
+      (ap₂ _&&_ (lt-ltb (x .children) 256 (omega arith))
+      (ap₂ _&&_ (lt-ltb (x .streams) 256 (omega arith)) (ap₂ _&&_ (lt-ltb m 256 (omega arith)) refl))) in
+      let end : every byte (n ∷ x .width ∷ x .role ∷ 0 ∷ []) ≡ true = ap₂ _&&_ (lt-ltb n 256 (omega arith))
+      (ap₂ _&&_ (lt-ltb (x .width) 256 (omega arith)) (ap₂ _&&_ (lt-ltb (x .role) 256 (omega arith)) refl)) in
+      every-append byte (kindNumber (x .kind) ∷ x .children ∷ x .streams ∷ m ∷ [])
+      (fourBytes (fetchNumber (x .fetch)) ++ (fourBytes (x .skip) ++ (n ∷ x .width ∷ x .role ∷ 0 ∷ []))) start
+      (every-append byte (fourBytes (fetchNumber (x .fetch))) (fourBytes (x .skip) ++ (n ∷ x .width ∷ x .role ∷ 0 ∷ []))
+      (bytes-four (fetchNumber (x .fetch)))
       (every-append byte (fourBytes (x .skip)) (n ∷ x .width ∷ x .role ∷ 0 ∷ []) (bytes-four (x .skip)) end))
 
   pub bytes-record : x .children ≤ 8 → every byte (map (λ k. k .col) (x .keys)) ≡ true → every byte (x .tail) ≡ true → every byte (toBytes x) ≡ true
@@ -104,17 +113,25 @@ module _ (k : ℕ) (ws : List ℕ) (h₀ : getD ws 0 0 ≤ 32) (h₁ : getD ws 1
   on-left : (on : List On) → onFit (getD ws 0 0) (getD ws 1 0) on ≡ true → every byte (map (λ k. k .col) (map (λ k. k .key) on)) ≡ true
   on-left on c =
       ap (every byte) (on-columns on)
-      ∙ bytes-fit (getD ws 0 0) (map (λ k. k .key .col) on) h₀ (and-left (columnsFit (getD ws 0 0) (map (λ k. k .key .col) on)) (columnsFit (getD ws 1 0) (map (λ k. k .other) on)) c)
+      ∙ bytes-fit (getD ws 0 0) (map (λ k. k .key .col) on) h₀
+      (and-left (columnsFit (getD ws 0 0) (map (λ k. k .key .col) on)) (columnsFit (getD ws 1 0) (map (λ k. k .other) on)) c)
 
   on-right : (on : List On) → onFit (getD ws 0 0) (getD ws 1 0) on ≡ true → every byte (fill 32 (map (λ k. k .other) on)) ≡ true
   on-right on c =
       bytes-fill 32 (map (λ k. k .other) on)
-      (bytes-fit (getD ws 1 0) (map (λ k. k .other) on) h₁ (and-right (columnsFit (getD ws 0 0) (map (λ k. k .key .col) on)) (columnsFit (getD ws 1 0) (map (λ k. k .other) on)) c))
+      (bytes-fit (getD ws 1 0) (map (λ k. k .other) on) h₁
+      (and-right (columnsFit (getD ws 0 0) (map (λ k. k .key .col) on)) (columnsFit (getD ws 1 0) (map (λ k. k .other) on)) c))
 
   pub small-of : (o : Op) → fieldsOk o ≡ true → columnsOk o ws ≡ true → Small (recordOf k o)
   small-of (source s) e c =
-      let a = and-left (between 1 32 (s .width)) (between 1 64 (s .streams)) (and-left (between 1 32 (s .width) && between 1 64 (s .streams)) (ltb (s .constants) (2 ^ 32) && few (s .keys)) e) in
-      record { keys = bytes-fit (s .width) (map (λ k. k .col) (s .keys)) (leb-true (s .width) 32 (and-right (leb 1 (s .width)) (leb (s .width) 32) a)) (and-left (keysFit (s .width) (s .keys)) (setFits (s .width) (s .constants)) c); tail = bytes-fill 32 (fourBytes (s .constants)) (bytes-four (s .constants)) }
+      let a = and-left (between 1 32 (s .width)) (between 1 64 (s .streams))
+      (and-left (between 1 32 (s .width) && between 1 64 (s .streams)) (ltb (s .constants) (2 ^ 32) && few (s .keys)) e) in
+      record {
+        keys = bytes-fit (s .width) (map (λ k. k .col) (s .keys)) (leb-true (s .width) 32 (and-right (leb 1 (s .width)) (leb (s .width) 32) a))
+            (and-left (keysFit (s .width) (s .keys)) (setFits (s .width) (s .constants)) c);
+        tail = bytes-fill 32 (fourBytes (s .constants))
+            (bytes-four (s .constants));
+      }
   small-of filter e c = record { keys = refl; tail = refl }
   small-of (projection cols) e c = record { keys = refl; tail = bytes-fill 32 cols (bytes-below (getD ws 0 0) cols h₀ c) }
   small-of union e c = record { keys = refl; tail = refl }
@@ -127,5 +144,9 @@ module _ (k : ℕ) (ws : List ℕ) (h₀ : getD ws 0 0 ≤ 32) (h₁ : getD ws 1
   small-of (sortMergeJoin t on) e c = record { keys = on-left on c; tail = on-right on c }
   small-of (hashJoin t on) e c = record { keys = on-left on c; tail = on-right on c }
   small-of (outputRequirement ks d f) e c =
-      record { keys = fit-keys ks (and-left (keysFit (getD ws 0 0) ks) (distributionFits (getD ws 0 0) d) c); tail = bytes-fill 32 (fourBytes (keyedSet d)) (bytes-four (keyedSet d)) }
+      record {
+        keys = fit-keys ks (and-left (keysFit (getD ws 0 0) ks) (distributionFits (getD ws 0 0) d) c);
+        tail = bytes-fill 32 (fourBytes (keyedSet d))
+            (bytes-four (keyedSet d));
+      }
   small-of (partialSort p ks n f) e c = record { keys = fit-keys ks c; tail = refl }

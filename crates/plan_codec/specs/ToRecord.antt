@@ -44,7 +44,8 @@ free ks e = both (leb (length ks) 8) true (and-right (leb 0 (length ks)) (leb (l
 needed : (n : ℕ) → between 1 8 n ≡ true → leb n 8 && (leb 1 n || false) ≡ true
 needed n e = both (leb n 8) (leb 1 n || false) (and-right (leb 1 n) (leb n 8) e) (keep (leb 1 n) (and-left (leb 1 n) (leb n 8) e))
 
-hashed-count : (h : Bool) (ks : List Key) → cond h (some ks && every plain ks) (eqb (length ks) 0) ≡ true → leb (length ks) 8 && either h (leb 1 (length ks)) (eqb (length ks) 0) ≡ true
+hashed-count : (h : Bool) (ks : List Key) → cond h (some ks && every plain ks) (eqb (length ks) 0) ≡ true → leb (length ks) 8
+    && either h (leb 1 (length ks)) (eqb (length ks) 0) ≡ true
 hashed-count true ks e = needed (length ks) (and-left (some ks) (every plain ks) e)
 hashed-count false [] e = refl
 hashed-count false (k ∷ ks) e = absurd (let z = eqb-true (length (k ∷ ks)) 0 e in omega arith)
@@ -67,10 +68,12 @@ role-rule (Keyed s) = refl
 pub set-is : (s : ℕ) → ltb s (2 ^ 32) ≡ true → le32 (fill 32 (fourBytes s)) 0 ≡ s
 set-is s e = four-again s (ltb-true s (2 ^ 32) e)
 
-set-rule : (d : Distribution) → distributionOk d ≡ true → (not (eqb (distributionNumber d) 2) || between 1 8 (ones (le32 (fill 32 (fourBytes (keyedSet d))) 0))) ≡ true
+set-rule : (d : Distribution) → distributionOk d ≡ true
+    → (not (eqb (distributionNumber d) 2) || between 1 8 (ones (le32 (fill 32 (fourBytes (keyedSet d))) 0))) ≡ true
 set-rule Unspecified e = refl
 set-rule Single e = refl
-set-rule (Keyed s) e = ap (λ (x : ℕ). between 1 8 (ones x)) (set-is s (and-left (ltb s (2 ^ 32)) (between 1 8 (ones s)) e)) ∙ and-right (ltb s (2 ^ 32)) (between 1 8 (ones s)) e
+set-rule (Keyed s) e = ap (λ (x : ℕ). between 1 8 (ones x)) (set-is s (and-left (ltb s (2 ^ 32)) (between 1 8 (ones s)) e)) ∙ and-right (ltb s (2 ^ 32))
+    (between 1 8 (ones s)) e
 
 rest-rule : (d : Distribution) → zeros (drop (cond (eqb (distributionNumber d) 2) 4 0) (fill 32 (fourBytes (keyedSet d)))) ≡ true
 rest-rule Unspecified = refl
@@ -89,37 +92,231 @@ on-count : {A B : Type 0} (f : A → B) (l : List A) → some l ≡ true → leb
 on-count f l e = ap (λ (n : ℕ). leb n 8 && (leb 1 n || false)) (length-map l f) ∙ needed (length l) e
 
 on-rest : (on : List On) → zeros (drop (length (map (λ k. k .key) on)) (fill 32 (map (λ k. k .other) on))) ≡ true
-on-rest on = fill-rest 32 (length (map (λ k. k .key) on)) (map (λ k. k .other) on) (let a = length-map on (λ k. k .key) in let b = length-map on (λ k. k .other) in omega arith)
+on-rest on = fill-rest 32 (length (map (λ k. k .key) on)) (map (λ k. k .other) on) (let a = length-map on (λ k. k .key) in
+    let b = length-map on (λ k. k .other) in omega arith)
 
 pub rules-of : (k : ℕ) (o : Op) → fieldsOk o ≡ true → Rules (fieldsOf (kindNumber (kind o))) (recordOf k o)
 rules-of k (source s) e =
     let a = and-left (between 1 32 (s .width) && between 1 64 (s .streams)) (ltb (s .constants) (2 ^ 32) && few (s .keys)) e in
     let b = and-right (between 1 32 (s .width) && between 1 64 (s .streams)) (ltb (s .constants) (2 ^ 32) && few (s .keys)) e in
-    record { streams = keep (between 1 64 (s .streams)) (and-right (between 1 32 (s .width)) (between 1 64 (s .streams)) a); preserve = refl; hash = refl; unbounded = refl; fetch = refl; skip = refl; count = free (s .keys) (and-right (ltb (s .constants) (2 ^ 32)) (few (s .keys)) b); width = keep (between 1 32 (s .width)) (and-left (between 1 32 (s .width)) (between 1 64 (s .streams)) a); role = refl; options = λ q. no-false q; set = refl; rest = refl }
-rules-of k filter e = record { streams = refl; preserve = refl; hash = refl; unbounded = refl; fetch = refl; skip = refl; count = refl; width = refl; role = refl; options = λ q. no-false q; set = refl; rest = refl }
-rules-of k (projection cols) e = record { streams = refl; preserve = refl; hash = refl; unbounded = refl; fetch = refl; skip = refl; count = refl; width = keep (between 1 32 (length cols)) e; role = refl; options = λ q. no-false q; set = refl; rest = fill-rest 32 (length cols) cols (omega arith) }
-rules-of k union e = record { streams = refl; preserve = refl; hash = refl; unbounded = refl; fetch = refl; skip = refl; count = refl; width = refl; role = refl; options = λ q. no-false q; set = refl; rest = refl }
+    record {
+      streams = keep (between 1 64 (s .streams)) (and-right (between 1 32 (s .width)) (between 1 64 (s .streams)) a);
+      preserve = refl;
+      hash = refl;
+      unbounded = refl;
+      fetch = refl;
+      skip = refl;
+      count = free (s .keys) (and-right (ltb (s .constants) (2 ^ 32)) (few (s .keys)) b);
+      width =
+          keep (between 1 32 (s .width)) (and-left (between 1 32 (s .width)) (between 1 64 (s .streams)) a);
+      role = refl;
+      options = λ q. no-false q;
+      set =
+          refl;
+      rest = refl;
+    }
+rules-of k filter e = record {
+  streams = refl;
+  preserve = refl;
+  hash = refl;
+  unbounded = refl;
+  fetch = refl;
+  skip = refl;
+  count = refl;
+  width = refl;
+  role = refl;
+  options = λ q. no-false q;
+  set = refl;
+  rest = refl;
+}
+rules-of k (projection cols) e = record {
+  streams = refl;
+  preserve = refl;
+  hash = refl;
+  unbounded = refl;
+  fetch = refl;
+  skip = refl;
+  count = refl;
+  width = keep (between 1 32 (length cols)) e;
+  role = refl;
+  options = λ q. no-false q;
+  set = refl;
+  rest = fill-rest 32 (length cols) cols (omega arith);
+}
+rules-of k union e = record {
+  streams = refl;
+  preserve = refl;
+  hash = refl;
+  unbounded = refl;
+  fetch = refl;
+  skip = refl;
+  count = refl;
+  width = refl;
+  role = refl;
+  options = λ q. no-false q;
+  set = refl;
+  rest = refl;
+}
 rules-of k (repartition p n h ks) e =
     let c = and-right (between 1 64 n) (cond h (some ks && every plain ks) (eqb (length ks) 0)) e in
-    record { streams = keep (between 1 64 n) (and-left (between 1 64 n) (cond h (some ks && every plain ks) (eqb (length ks) 0)) e); preserve = refl; hash = refl; unbounded = refl; fetch = refl; skip = refl; count = hashed-count h ks c; width = refl; role = refl; options = hashed-plain h ks c; set = refl; rest = refl }
-rules-of k (coalesce f) e = record { streams = refl; preserve = refl; hash = refl; unbounded = refl; fetch = refl; skip = refl; count = refl; width = refl; role = refl; options = λ q. no-false q; set = refl; rest = refl }
-rules-of k (sortOp p ks f) e = record { streams = refl; preserve = refl; hash = refl; unbounded = refl; fetch = refl; skip = refl; count = needed (length ks) (and-left (some ks) (fetchOk f) e); width = refl; role = refl; options = λ q. no-false q; set = refl; rest = refl }
-rules-of k (mergeOp ks f) e = record { streams = refl; preserve = refl; hash = refl; unbounded = refl; fetch = refl; skip = refl; count = needed (length ks) (and-left (some ks) (fetchOk f) e); width = refl; role = refl; options = λ q. no-false q; set = refl; rest = refl }
-rules-of k (globalLimit s f note) e = record { streams = refl; preserve = refl; hash = refl; unbounded = refl; fetch = refl; skip = refl; count = free note (and-left (few note) (fetchOk f) (and-right (ltb s (2 ^ 32)) (few note && fetchOk f) e)); width = refl; role = refl; options = λ q. no-false q; set = refl; rest = refl }
+    record {
+      streams = keep (between 1 64 n) (and-left (between 1 64 n) (cond h (some ks && every plain ks) (eqb (length ks) 0)) e);
+      preserve = refl;
+      hash = refl;
+      unbounded = refl;
+      fetch = refl;
+      skip = refl;
+      count = hashed-count h ks c;
+      width = refl;
+      role = refl;
+      options = hashed-plain h ks c;
+      set = refl;
+      rest = refl;
+    }
+rules-of k (coalesce f) e = record {
+  streams = refl;
+  preserve = refl;
+  hash = refl;
+  unbounded = refl;
+  fetch = refl;
+  skip = refl;
+  count = refl;
+  width = refl;
+  role = refl;
+  options = λ q. no-false q;
+  set = refl;
+  rest = refl;
+}
+rules-of k (sortOp p ks f) e = record {
+  streams = refl;
+  preserve = refl;
+  hash = refl;
+  unbounded = refl;
+  fetch = refl;
+  skip = refl;
+  count = needed (length ks) (and-left (some ks) (fetchOk f) e);
+  width = refl;
+  role = refl;
+  options = λ q. no-false q;
+  set = refl;
+  rest = refl;
+}
+rules-of k (mergeOp ks f) e = record {
+  streams = refl;
+  preserve = refl;
+  hash = refl;
+  unbounded = refl;
+  fetch = refl;
+  skip = refl;
+  count = needed (length ks) (and-left (some ks) (fetchOk f) e);
+  width = refl;
+  role = refl;
+  options = λ q. no-false q;
+  set = refl;
+  rest = refl;
+}
+rules-of k (globalLimit s f note) e = record {
+  streams = refl;
+  preserve = refl;
+  hash = refl;
+  unbounded = refl;
+  fetch = refl;
+  skip = refl;
+  count = free note (and-left (few note) (fetchOk f) (and-right (ltb s (2 ^ 32)) (few note && fetchOk f) e));
+  width = refl;
+  role = refl;
+  options =
+      λ q. no-false q;
+  set = refl;
+  rest = refl;
+}
 rules-of k (localLimit f note) e =
     let b = and-right (someFetch f) (few note && fetchOk f) e in
-    record { streams = refl; preserve = refl; hash = refl; unbounded = refl; fetch = limited f (and-left (someFetch f) (few note && fetchOk f) e) (and-right (few note) (fetchOk f) b); skip = refl; count = free note (and-left (few note) (fetchOk f) b); width = refl; role = refl; options = λ q. no-false q; set = refl; rest = refl }
-rules-of k (sortMergeJoin t on) e = record { streams = refl; preserve = refl; hash = refl; unbounded = refl; fetch = refl; skip = refl; count = on-count (λ k. k .key) on e; width = refl; role = keep (leb (joinNumber t) 7) (join-number t .1); options = λ q. no-false q; set = refl; rest = on-rest on }
-rules-of k (hashJoin t on) e = record { streams = refl; preserve = refl; hash = refl; unbounded = refl; fetch = refl; skip = refl; count = on-count (λ k. k .key) on (and-left (some on) (every (λ k. plain (k .key)) on) e); width = refl; role = keep (leb (joinNumber t) 7) (join-number t .1); options = λ q. plain-on on (and-right (some on) (every (λ k. plain (k .key)) on) e); set = refl; rest = on-rest on }
+    record {
+      streams = refl;
+      preserve = refl;
+      hash = refl;
+      unbounded = refl;
+      fetch = limited f (and-left (someFetch f) (few note && fetchOk f) e)
+          (and-right (few note) (fetchOk f) b);
+      skip = refl;
+      count = free note (and-left (few note) (fetchOk f) b);
+      width = refl;
+      role = refl;
+      options =
+          λ q. no-false q;
+      set = refl;
+      rest = refl;
+    }
+rules-of k (sortMergeJoin t on) e = record {
+  streams = refl;
+  preserve = refl;
+  hash = refl;
+  unbounded = refl;
+  fetch = refl;
+  skip = refl;
+  count = on-count (λ k. k .key) on e;
+  width = refl;
+  role = keep (leb (joinNumber t) 7) (join-number t .1);
+  options = λ q. no-false q;
+  set = refl;
+  rest =
+      on-rest on;
+}
+rules-of k (hashJoin t on) e = record {
+  streams = refl;
+  preserve = refl;
+  hash = refl;
+  unbounded = refl;
+  fetch = refl;
+  skip = refl;
+  count = on-count (λ k. k .key) on (and-left (some on) (every (λ k. plain (k .key)) on) e);
+  width = refl;
+  role =
+      keep (leb (joinNumber t) 7) (join-number t .1);
+  options = λ q. plain-on on (and-right (some on) (every (λ k. plain (k .key)) on) e);
+  set = refl;
+  rest =
+      on-rest on;
+}
 rules-of k (outputRequirement ks d f) e =
     let b = and-left (distributionOk d) (fetchOk f) (and-right (few ks) (distributionOk d && fetchOk f) e) in
-    record { streams = refl; preserve = refl; hash = refl; unbounded = refl; fetch = refl; skip = refl; count = free ks (and-left (few ks) (distributionOk d && fetchOk f) e); width = refl; role = role-rule d; options = λ q. no-false q; set = set-rule d b; rest = rest-rule d }
+    record {
+      streams = refl;
+      preserve = refl;
+      hash = refl;
+      unbounded = refl;
+      fetch = refl;
+      skip = refl;
+      count = free ks (and-left (few ks) (distributionOk d && fetchOk f) e);
+      width = refl;
+      role = role-rule d;
+      options = λ q. no-false q;
+      set =
+          set-rule d b;
+      rest = rest-rule d;
+    }
 rules-of k (partialSort p ks n f) e =
     let a = and-left (some ks && fetchOk f) (leb 1 n && ltb n (length ks)) e in
-    record { streams = refl; preserve = refl; hash = refl; unbounded = refl; fetch = refl; skip = refl; count = needed (length ks) (and-left (some ks) (fetchOk f) a); width = refl; role = keep (leb 1 n && ltb n (length ks)) (and-right (some ks && fetchOk f) (leb 1 n && ltb n (length ks)) e); options = λ q. no-false q; set = refl; rest = refl }
+    record {
+      streams = refl;
+      preserve = refl;
+      hash = refl;
+      unbounded = refl;
+      fetch = refl;
+      skip = refl;
+      count = needed (length ks) (and-left (some ks) (fetchOk f) a);
+      width = refl;
+      role =
+          keep (leb 1 n && ltb n (length ks)) (and-right (some ks && fetchOk f) (leb 1 n && ltb n (length ks)) e);
+      options = λ q. no-false q;
+      set = refl;
+      rest = refl;
+    }
 
 pub few-of : (k : ℕ) (o : Op) → fieldsOk o ≡ true → length (recordOf k o .keys) ≤ 8
-few-of k o e = let f : Fields = fieldsOf (kindNumber (kind o)) in few-keys f (f .hash && recordOf k o .hash) (length (recordOf k o .keys)) (rules-of k o e .count)
+few-of k o e = let f : Fields = fieldsOf (kindNumber (kind o)) in
+    few-keys f (f .hash && recordOf k o .hash) (length (recordOf k o .keys)) (rules-of k o e .count)
 
 -- ---- the operator that its record holds
 
@@ -128,9 +325,12 @@ few-on on e = let a = length-map on (λ k. k .key) in omega arith
 
 pub operator-back : (k : ℕ) (o : Op) → fieldsOk o ≡ true → operatorOf (kind o) (recordOf k o) ≡ o
 operator-back k (source s) e =
-    ap (λ (x : ℕ). source (record { width = s .width; streams = s .streams; constants = x; keys = s .keys; unbounded = s .unbounded })) (set-is (s .constants) (and-left (ltb (s .constants) (2 ^ 32)) (few (s .keys)) (and-right (between 1 32 (s .width) && between 1 64 (s .streams)) (ltb (s .constants) (2 ^ 32) && few (s .keys)) e)))
+    ap (λ (x : ℕ). source (record { width = s .width; streams = s .streams; constants = x; keys = s .keys; unbounded = s .unbounded }))
+    (set-is (s .constants) (and-left (ltb (s .constants) (2 ^ 32)) (few (s .keys))
+    (and-right (between 1 32 (s .width) && between 1 64 (s .streams)) (ltb (s .constants) (2 ^ 32) && few (s .keys)) e)))
 operator-back k filter e = refl
-operator-back k (projection cols) e = ap projection (fill-take 32 cols (leb-true (length cols) 32 (and-right (leb 1 (length cols)) (leb (length cols) 32) e)))
+operator-back k (projection cols) e =
+    ap projection (fill-take 32 cols (leb-true (length cols) 32 (and-right (leb 1 (length cols)) (leb (length cols) 32) e)))
 operator-back k union e = refl
 operator-back k (repartition p n h ks) e = refl
 operator-back k (coalesce f) e = refl
@@ -141,7 +341,8 @@ operator-back k (localLimit f note) e = refl
 operator-back k (sortMergeJoin t on) e = ap₂ sortMergeJoin (join-number t .0) (on-back 32 on (few-on on (few-of k (sortMergeJoin t on) e)))
 operator-back k (hashJoin t on) e = ap₂ hashJoin (join-number t .0) (on-back 32 on (few-on on (few-of k (hashJoin t on) e)))
 operator-back k (outputRequirement ks d f) e =
-    ap (λ (x : Distribution). outputRequirement ks x f) (distribution-back d (and-left (distributionOk d) (fetchOk f) (and-right (few ks) (distributionOk d && fetchOk f) e)))
+    ap (λ (x : Distribution). outputRequirement ks x f)
+    (distribution-back d (and-left (distributionOk d) (fetchOk f) (and-right (few ks) (distributionOk d && fetchOk f) e)))
 operator-back k (partialSort p ks n f) e = refl
 
 pub kind-of : (k : ℕ) (o : Op) → recordOf k o .kind ≡ kind o
@@ -192,9 +393,25 @@ fits-of k (repartition p n h ks) e = record { fetch = refl; skip = omega arith; 
 fits-of k (coalesce f) e = record { fetch = e; skip = omega arith; tail = refl }
 fits-of k (sortOp p ks f) e = record { fetch = and-right (some ks) (fetchOk f) e; skip = omega arith; tail = refl }
 fits-of k (mergeOp ks f) e = record { fetch = and-right (some ks) (fetchOk f) e; skip = omega arith; tail = refl }
-fits-of k (globalLimit s f note) e = record { fetch = and-right (few note) (fetchOk f) (and-right (ltb s (2 ^ 32)) (few note && fetchOk f) e); skip = ltb-true s (2 ^ 32) (and-left (ltb s (2 ^ 32)) (few note && fetchOk f) e); tail = refl }
-fits-of k (localLimit f note) e = record { fetch = and-right (few note) (fetchOk f) (and-right (someFetch f) (few note && fetchOk f) e); skip = omega arith; tail = refl }
+fits-of k (globalLimit s f note) e = record {
+  fetch = and-right (few note) (fetchOk f) (and-right (ltb s (2 ^ 32)) (few note && fetchOk f) e);
+  skip = ltb-true s (2 ^ 32) (and-left (ltb s (2 ^ 32)) (few note && fetchOk f) e);
+  tail = refl;
+}
+fits-of k (localLimit f note) e = record {
+  fetch = and-right (few note) (fetchOk f) (and-right (someFetch f) (few note && fetchOk f) e);
+  skip = omega arith;
+  tail = refl;
+}
 fits-of k (sortMergeJoin t on) e = record { fetch = refl; skip = omega arith; tail = length-fill 32 (map (λ k. k .other) on) }
 fits-of k (hashJoin t on) e = record { fetch = refl; skip = omega arith; tail = length-fill 32 (map (λ k. k .other) on) }
-fits-of k (outputRequirement ks d f) e = record { fetch = and-right (distributionOk d) (fetchOk f) (and-right (few ks) (distributionOk d && fetchOk f) e); skip = omega arith; tail = refl }
-fits-of k (partialSort p ks n f) e = record { fetch = and-right (some ks) (fetchOk f) (and-left (some ks && fetchOk f) (leb 1 n && ltb n (length ks)) e); skip = omega arith; tail = refl }
+fits-of k (outputRequirement ks d f) e = record {
+  fetch = and-right (distributionOk d) (fetchOk f) (and-right (few ks) (distributionOk d && fetchOk f) e);
+  skip = omega arith;
+  tail = refl;
+}
+fits-of k (partialSort p ks n f) e = record {
+  fetch = and-right (some ks) (fetchOk f) (and-left (some ks && fetchOk f) (leb 1 n && ltb n (length ks)) e);
+  skip = omega arith;
+  tail = refl;
+}

@@ -73,7 +73,8 @@ enough-nodes (tree a c r) l h e =
     let hr = and-right (arity c) (arity r) s in
     let t : List (List ℕ) = (nodes c ++ nodes r) ++ l in
     let assoc : t ≡ nodes c ++ (nodes r ++ l) = append-assoc (nodes c) (nodes r) l in
-    let n : finished (map children t) ≡ length (roots (c ⊕ build (nodes r ++ l))) = sym (roots-build t) ∙ ap (λ (x : List (List ℕ)). length (roots (build x))) assoc ∙ ap (λ (x : Forest (List ℕ)). length (roots x)) (build-nodes c (nodes r ++ l) hc) in
+    let n : finished (map children t) ≡ length (roots (c ⊕ build (nodes r ++ l))) = sym (roots-build t)
+    ∙ ap (λ (x : List (List ℕ)). length (roots (build x))) assoc ∙ ap (λ (x : Forest (List ℕ)). length (roots x)) (build-nodes c (nodes r ++ l) hc) in
     let j = length-join c (build (nodes r ++ l)) in
     both (leb (children a) (finished (map children t))) (enough (map children t)) (le-leb (children a) (finished (map children t)) (omega arith))
     (ap (λ (x : List (List ℕ)). enough (map children x)) assoc ∙ enough-nodes c (nodes r ++ l) hc (enough-nodes r l hr e))
@@ -91,12 +92,14 @@ passes-take (suc n) none h = refl
 passes-take (suc n) (tree a c r) h =
     let t : Bool = eqb (numberOf (nodeRefusal a (widthsF c))) 0 in
     let s = and-right t (passes c && passes r) h in
-    both t (passes c && passes (takeF n r)) (and-left t (passes c && passes r) h) (both (passes c) (passes (takeF n r)) (and-left (passes c) (passes r) s) (passes-take n r (and-right (passes c) (passes r) s)))
+    both t (passes c && passes (takeF n r)) (and-left t (passes c && passes r) h) (both (passes c) (passes (takeF n r)) (and-left (passes c) (passes r) s)
+    (passes-take n r (and-right (passes c) (passes r) s)))
 
 passes-drop : (n : ℕ) (f : Forest (List ℕ)) → passes f ≡ true → passes (dropF n f) ≡ true
 passes-drop zero f h = h
 passes-drop (suc n) none h = refl
-passes-drop (suc n) (tree a c r) h = passes-drop n r (and-right (passes c) (passes r) (and-right (eqb (numberOf (nodeRefusal a (widthsF c))) 0) (passes c && passes r) h))
+passes-drop (suc n) (tree a c r) h =
+    passes-drop n r (and-right (passes c) (passes r) (and-right (eqb (numberOf (nodeRefusal a (widthsF c))) 0) (passes c && passes r) h))
 
 passes-join : (n : ℕ) (f : Forest (List ℕ)) → passes (takeF n f) ≡ true → passes (dropF n f) ≡ true → passes f ≡ true
 passes-join zero f h k = k
@@ -104,7 +107,8 @@ passes-join (suc n) none h k = refl
 passes-join (suc n) (tree a c r) h k =
     let t : Bool = eqb (numberOf (nodeRefusal a (widthsF c))) 0 in
     let s = and-right t (passes c && passes (takeF n r)) h in
-    both t (passes c && passes r) (and-left t (passes c && passes (takeF n r)) h) (both (passes c) (passes r) (and-left (passes c) (passes (takeF n r)) s) (passes-join n r (and-right (passes c) (passes (takeF n r)) s) k))
+    both t (passes c && passes r) (and-left t (passes c && passes (takeF n r)) h) (both (passes c) (passes r) (and-left (passes c) (passes (takeF n r)) s)
+    (passes-join n r (and-right (passes c) (passes (takeF n r)) s) k))
 
 -- the widths that a record finds are those of its children
 found : (x : List ℕ) (l : List (List ℕ)) → take (children x) (stack l) ≡ widthsF (takeF (children x) (build l))
@@ -124,7 +128,8 @@ last-tree (x ∷ l) e =
     let i = last-tree l (p .0) in
     let k : ℕ = children x in
     both (eqb (numberOf (nodeRefusal x (widthsF (takeF k (build l))))) 0) (passes (takeF k (build l)) && passes (dropF k (build l)))
-    (eq-eqb (numberOf (nodeRefusal x (widthsF (takeF k (build l))))) 0 (ap (λ (ws : List ℕ). numberOf (nodeRefusal x ws)) (sym (found x l)) ∙ ap numberOf (p .1)))
+    (eq-eqb (numberOf (nodeRefusal x (widthsF (takeF k (build l))))) 0 (ap (λ (ws : List ℕ). numberOf (nodeRefusal x ws)) (sym (found x l))
+    ∙ ap numberOf (p .1)))
     (both (passes (takeF k (build l))) (passes (dropF k (build l))) (passes-take k (build l) i) (passes-drop k (build l) i))
 
 pub tree-last : (l : List (List ℕ)) → passes (build l) ≡ true → lastPass l ≡ Accepted
@@ -134,6 +139,8 @@ tree-last (x ∷ l) h =
     let c : Forest (List ℕ) = takeF k (build l) in
     let t : Bool = eqb (numberOf (nodeRefusal x (widthsF c))) 0 in
     let s = and-right t (passes c && passes (dropF k (build l))) h in
-    let i = tree-last l (passes-join k (build l) (and-left (passes c) (passes (dropF k (build l))) s) (and-right (passes c) (passes (dropF k (build l))) s)) in
-    let z : numberOf (nodeRefusal x (widthsF c)) ≡ 0 = eqb-true (numberOf (nodeRefusal x (widthsF c))) 0 (and-left t (passes c && passes (dropF k (build l))) h) in
+    let i = tree-last l (passes-join k (build l) (and-left (passes c) (passes (dropF k (build l))) s)
+    (and-right (passes c) (passes (dropF k (build l))) s)) in
+    let z : numberOf (nodeRefusal x (widthsF c)) ≡ 0 = eqb-true (numberOf (nodeRefusal x (widthsF c))) 0
+    (and-left t (passes c && passes (dropF k (build l))) h) in
     ap₂ andThen i (ap (nodeRefusal x) (found x l) ∙ accepted (nodeRefusal x (widthsF c)) z)

@@ -123,8 +123,10 @@ module _ (fs : List Facts) (j : ℕ) (f a : Coded) (z : 0 < j) (c : Child fs (j 
   united-more g s =
       let l = p .low in let x = p .few in let y = c .usable .few in
       let k : suc (j - 1) ≡ j = omega arith in
-      let d : drop (j - 1) fs ≡ getD fs (j - 1) nothing ∷ drop j fs = drop-cons fs (j - 1) nothing (omega arith) ∙ ap (λ n. getD fs (j - 1) nothing ∷ drop n fs) k in
-      let e : both (told a) (told f) ≡ unionFacts (drop (j - 1) fs) = ap₂ both (c .is (omega arith)) (p .says .is) ∙ sym (fold (getD fs (j - 1) nothing) (drop j fs) (omega (arith, length-drop j fs))) ∙ ap unionFacts (sym d) in
+      let d : drop (j - 1) fs ≡ getD fs (j - 1) nothing ∷ drop j fs = drop-cons fs (j - 1) nothing (omega arith)
+      ∙ ap (λ n. getD fs (j - 1) nothing ∷ drop n fs) k in
+      let e : both (told a) (told f) ≡ unionFacts (drop (j - 1) fs) = ap₂ both (c .is (omega arith)) (p .says .is)
+      ∙ sym (fold (getD fs (j - 1) nothing) (drop j fs) (omega (arith, length-drop j fs))) ∙ ap unionFacts (sym d) in
       let n : g .streams ≡ a .streams + f .streams = ap (λ F. F .streams) (s .is) in
       record { low = omega arith; says = subst (λ F. Says F g) e s; few = omega arith }
 

@@ -34,12 +34,14 @@ unfolding forest
 kid-is m [] d g = absurd (omega arith)
 kid-is m (k ∷ ks) d g = refl
 
-pub first-kid : (m : List ℕ) (h : ℕ) → Here m h → 0 < length (slot m (index h) .kids) → (k : ℕ) → k ≡ getD (slot m (index h) .kids) 0 0 → treeOf m k ≡ kid0 (treeOf m h) (treeOf m h .kids)
+pub first-kid : (m : List ℕ) (h : ℕ) → Here m h → 0 < length (slot m (index h) .kids) → (k : ℕ) → k ≡ getD (slot m (index h) .kids) 0 0
+    → treeOf m k ≡ kid0 (treeOf m h) (treeOf m h .kids)
 first-kid m h x l k e =
     let s = seen m (index h) (x .holds .proper) in
     ap (treeOf m) e ∙ kid-is m (slot m (index h) .kids) (treeOf m h) l ∙ ap (λ t. kid0 (treeOf m h) (t .kids)) (sym (s .tree))
 
-pub kid-asks : (m : List ℕ) (h : ℕ) → Here m h → 0 < length (slot m (index h) .kids) → ((index h + 1) * slotSize ≤ length m) × (0 < children (slot m (index h) .rec)) × (children (slot m (index h) .rec) ≤ 8)
+pub kid-asks : (m : List ℕ) (h : ℕ) → Here m h → 0 < length (slot m (index h) .kids) → ((index h + 1) * slotSize ≤ length m)
+    × (0 < children (slot m (index h) .rec)) × (children (slot m (index h) .rec) ≤ 8)
 kid-asks m h x l = let s = seen m (index h) (x .holds .proper) in let c = s .count in let f = s .few in (x .slot, omega arith, omega arith)
 
 pub num-small : (b : Bool) → oneIf b ≤ 1

@@ -67,7 +67,8 @@ unfolding decode
 kind-is r = operator-kind (kindOf (getD r 0 0)) (fromBytes r)
 
 -- the children's facts, from the first two
-two-kids : (fs : List Facts) (n : ℕ) (F G : Facts) → length fs ≡ n → n ≤ 2 → (0 < length fs → F ≡ at0 fs) → (1 < length fs → G ≡ at1 fs) → take n (F ∷ G ∷ []) ≡ fs
+two-kids : (fs : List Facts) (n : ℕ) (F G : Facts) → length fs ≡ n → n ≤ 2 → (0 < length fs → F ≡ at0 fs) → (1 < length fs → G ≡ at1 fs)
+    → take n (F ∷ G ∷ []) ≡ fs
 two-kids [] zero F G e h f g = refl
 two-kids [] (suc n) F G e h f g = absurd (omega arith)
 two-kids (A ∷ fs) zero F G e h f g = absurd (omega arith)
@@ -86,8 +87,13 @@ pub record Counts (o : Op) (n : ℕ) : Type 0 where
 pub counts-of : (o : Op) (fs : List Facts) → nodeOk o (map (λ F. F .width) fs) ≡ true → Counts o (length fs)
 counts-of o fs e =
     let ws : List ℕ = map (λ F. F .width) fs in
-    let x : fieldsOk o && childrenOk o (length ws) ≡ true = and-left (fieldsOk o && childrenOk o (length ws)) (unionOk o ws && (columnsOk o ws && leb (width o ws) 32)) e in
-    record { fields = and-left (fieldsOk o) (childrenOk o (length ws)) x; count = ap (childrenOk o) (sym (length-map fs (λ F. F .width))) ∙ and-right (fieldsOk o) (childrenOk o (length ws)) x }
+    let x : fieldsOk o && childrenOk o (length ws) ≡ true = and-left (fieldsOk o && childrenOk o (length ws))
+    (unionOk o ws && (columnsOk o ws && leb (width o ws) 32)) e in
+    record {
+      fields = and-left (fieldsOk o) (childrenOk o (length ws)) x;
+      count = ap (childrenOk o) (sym (length-map fs (λ F. F .width)))
+          ∙ and-right (fieldsOk o) (childrenOk o (length ws)) x;
+    }
 
 -- a canonical record
 pub record Canonical (r : List ℕ) (n : ℕ) : Type 0 where
@@ -120,7 +126,8 @@ module _ (m r ks : List ℕ) (a : Over m r ks) where
 
     pub union-some : 0 < length ks
     union-some =
-        let l = leb-true 2 (length ks) (and-left (leb 2 (length ks)) (leb (length ks) 8) (ap (λ o. childrenOk o (length ks)) (sym is-union) ∙ rule .count)) in
+        let l = leb-true 2 (length ks)
+        (and-left (leb 2 (length ks)) (leb (length ks) 8) (ap (λ o. childrenOk o (length ks)) (sym is-union) ∙ rule .count)) in
         omega arith
 
     pub union-says : (f : Coded) → Says (unionFacts (known (forest m ks))) f → Says (factsOp (decode r) (known (forest m ks))) f
@@ -164,6 +171,16 @@ pub seen : (m : List ℕ) (i : ℕ) → Proper m i → Seen m i
 seen m i h =
     let t = tree-in m i (h .below) in
     let o : OkT (node (decode (slot m i .rec)) false (forest m (slot m i .kids))) = subst OkT t (h .ok) in
-    let c = subst (Counts (decode (slot m i .rec))) (length-facts m (slot m i .kids)) (counts-of (decode (slot m i .rec)) (known (forest m (slot m i .kids))) (o .0)) in
+    let c = subst (Counts (decode (slot m i .rec))) (length-facts m (slot m i .kids))
+    (counts-of (decode (slot m i .rec)) (known (forest m (slot m i .kids))) (o .0)) in
     let k = canonical (slot m i .rec) (length (slot m i .kids)) (c .fields) (h .canon) in
-    record { tree = t; below = h .below; canon = h .canon; ok = o; small = subst (λ x. sizeT x ≤ mostNodes) t (h .few); count = k .count; long = k .long; few = few-any (decode (slot m i .rec)) (length (slot m i .kids)) (c .count) }
+    record {
+      tree = t;
+      below = h .below;
+      canon = h .canon;
+      ok = o;
+      small = subst (λ x. sizeT x ≤ mostNodes) t (h .few);
+      count = k .count;
+      long = k .long;
+      few = few-any (decode (slot m i .rec)) (length (slot m i .kids)) (c .count);
+    }

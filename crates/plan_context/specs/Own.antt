@@ -67,7 +67,8 @@ fetch-by PartialSort x n e = sym e
 
 pub fetch-is : (r : List ℕ) (n : ℕ) → r ≡ encode n (decode r) → fetchOf (fetchIn r) ≡ cuts (decode r) .fetch
 unfolding decode
-fetch-is r n e = ap (λ k. fetchOf (cond (hasFetch k) (le32 r 4) 4294967295)) (kind-same r n e) ∙ fetch-by (kindOf (getD r 0 0)) (fromBytes r) (le32 r 4) refl
+fetch-is r n e = ap (λ k. fetchOf (cond (hasFetch k) (le32 r 4) 4294967295)) (kind-same r n e) ∙ fetch-by (kindOf (getD r 0 0)) (fromBytes r)
+    (le32 r 4) refl
 
 -- ---- boundedness
 

@@ -56,7 +56,12 @@ pub record Settling (m₀ : List ℕ) (u i : ℕ) (m : List ℕ) : Type 0 where
 
 module _ (m₀ : List ℕ) (u : ℕ) (a : Loaded m₀ u) where
   pub settling-none : Settling m₀ u 0 m₀
-  settling-none = record { low = omega arith; long = refl; arena = record { slots = omega arith; small = omega arith; all = λ i h. absurd (omega arith) }; nodes = λ v. refl }
+  settling-none = record {
+    low = omega arith;
+    long = refl;
+    arena = record { slots = omega arith; small = omega arith; all = λ i h. absurd (omega arith) };
+    nodes = λ v. refl;
+  }
 
   module _ (i : ℕ) (m : List ℕ) (h : i < u) (p : Settling m₀ u i m) where
     pub settling-asks : Settles m i
@@ -104,9 +109,11 @@ part-ok (here {a} {c} {r}) e =
     both o (nodesOk (mapF decode c) && true) (and-left o (nodesOk (mapF decode c) && nodesOk (mapF decode r)) e)
     (both (nodesOk (mapF decode c)) true (and-left (nodesOk (mapF decode c)) (nodesOk (mapF decode r)) k) refl)
 part-ok (under {a} {t} {c} {r} p) e =
-    part-ok p (and-left (nodesOk (mapF decode c)) (nodesOk (mapF decode r)) (and-right (nodeOk (decode a) (widths (mapF decode c))) (nodesOk (mapF decode c) && nodesOk (mapF decode r)) e))
+    part-ok p (and-left (nodesOk (mapF decode c)) (nodesOk (mapF decode r))
+    (and-right (nodeOk (decode a) (widths (mapF decode c))) (nodesOk (mapF decode c) && nodesOk (mapF decode r)) e))
 part-ok (beside {a} {t} {c} {r} p) e =
-    part-ok p (and-right (nodesOk (mapF decode c)) (nodesOk (mapF decode r)) (and-right (nodeOk (decode a) (widths (mapF decode c))) (nodesOk (mapF decode c) && nodesOk (mapF decode r)) e))
+    part-ok p (and-right (nodesOk (mapF decode c)) (nodesOk (mapF decode r))
+    (and-right (nodeOk (decode a) (widths (mapF decode c))) (nodesOk (mapF decode c) && nodesOk (mapF decode r)) e))
 
 size-map : {A B : Type 0} (f : A → B) (t : Forest A) → size (mapF f t) ≡ size t
 size-map f none = refl
@@ -126,7 +133,8 @@ module _ (s : List ℕ) (e : refusalOf s ≡ Accepted) where
     sound : nodesOk (mapF decode (file.treeOf s)) ≡ true
     sound =
         let w = read-well-formed s (planOf s) by is-plan in
-        and-right (leb (size (planOf s)) 126) (nodesOk (planOf s)) (and-right (eqb (length (roots (planOf s))) 1) (leb (size (planOf s)) 126 && nodesOk (planOf s)) w)
+        and-right (leb (size (planOf s)) 126) (nodesOk (planOf s))
+        (and-right (eqb (length (roots (planOf s))) 1) (leb (size (planOf s)) 126 && nodesOk (planOf s)) w)
 
     -- the tree in slot i, as a plan
     in-slot : (i : ℕ) → i < u → mapF decode (records.treeAt (held m u) (2 * i)) ≡ planT (treeIn m i)
@@ -148,7 +156,8 @@ module _ (s : List ℕ) (e : refusalOf s ≡ Accepted) where
               record {
                 below = v .below;
                 canon =
-                    sym (encode-decode (slot m i .rec) (v .long) (at-root i g (every byte) (t .bytes)) (at-root i g kindOk (t .kinds)) (at-root i g recordOk (t .fields)))
+                    sym (encode-decode (slot m i .rec) (v .long) (at-root i g (every byte) (t .bytes)) (at-root i g kindOk (t .kinds))
+                    (at-root i g recordOk (t .fields)))
                     ∙ ap (λ n. encode n (decode (slot m i .rec))) (sym (v .count));
                 ok = (o .0, o .1);
                 few = omega arith;

@@ -51,7 +51,8 @@ same-trees (n ∷ ns) g i h = go (ℕ-discrete i (length ns)) (λ j l. same-tree
         ∙ sym (ap planT (at-new leaf _ (trees ns) i (e ∙ sym (length-trees ns))))
     go (no q) f =
         let l : i < length ns = omega arith in
-        ap decoded (at-old records.leaf _ (records.trees ns) i (let z = laws.length-trees ns in omega arith)) ∙ f i l ∙ sym (ap planT (at-old leaf _ (trees ns) i (let z = length-trees ns in omega arith)))
+        ap decoded (at-old records.leaf _ (records.trees ns) i (let z = laws.length-trees ns in omega arith)) ∙ f i l
+        ∙ sym (ap planT (at-old leaf _ (trees ns) i (let z = length-trees ns in omega arith)))
 
 -- the tree of a handle
 pub views : (m : List ℕ) (u h : ℕ) → Good (held m u) → h < 2 * u → mapF decode (records.treeAt (held m u) h) ≡ planT (treeOf m h)

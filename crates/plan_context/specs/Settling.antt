@@ -68,9 +68,11 @@ module _ (m : List ℕ) (i : ℕ) (s : Settles m i) where
 
     pub child-sums : (x : Summary) → x ≡ summaryIn (keptPart m (index k)) → Sums (treeOf m (getD (slot m i .kids) j 0)) x
     child-sums x q =
-        subst (λ n. Sums (treeOf m n) x) e (sums-mark (marked k) (treeIn m (index k)) x (subst (Sums (treeIn m (index k))) (sym q) (child-here j h k e .holds .summary)))
+        subst (λ n. Sums (treeOf m n) x) e
+        (sums-mark (marked k) (treeIn m (index k)) x (subst (Sums (treeIn m (index k))) (sym q) (child-here j h k e .holds .summary)))
 
-  module _ (b : List ℕ) (l : length b ≡ keptSize) (f : Says (factsOp (decode (slot m i .rec)) (known (forest m (slot m i .kids)))) (loaded b)) (q : Sums (node (decode (slot m i .rec)) false (forest m (slot m i .kids))) (summaryIn b)) where
+  module _ (b : List ℕ) (l : length b ≡ keptSize) (f : Says (factsOp (decode (slot m i .rec)) (known (forest m (slot m i .kids)))) (loaded b))
+      (q : Sums (node (decode (slot m i .rec)) false (forest m (slot m i .kids))) (summaryIn b)) where
     abbrev m' : List ℕ
     m' = withKept m i b
 
@@ -81,8 +83,10 @@ module _ (m : List ℕ) (i : ℕ) (s : Settles m i) where
         let k = kept-here m i b (s .room) l in
         record {
           proper = moved-proper m m' i (slot-kept m i b (s .room) l i) t (s .proper);
-          facts = subst (λ x. Says (fact x) (loaded (keptPart m' i))) (sym u) (subst (λ x. Says (factsOp (decode (slot m i .rec)) (known (forest m (slot m i .kids)))) (loaded x)) (sym k) f);
-          summary = subst (λ x. Sums x (summaryIn (keptPart m' i))) (sym u) (subst (λ x. Sums (node (decode (slot m i .rec)) false (forest m (slot m i .kids))) (summaryIn x)) (sym k) q);
+          facts = subst (λ x. Says (fact x) (loaded (keptPart m' i))) (sym u)
+              (subst (λ x. Says (factsOp (decode (slot m i .rec)) (known (forest m (slot m i .kids)))) (loaded x)) (sym k) f);
+          summary = subst (λ x. Sums x (summaryIn (keptPart m' i))) (sym u)
+              (subst (λ x. Sums (node (decode (slot m i .rec)) false (forest m (slot m i .kids))) (summaryIn x)) (sym k) q);
         }
 
     -- as the code lends the part
@@ -100,7 +104,8 @@ module _ (m : List ℕ) (i : ℕ) (s : Settles m i) where
     few-streams f p = let z = usable-of (node (decode (slot m i .rec)) false (forest m (slot m i .kids))) (shown .ok) (shown .small) f p .few in omega arith
 
     -- w: the wanted orders are met; as the code computes the summary x
-    pub settled-with : (r : List ℕ) → r ≡ slot m i .rec → (w : Bool) → w ≡ wantsMet (decode (slot m i .rec)) (known (forest m (slot m i .kids))) → (x : Summary) → x ≡ own r w s' → (b : List ℕ) → length b ≡ keptSize
+    pub settled-with : (r : List ℕ) → r ≡ slot m i .rec → (w : Bool) → w ≡ wantsMet (decode (slot m i .rec)) (known (forest m (slot m i .kids)))
+        → (x : Summary) → x ≡ own r w s' → (b : List ℕ) → length b ≡ keptSize
         → Says (factsOp (decode (slot m i .rec)) (known (forest m (slot m i .kids)))) (loaded b) → summaryIn b ≡ x
         → Settled m i (splice m (i * slotSize + keptFrom) (i * slotSize + keptFrom + keptSize - (i * slotSize + keptFrom)) b)
     settled-with r e w v x y b l f z =
@@ -123,7 +128,8 @@ module _ (m : List ℕ) (i : ℕ) (s : Settles m i) (m' : List ℕ) (d : Settled
 
     pub settled-front : Same i m m'
     settled-front =
-        ap (take (i * slotSize)) (d .rest) ∙ part-same 0 (i * slotSize + keptFrom) (i * slotSize) (withKept m i (keptPart m' i)) m (omega arith) (kept-front m i (keptPart m' i) (s .room) long)
+        ap (take (i * slotSize)) (d .rest) ∙ part-same 0 (i * slotSize + keptFrom) (i * slotSize) (withKept m i (keptPart m' i)) m (omega arith)
+        (kept-front m i (keptPart m' i) (s .room) long)
 
     pub settled-arena : Arena m' (i + 1)
     settled-arena =
@@ -192,14 +198,16 @@ module _ (m r ks : List ℕ) (a : Over m r ks) where
       pub source-asks : (length r ≡ 64) × (count r ≤ 8) × (getD r 13 0 ≤ 32) × (setFits (getD r 13 0) (le32 (tailColumns r) 0) ≡ true)
       source-asks = (h .long, few r (h .rules), small r (h .rules), source-set r z z h e)
 
-      pub source-fact : (s : Coded) → Says (reorder (sourceFacts (getD r 13 0) (getD r 2 0) (le32 (tailColumns r) 0)) (map keyOf (lentKeys r (count r)))) s → Says (factsOp (decode r) (known (forest m ks))) s
+      pub source-fact : (s : Coded) → Says (reorder (sourceFacts (getD r 13 0) (getD r 2 0) (le32 (tailColumns r) 0)) (map keyOf (lentKeys r (count r)))) s
+          → Says (factsOp (decode r) (known (forest m ks))) s
       source-fact s p = own-says m r ks a n z z first second s (source-says r z z h e s p)
 
       pub source-wants : true ≡ wantsMet (decode r) (known (forest m ks))
       source-wants = no-want r z z h Source e refl ∙ ap (wantsMet (decode r)) (same-kids m r ks a n z z first second)
 
     -- a node with children, their facts copied
-    module _ (b c : List ℕ) (k : length b ≡ 48) (l : length c ≡ 48) (f : Child (known (forest m ks)) 0 (loaded b)) (g : Child (known (forest m ks)) 1 (loaded c)) where
+    module _ (b c : List ℕ) (k : length b ≡ 48) (l : length c ≡ 48) (f : Child (known (forest m ks)) 0 (loaded b))
+        (g : Child (known (forest m ks)) 1 (loaded c)) where
       pub inner-ready : Ready r (loaded b) (loaded c)
       inner-ready = ready m r ks a n (loaded b) (loaded c) f g
 

@@ -62,15 +62,24 @@ pub record Summing (m ks : List ℕ) (j : ℕ) (s : Summary) : Type 0 where
 
 pub summing-none : (m ks : List ℕ) (n : ℕ) → n ≡ length ks → Summing m ks n ofNone
 unfolding forest
-summing-none m ks n e = record { low = omega arith; sums = subst (λ l. SumsEach (forest m l) ofNone) (sym (drop-of-length-le ks {i = n} (omega arith))) sums-none }
+summing-none m ks n e = record {
+  low = omega arith;
+  sums = subst (λ l. SumsEach (forest m l) ofNone) (sym (drop-of-length-le ks {i = n} (omega arith)))
+      sums-none;
+}
 
-pub summing-more : (m ks : List ℕ) (j : ℕ) (x s : Summary) → 0 < j → Sums (treeOf m (getD ks (j - 1) 0)) x → Summing m ks j s → Summing m ks (j - 1) (before x s)
+pub summing-more : (m ks : List ℕ) (j : ℕ) (x s : Summary) → 0 < j → Sums (treeOf m (getD ks (j - 1) 0)) x → Summing m ks j s
+    → Summing m ks (j - 1) (before x s)
 unfolding forest
 summing-more m ks j x s h p q =
     let l = q .low in
     let k : suc (j - 1) ≡ j = omega arith in
     let d : drop (j - 1) ks ≡ getD ks (j - 1) 0 ∷ drop j ks = drop-cons ks (j - 1) 0 (omega arith) ∙ ap (λ n. getD ks (j - 1) 0 ∷ drop n ks) k in
-    record { low = omega arith; sums = subst (λ l. SumsEach (forest m l) (before x s)) (sym d) (sums-more (treeOf m (getD ks (j - 1) 0)) (forest m (drop j ks)) x s p (q .sums)) }
+    record {
+      low = omega arith;
+      sums = subst (λ l. SumsEach (forest m l) (before x s)) (sym d)
+          (sums-more (treeOf m (getD ks (j - 1) 0)) (forest m (drop j ks)) x s p (q .sums));
+    }
 
 pub summing-all : (m ks : List ℕ) (j : ℕ) (s : Summary) → j ≤ 0 → Summing m ks j s → SumsEach (forest m ks) s
 summing-all m ks j s h p = let e : j ≡ 0 = omega arith in subst (λ n. SumsEach (forest m (drop n ks)) s) e (p .sums)
@@ -94,14 +103,16 @@ own r w s =
       fetch = cond (eqb (getD r 0 0) 3) (s .fetch) (fetchIn r);
     }
 
-pub own-sums : (r : List ℕ) (n : ℕ) (w : Bool) (s : Summary) (c : Forest Marked) → r ≡ encode n (decode r) → w ≡ wantsMet (decode r) (known c) → SumsEach c s → Sums (node (decode r) false c) (own r w s)
+pub own-sums : (r : List ℕ) (n : ℕ) (w : Bool) (s : Summary) (c : Forest Marked) → r ≡ encode n (decode r) → w ≡ wantsMet (decode r) (known c)
+    → SumsEach c s → Sums (node (decode r) false c) (own r w s)
 own-sums r n w s c e q p =
     let k = p .nodes in
     record {
       passes = ap₂ _&&_ q (p .passes);
       endless = ap₂ (λ x y. not x && y) (limit-is r n e) (ap₂ _||_ (endless-is r n e) (p .endless));
       nodes = omega arith;
-      fetch = pick (eqb (getD r 0 0) 3) ∙ ap₂ (λ b f. cond b (getD (fetches (strip c)) 0 Unlimited) f) (ap (λ k. eqb k 3) (code-byte r n e)) (fetch-is r n e);
+      fetch = pick (eqb (getD r 0 0) 3) ∙ ap₂ (λ b f. cond b (getD (fetches (strip c)) 0 Unlimited) f) (ap (λ k. eqb k 3) (code-byte r n e))
+          (fetch-is r n e);
     }
   where
     pick : (b : Bool) → fetchOf (cond b (s .fetch) (fetchIn r)) ≡ cond b (getD (fetches (strip c)) 0 Unlimited) (fetchOf (fetchIn r))

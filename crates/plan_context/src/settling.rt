@@ -176,7 +176,8 @@ fn keep(b: &mut [u8], f: Facts, s: Summary)
 // The facts of a node with children, and the summary s.
 fn keep_node(b: &mut [u8], r: &[u8], first: &[u8], second: &[u8], s: Summary)
     requires { ⌜ Rows (now b) (now r) (now first) (now second) × (s .nodes < 65536) ⌝ }
-    ensures { λ _. ⌜ Says (sem.factsOp (decode (now (r .entry))) (kidsOf (now (r .entry)) (loaded (now (first .entry))) (loaded (now (second .entry))))) (loaded (now (b .exit))) × (summaryIn (now (b .exit)) ≡ s) ⌝ }
+    ensures { λ _. ⌜ Says (sem.factsOp (decode (now (r .entry))) (kidsOf (now (r .entry)) (loaded (now (first .entry))) (loaded (now (second .entry)))))
+        (loaded (now (b .exit))) × (summaryIn (now (b .exit)) ≡ s) ⌝ }
 {
     node_into(b, r, first, second);
     store_summary(b, s);
@@ -210,7 +211,8 @@ fn settle_union(m: &mut [u8], i: usize, s: Summary)
 
 // The slot of any other node.
 fn settle_inner(m: &mut [u8], i: usize, s: Summary)
-    requires { ⌜ Settles (now m) i × (kindOf (getD (slot (now m) i .rec) 0 0) ≡ Union → ⊥) × (kindOf (getD (slot (now m) i .rec) 0 0) ≡ Source → ⊥) × SumsEach (forest (now m) (slot (now m) i .kids)) s ⌝ }
+    requires { ⌜ Settles (now m) i × (kindOf (getD (slot (now m) i .rec) 0 0) ≡ Union → ⊥) × (kindOf (getD (slot (now m) i .rec) 0 0) ≡ Source → ⊥)
+        × SumsEach (forest (now m) (slot (now m) i .kids)) s ⌝ }
     ensures { λ _. ⌜ Settled (now (m .entry)) i (now (m .exit)) ⌝ }
 {
     let r = read64(record_at(m, i));

@@ -30,7 +30,8 @@ sameWidths ws = allBelow (λ i. eqb (getD ws i 0) (getD ws 0 0)) (length ws)
 abbrev pub unionOk : List ℕ → List ℕ → Bool
 unionOk r ws = not (eqb (kindByte r) 4) || sameWidths ws
 
--- ---- 7: 'a column not below its width (source: own; else the child's; joins: left's and right's), or repeated in one key list; a projection may repeat columns'
+-- ---- 7: 'a column not below its width (source: own; else the child's; joins: left's and right's), or repeated in one key list; a projection may repeat
+-- columns'
 
 -- Each column of a list lies below the limit
 unfoldable pub belowOk : List ℕ → ℕ → Bool

@@ -73,7 +73,8 @@ keyCountOk f h n = leb n 8 && either (f .«needs_key» || h) (leb 1 n) (f .noted
 abbrev pub widthOk : Fields → ℕ → Bool
 widthOk f width = either (f .width) (between 1 32 width) (eqb width 0)
 
--- '14 join type (0 .. 7), distribution (kind 13: 0 none, 1 single, 2 keyed) or, in a partial sort, its met prefix (1 to key count minus 1)'; n: the key count
+-- '14 join type (0 .. 7), distribution (kind 13: 0 none, 1 single, 2 keyed) or, in a partial sort, its met prefix (1 to key count minus 1)'; n: the key
+-- count
 abbrev pub byte14Ok : Fields → ℕ → ℕ → Bool
 byte14Ok f n b14 = either (f .join) (leb b14 7) (either (f .distribution) (leb b14 2) (either (f .prefix) (leb 1 b14 && ltb b14 n) (eqb b14 0)))
 
@@ -98,7 +99,8 @@ headOk f r = (streamsOk f (getD r 2 0) && marksOk f (getD r 3 0)) && (fetchOk f 
 
 -- Bytes 12 to 15; '15 zero'
 abbrev pub bodyOk : Fields → List ℕ → Bool
-bodyOk f r = (keyCountOk f (hashed f (getD r 3 0)) (getD r 12 0) && widthOk f (getD r 13 0)) && (byte14Ok f (getD r 12 0) (getD r 14 0) && eqb (getD r 15 0) 0)
+bodyOk f r = (keyCountOk f (hashed f (getD r 3 0)) (getD r 12 0) && widthOk f (getD r 13 0))
+    && (byte14Ok f (getD r 12 0) (getD r 14 0) && eqb (getD r 15 0) 0)
 
 -- Bytes 16 to 31
 abbrev pub keySlotOk : Bool → List ℕ → ℕ → Bool

@@ -14,7 +14,8 @@ use Rattle.plan_format.specs.Writing.{header, fourBytes, body, blockOf, 
 pub length-block : (n k : ℕ) (rs : List ℕ) → length rs ≤ 448 → length (blockOf n k rs) ≡ 512
 unfolding blockOf body
 length-block n k rs h =
-    let a = length-append ((header k n (length rs / 64) ++ rs) ++ replicate (500 - length rs) 0) (fourBytes (total ((header k n (length rs / 64) ++ rs) ++ replicate (500 - length rs) 0))) in
+    let a = length-append ((header k n (length rs / 64) ++ rs) ++ replicate (500 - length rs) 0)
+    (fourBytes (total ((header k n (length rs / 64) ++ rs) ++ replicate (500 - length rs) 0))) in
     let b = length-append (header k n (length rs / 64) ++ rs) (replicate (500 - length rs) 0) in
     let c = length-append (header k n (length rs / 64)) rs in
     let d = length-replicate {A = ℕ} (500 - length rs) 0 in

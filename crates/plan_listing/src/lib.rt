@@ -1,4 +1,5 @@
-// Lists a plan, a line for each node in node order: number, depth, kind, streams, fetch, keys (01, 'Worked on paper'). A hyphen stands for none. A refusal prints only
+// Lists a plan, a line for each node in node order: number, depth, kind, streams, fetch, keys (01, 'Worked on paper'). A hyphen stands for none. A refusal
+// prints only
 // its number.
 use arena::KEPT_FROM;
 use arena::RECORD;

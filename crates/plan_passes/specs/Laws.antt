@@ -35,7 +35,9 @@ count-le s p h =
     let k : ℕ = n - 1 in
     let b : List ℕ = block s k in
     let e : headerOk n k b ≡ true = all-at (λ k. headerOk n k (block s k)) n h k (omega arith) in
-    let l : getD b 4 0 ≤ 7 = count-small (eqb (k + 1) n) (getD b 4 0) (and-right (eqb (le16 b 0) k && eqb (le16 b 2) n) (countOk (eqb (k + 1) n) (getD b 4 0)) (and-left ((eqb (le16 b 0) k && eqb (le16 b 2) n) && countOk (eqb (k + 1) n) (getD b 4 0)) (paddingOk b) e)) in
+    let l : getD b 4 0 ≤ 7 = count-small (eqb (k + 1) n) (getD b 4 0)
+    (and-right (eqb (le16 b 0) k && eqb (le16 b 2) n) (countOk (eqb (k + 1) n) (getD b 4 0))
+    (and-left ((eqb (le16 b 0) k && eqb (le16 b 2) n) && countOk (eqb (k + 1) n) (getD b 4 0)) (paddingOk b) e)) in
     omega arith
 
 -- ---- from the last record to the first

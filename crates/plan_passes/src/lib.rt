@@ -109,7 +109,8 @@ fn minus(a: usize, b: usize) -> usize
     a - b
 }
 
-// From the last record to the first: each takes its children from the finished trees and leaves one. No answer ends the pass, so that one loop gives all three.
+// From the last record to the first: each takes its children from the finished trees and leaves one. No answer ends the pass, so that one loop gives all
+// three.
 fn records_of(s: &[u8], m: usize) -> Records
     requires { ⌜ (m ≡ recordCount (now s)) × (m ≤ 7 * blockCount (now s)) ⌝ }
     ensures { λ x. ⌜ Found (now (s .entry)) x ⌝ }

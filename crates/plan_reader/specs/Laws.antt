@@ -57,7 +57,8 @@ module _ (s : List ℕ) (m i t k : ℕ) (w : List ℕ) (z : 0 < i) (p : Late s m
         fine = late-is ∙ n;
       }
 
-  pub late-fail : (numberOf (nodeRefusal (recordAt s (i - 1)) (take k (drop t w))) ≡ 0 → ⊥) → nodeRefusal (recordAt s (i - 1)) (take k (drop t w)) ≡ lastPass (rest s m 0)
+  pub late-fail : (numberOf (nodeRefusal (recordAt s (i - 1)) (take k (drop t w))) ≡ 0 → ⊥) → nodeRefusal (recordAt s (i - 1)) (take k (drop t w))
+      ≡ lastPass (rest s m 0)
   late-fail f = sym late-is ∙ down (i - 1) (let a = p .stack .low in omega arith) (λ g. f (sym (ap numberOf late-is) ∙ g))
     where
       after-some : (x y : Refusal) → (numberOf x ≡ 0 → ⊥) → x ≡ andThen x y
@@ -78,7 +79,8 @@ pub node-width : (r ws : List ℕ) → numberOf (nodeRefusal r ws) ≡ 0 → wid
 unfolding nodeRefusal
 node-width r ws e = go (unionOk r ws) (columnsRule (fields r) r (columnLimit (fields r) r ws) (getD ws 1 0)) (leb (widthOf (fields r) r ws) 32) refl e
   where
-    go : (a b c : Bool) → leb (widthOf (fields r) r ws) 32 ≡ c → numberOf (cond a (cond b (cond c Accepted Width) Column) Field) ≡ 0 → widthOf (fields r) r ws ≤ 32
+    go : (a b c : Bool) → leb (widthOf (fields r) r ws) 32 ≡ c → numberOf (cond a (cond b (cond c Accepted Width) Column) Field) ≡ 0
+        → widthOf (fields r) r ws ≤ 32
     go true true true q e = leb-true (widthOf (fields r) r ws) 32 q
     go true true false q e = absurd (omega arith)
     go true false c q e = absurd (omega arith)
@@ -98,7 +100,8 @@ field-small f r e =
     (leb-true n 8 (and-left (leb n 8) _ (and-left (keyCountOk f h n) (widthOk f w) a)), narrow (f .width) (and-right (keyCountOk f h n) (widthOk f w) a))
   where
     narrow : (t : Bool) → either t (leb 1 (getD r 13 0) && leb (getD r 13 0) 32) (eqb (getD r 13 0) 0) ≡ true → getD r 13 0 ≤ 32
-    narrow true e = leb-true (getD r 13 0) 32 (and-right (leb 1 (getD r 13 0)) (leb (getD r 13 0) 32) (sym (or-false (leb 1 (getD r 13 0) && leb (getD r 13 0) 32)) ∙ e))
+    narrow true e = leb-true (getD r 13 0) 32
+        (and-right (leb 1 (getD r 13 0)) (leb (getD r 13 0) 32) (sym (or-false (leb 1 (getD r 13 0) && leb (getD r 13 0) 32)) ∙ e))
     narrow false e = omega (arith, eqb-true (getD r 13 0) 0 e)
 
 pub record-small : (s : List ℕ) (j : ℕ) → recordsOk s ≡ true → j < recordCount s → (getD (recordAt s j) 12 0 ≤ 8) × (getD (recordAt s j) 13 0 ≤ 32)
@@ -128,7 +131,8 @@ module _ (s : List ℕ) (m i t : ℕ) (w : List ℕ) (x : Seen) (e : m ≡ recor
   pub visit-more : treeOk s ≡ true → numberOf (x .refusal) ≡ 0 → Late s m (i - 1) (t + childByte s a - 1) (set w (t + childByte s a - 1) (x .width))
   visit-more o n = late-more s m i t (childByte s a) w z p (child-byte s (i - 1) a g) (x .width) e o (sym (seen .is) ∙ accepted (x .refusal) n) (seen .wide)
 
-pub visit-end : (s : List ℕ) (m i t : ℕ) (w : List ℕ) → m ≡ recordCount s → Late s m i t w → i ≤ 0 → Accepted ≡ lastPass (span (recordAt s) 0 (recordCount s))
+pub visit-end : (s : List ℕ) (m i t : ℕ) (w : List ℕ) → m ≡ recordCount s → Late s m i t w → i ≤ 0
+    → Accepted ≡ lastPass (span (recordAt s) 0 (recordCount s))
 visit-end s m i t w e p h = let c : m - 0 ≡ recordCount s = omega arith in late-end s m i t w p h ∙ ap (λ (n : ℕ). lastPass (span (recordAt s) 0 n)) c
 
 -- the whole reader: the early passes, then the last one

@@ -223,7 +223,8 @@ pub struct Seen {
 
 // f: the fields of the kind of r; width: its own.
 fn node_refusal(f: Fields, width: usize, r: &[u8], ws: &[u8]) -> Refusal
-    requires { ⌜ ((length (now r) ≡ 64) × (getD (now r) 12 0 ≤ 8) × (getD (now r) 13 0 ≤ 32)) × (f ≡ fields (now r)) × (width ≡ widthOf f (now r) (now ws)) ⌝ }
+    requires { ⌜ ((length (now r) ≡ 64) × (getD (now r) 12 0 ≤ 8) × (getD (now r) 13 0 ≤ 32)) × (f ≡ fields (now r))
+        × (width ≡ widthOf f (now r) (now ws)) ⌝ }
     ensures { λ x. ⌜ x ≡ nodeRefusal (now (r .entry)) (now (ws .entry)) ⌝ }
 {
     if !union_ok(r, ws) {

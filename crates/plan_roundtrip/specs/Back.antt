@@ -93,7 +93,8 @@ module _ (n k : ℕ) (rs : List ℕ) (lr : length rs ≤ 448) where
       ∙ part-left (8 + j) 64 (hd ++ rs) (replicate (500 - length rs) 0) (omega arith)
       ∙ part-right j 64 hd rs
 
-  pub block-header : k < 65536 → n < 65536 → 64 * (length rs / 64) ≡ length rs → countOk (eqb (k + 1) n) (length rs / 64) ≡ true → headerOk n k (blockOf n k rs) ≡ true
+  pub block-header : k < 65536 → n < 65536 → 64 * (length rs / 64) ≡ length rs → countOk (eqb (k + 1) n) (length rs / 64) ≡ true
+      → headerOk n k (blockOf n k rs) ≡ true
   unfolding blockOf body
   block-header hk hn m c =
       let hd : List ℕ = header k n (length rs / 64) in
@@ -104,7 +105,8 @@ module _ (n k : ℕ) (rs : List ℕ) (lr : length rs ≤ 448) where
       let g : 508 - (8 + 64 * (length rs / 64)) ≡ 500 - length rs = omega arith in
       let pad : zeros (part (8 + 64 * (length rs / 64)) (508 - (8 + 64 * (length rs / 64))) (x ++ fourBytes (total x))) ≡ true =
       (ap₂ (λ (a b : ℕ). zeros (part a b (x ++ fourBytes (total x)))) q g
-      ∙ ap zeros (part-left (length (hd ++ rs) + 0) (500 - length rs) x (fourBytes (total x)) (omega arith) ∙ part-right 0 (500 - length rs) (hd ++ rs) w ∙ take-all (500 - length rs) w (omega arith))
+      ∙ ap zeros (part-left (length (hd ++ rs) + 0) (500 - length rs) x (fourBytes (total x)) (omega arith) ∙ part-right 0 (500 - length rs) (hd ++ rs) w
+      ∙ take-all (500 - length rs) w (omega arith))
       ∙ zeros-zeros (500 - length rs)) in
       ap₂ _&&_ (ap₂ _&&_ (ap₂ _&&_ (eq-eqb _ k (two k hk)) (eq-eqb _ n (two n hn))) c) pad
 
@@ -115,14 +117,16 @@ unfolding blocksTo
 blocks-at n rs zero k h = absurd (omega arith)
 blocks-at n rs (suc N) k h = go (decLt k N) (blocks-at n rs N k)
   where
-    go : Dec (k < N) → (k < N → block (blocksTo n rs N) k ≡ blockOf n k (sevenAt rs k)) → block (blocksTo n rs N ++ blockOf n N (sevenAt rs N)) k ≡ blockOf n k (sevenAt rs k)
+    go : Dec (k < N) → (k < N → block (blocksTo n rs N) k ≡ blockOf n k (sevenAt rs k)) → block (blocksTo n rs N ++ blockOf n N (sevenAt rs N)) k
+        ≡ blockOf n k (sevenAt rs k)
     go (yes l) ih = part-left (k * 512) 512 (blocksTo n rs N) (blockOf n N (sevenAt rs N)) (let a = length-blocks n rs N in omega arith) ∙ ih l
     go (no l) ih =
         let e : k ≡ N = omega arith in
         let a = length-blocks n rs N in
         let b = length-block n N (sevenAt rs N) (length-seven rs N) in
         let q : N * 512 ≡ length (blocksTo n rs N) + 0 = omega arith in
-        rw e (ap (λ (x : ℕ). part x 512 (blocksTo n rs N ++ blockOf n N (sevenAt rs N))) q ∙ part-right 0 512 (blocksTo n rs N) (blockOf n N (sevenAt rs N)) ∙ take-all 512 (blockOf n N (sevenAt rs N)) (omega arith))
+        rw e (ap (λ (x : ℕ). part x 512 (blocksTo n rs N ++ blockOf n N (sevenAt rs N))) q ∙ part-right 0 512 (blocksTo n rs N) (blockOf n N (sevenAt rs N))
+        ∙ take-all 512 (blockOf n N (sevenAt rs N)) (omega arith))
 
 fifth : (n k : ℕ) (rs : List ℕ) → getD (blockOf n k rs) 4 0 ≡ length rs / 64
 unfolding blockOf body
@@ -160,7 +164,9 @@ module _ (rs : List ℕ) (m : ℕ) (lm : length rs ≡ 64 * m) where
       ∙ ap (λ (x : ℕ). part x 64 rs) q
 
   -- the records of block k: seven, or what is left
-  seven-length : (k : ℕ) → k < blocksFor (length rs) → (64 * (length (sevenAt rs k) / 64) ≡ length (sevenAt rs k)) × (1 ≤ length (sevenAt rs k) / 64) × (length (sevenAt rs k) / 64 ≤ 7) × (k + 1 < blocksFor (length rs) → length (sevenAt rs k) / 64 ≡ 7) × (k + 1 ≡ blocksFor (length rs) → 7 * k + length (sevenAt rs k) / 64 ≡ m)
+  seven-length : (k : ℕ) → k < blocksFor (length rs) → (64 * (length (sevenAt rs k) / 64) ≡ length (sevenAt rs k)) × (1 ≤ length (sevenAt rs k) / 64)
+      × (length (sevenAt rs k) / 64 ≤ 7) × (k + 1 < blocksFor (length rs) → length (sevenAt rs k) / 64 ≡ 7)
+      × (k + 1 ≡ blocksFor (length rs) → 7 * k + length (sevenAt rs k) / 64 ≡ m)
   seven-length k h =
       let l₁ = length-take 448 (drop (k * 448) rs) in
       let l₂ = length-drop (k * 448) rs in
@@ -184,7 +190,8 @@ module _ (rs : List ℕ) (m : ℕ) (lm : length rs ≡ 64 * m) where
           eq-eqb (length (sevenAt rs k) / 64) 7 (seven-length k h .3 (omega arith))
 
       one : (k : ℕ) → k < blocksFor (length rs) → headerOk (blocksFor (length rs)) k (blockOf (blocksFor (length rs)) k (sevenAt rs k)) ≡ true
-      one k h = block-header (blocksFor (length rs)) k (sevenAt rs k) (length-seven rs k) (omega arith) (omega arith) (seven-length k h .0) (counted k h (eqb (k + 1) (blocksFor (length rs))) refl)
+      one k h = block-header (blocksFor (length rs)) k (sevenAt rs k) (length-seven rs k) (omega arith) (omega arith) (seven-length k h .0)
+          (counted k h (eqb (k + 1) (blocksFor (length rs))) refl)
 
   pub file-sums : AllBytes rs → sumsOk (fileOfBytes rs) ≡ true
   unfolding sumsOk
@@ -194,13 +201,17 @@ module _ (rs : List ℕ) (m : ℕ) (lm : length rs ≡ 64 * m) where
       ∙ all-intro (λ k. sumOk (block (fileOfBytes rs) k)) n (λ k h. ap sumOk (file-block k h) ∙ block-sum n k (sevenAt rs k) (length-seven rs k) (few k))
     where
       few : (k : ℕ) → AllBytes (sevenAt rs k)
-      few k = record { below = λ i h. (let a = length-take 448 (drop (k * 448) rs) in let d = length-drop (k * 448) rs in let e = at-part rs (k * 448) 448 i (omega arith) in let f = b .below (k * 448 + i) (omega arith) in omega arith) }
+      few k = record {
+        below = λ i h. (let a = length-take 448 (drop (k * 448) rs) in let d = length-drop (k * 448) rs in
+            let e = at-part rs (k * 448) 448 i (omega arith) in let f = b .below (k * 448 + i) (omega arith) in omega arith);
+      }
 
   pub file-length : 1 ≤ m → m ≤ 126 → lengthOk (length (fileOfBytes rs)) ≡ true
   file-length h k =
       let l = length-file in
       let z : length (fileOfBytes rs) % 512 ≡ 0 = omega arith in
-      ap₂ _&&_ (ap₂ _&&_ (le-leb 1 (length (fileOfBytes rs)) (omega arith)) (le-leb (length (fileOfBytes rs)) 9216 (omega arith))) (eq-eqb (length (fileOfBytes rs) % 512) 0 z)
+      ap₂ _&&_ (ap₂ _&&_ (le-leb 1 (length (fileOfBytes rs)) (omega arith)) (le-leb (length (fileOfBytes rs)) 9216 (omega arith)))
+      (eq-eqb (length (fileOfBytes rs) % 512) 0 z)
 
   pub file-count : 1 ≤ m → recordCount (fileOfBytes rs) ≡ m
   file-count h =

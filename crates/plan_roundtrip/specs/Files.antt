@@ -57,7 +57,8 @@ module _ {A : Type 0} where
   span-add : (f : ℕ → A) (i a b : ℕ) → span f i (a + b) ≡ span f i a ++ span f (i + a) b
   unfolding span
   span-add f i zero b = let e : i + 0 ≡ i = omega arith in let z : 0 + b ≡ b = omega arith in rw (e, z)
-  span-add f i (suc a) b = let e : suc i + a ≡ i + suc a = omega arith in let z : suc a + b ≡ suc (a + b) = omega arith in rw z (ap (λ (l : List A). f i ∷ l) (span-add f (suc i) a b ∙ ap (λ (n : ℕ). span f (suc i) a ++ span f n b) e))
+  span-add f i (suc a) b = let e : suc i + a ≡ i + suc a = omega arith in let z : suc a + b ≡ suc (a + b) = omega arith in
+      rw z (ap (λ (l : List A). f i ∷ l) (span-add f (suc i) a b ∙ ap (λ (n : ℕ). span f (suc i) a ++ span f n b) e))
 
   pub length-span : (f : ℕ → A) (i n : ℕ) → length (span f i n) ≡ n
   unfolding span
@@ -78,7 +79,8 @@ module _ {A : Type 0} where
   unfolding span
   span-every p f i zero e j h = absurd (omega arith)
   span-every p f i (suc n) e zero h = let z : i + 0 ≡ i = omega arith in rw z (and-left (p (f i)) (every p (span f (suc i) n)) e)
-  span-every p f i (suc n) e (suc j) h = let z : i + suc j ≡ suc i + j = omega arith in rw z (span-every p f (suc i) n (and-right (p (f i)) (every p (span f (suc i) n)) e) j (omega arith))
+  span-every p f i (suc n) e (suc j) h = let z : i + suc j ≡ suc i + j = omega arith in
+      rw z (span-every p f (suc i) n (and-right (p (f i)) (every p (span f (suc i) n)) e) j (omega arith))
 
 -- a test of every record of a file
 module _ (p : List ℕ → Bool) (s : List ℕ) where
@@ -86,7 +88,8 @@ module _ (p : List ℕ → Bool) (s : List ℕ) where
   each-record h = every-span p (recordAt s) 0 (recordCount s) (λ j a b. all-at (λ i. p (recordAt s i)) (recordCount s) h j (omega arith))
 
   pub record-each : every p (records s) ≡ true → allBelow (λ i. p (recordAt s i)) (recordCount s) ≡ true
-  record-each h = all-intro (λ i. p (recordAt s i)) (recordCount s) (λ i l. let z : 0 + i ≡ i = omega arith in rw z at (span-every p (recordAt s) 0 (recordCount s) h i l))
+  record-each h = all-intro (λ i. p (recordAt s i)) (recordCount s) (λ i l. let z : 0 + i ≡ i = omega arith in
+      rw z at (span-every p (recordAt s) 0 (recordCount s) h i l))
 
 child-counts : (s : List ℕ) → map children (records s) ≡ span (childrenAt s) 0 (recordCount s)
 child-counts s = map-span children (recordAt s) 0 (recordCount s)
@@ -99,7 +102,8 @@ every-append p (e ∷ x) y a b = ap₂ _&&_ (and-left (p e) (every p x) a) (ever
 
 every-joined : (l : List (List ℕ)) → every (every byte) l ≡ true → every byte (joined l) ≡ true
 every-joined [] h = refl
-every-joined (r ∷ l) h = every-append byte r (joined l) (and-left (every byte r) (every (every byte) l) h) (every-joined l (and-right (every byte r) (every (every byte) l) h))
+every-joined (r ∷ l) h = every-append byte r (joined l) (and-left (every byte r) (every (every byte) l) h)
+    (every-joined l (and-right (every byte r) (every (every byte) l) h))
 
 pub every-bytes : (l : List ℕ) → every byte l ≡ true → AllBytes l
 every-bytes l h = record { below = go l h }
@@ -161,27 +165,32 @@ run s k (suc c) j h =
     let g : k * 512 + (8 + 64 * suc j) ≡ a + 64 = omega arith in
     let n : 64 + 64 * c ≡ 64 * suc c = omega arith in
     ap₂ _++_ (ap (λ (x : ℕ). part x 64 s) p)
-    (ap (λ (x : ℕ). joined (span (recordAt s) x c)) q ∙ run s k c (suc j) (omega arith) ∙ ap (λ (x : ℕ). part x (64 * c) s) g ∙ ap (take (64 * c)) (sym (drop-drop 64 a s)))
+    (ap (λ (x : ℕ). joined (span (recordAt s) x c)) q ∙ run s k c (suc j) (omega arith) ∙ ap (λ (x : ℕ). part x (64 * c) s) g
+    ∙ ap (take (64 * c)) (sym (drop-drop 64 a s)))
     ∙ sym (take-add 64 (64 * c) (drop a s)) ∙ ap (λ (x : ℕ). part a x s) n
 
 module _ (s : List ℕ) (by : AllBytes s) (len : lengthOk (length s) ≡ true) (sums : sumsOk s ≡ true) (heads : headersOk s ≡ true) where
   in-block : (k c : ℕ) → c ≡ getD (block s k) 4 0 → c ≤ 7 → inBlock s k ≡ joined (span (recordAt s) (7 * k) c)
   in-block k c e h =
       let z : 7 * k + 0 ≡ 7 * k = omega arith in
-      ap (λ (x : ℕ). part 8 (64 * x) (block s k)) (sym e) ∙ part-part 8 (64 * c) (k * 512) 512 s (omega arith) ∙ sym (run s k c 0 (omega arith)) ∙ ap (λ (x : ℕ). joined (span (recordAt s) x c)) z
+      ap (λ (x : ℕ). part 8 (64 * x) (block s k)) (sym e) ∙ part-part 8 (64 * c) (k * 512) 512 s (omega arith) ∙ sym (run s k c 0 (omega arith))
+      ∙ ap (λ (x : ℕ). joined (span (recordAt s) x c)) z
 
-  next : (k c : ℕ) → gather s k ≡ joined (span (recordAt s) 0 (7 * k)) → c ≡ getD (block s k) 4 0 → c ≤ 7 → gather s (suc k) ≡ joined (span (recordAt s) 0 (7 * k + c))
+  next : (k c : ℕ) → gather s k ≡ joined (span (recordAt s) 0 (7 * k)) → c ≡ getD (block s k) 4 0 → c ≤ 7 → gather s (suc k) ≡ joined
+      (span (recordAt s) 0 (7 * k + c))
   unfolding gather
   next k c g e h =
       let z : 0 + 7 * k ≡ 7 * k = omega arith in
-      ap₂ _++_ g (in-block k c e h) ∙ sym (joined-append (span (recordAt s) 0 (7 * k)) (span (recordAt s) (7 * k) c)) ∙ ap joined (sym (rw z at (span-add (recordAt s) 0 (7 * k) c)))
+      ap₂ _++_ g (in-block k c e h) ∙ sym (joined-append (span (recordAt s) 0 (7 * k)) (span (recordAt s) (7 * k) c))
+      ∙ ap joined (sym (rw z at (span-add (recordAt s) 0 (7 * k) c)))
 
   full : (k : ℕ) → k < blockCount s → gather s k ≡ joined (span (recordAt s) 0 (7 * k))
   unfolding gather span
   full zero h = refl
   full (suc k) h =
       let e : 7 * k + 7 ≡ 7 * suc k = omega arith in
-      next k 7 (full k (omega arith)) (sym (few s by len sums heads k (omega arith) .2 (omega arith))) (omega arith) ∙ ap (λ (n : ℕ). joined (span (recordAt s) 0 n)) e
+      next k 7 (full k (omega arith)) (sym (few s by len sums heads k (omega arith) .2 (omega arith))) (omega arith)
+      ∙ ap (λ (n : ℕ). joined (span (recordAt s) 0 n)) e
 
   gathered : gather s (blockCount s) ≡ joined (records s)
   gathered =
@@ -196,7 +205,8 @@ module _ (s : List ℕ) (by : AllBytes s) (len : lengthOk (length s) ≡ true) (
 
 -- ---- what is accepted
 
-tests : (a b c d f g : Bool) (x : Refusal) → a ≡ true → b ≡ true → c ≡ true → d ≡ true → f ≡ true → g ≡ true → cond a (cond b (cond c (cond d (cond f (cond g x Field) RecordCount) KindOrChildren) Header) BlockSum) Length ≡ x
+tests : (a b c d f g : Bool) (x : Refusal) → a ≡ true → b ≡ true → c ≡ true → d ≡ true → f ≡ true → g ≡ true
+    → cond a (cond b (cond c (cond d (cond f (cond g x Field) RecordCount) KindOrChildren) Header) BlockSum) Length ≡ x
 tests a b c d f g x p q r t u v = rw (p, q, r, t, u, v)
 
 -- a fine list's file is accepted, and its records come back
@@ -241,7 +251,10 @@ accepted-fine s by e =
     }
   where
     inside : (j : ℕ) → AllBytes (recordAt s j)
-    inside j = record { below = λ i h. (let a = length-take 64 (drop (recordStart j) s) in let d = length-drop (recordStart j) s in let e = at-part s (recordStart j) 64 i (omega arith) in let b = by .below (recordStart j + i) (omega arith) in omega arith) }
+    inside j = record {
+      below = λ i h. (let a = length-take 64 (drop (recordStart j) s) in let d = length-drop (recordStart j) s in
+          let e = at-part s (recordStart j) 64 i (omega arith) in let b = by .below (recordStart j + i) (omega arith) in omega arith);
+    }
 
 pub accepted-same : (s : List ℕ) → AllBytes s → refusalOf s ≡ Accepted → fileOf (records s) ≡ s
 accepted-same s by e = let v = passed s e in same-file s by (v .len) (v .sums) (v .heads)

@@ -32,7 +32,8 @@ pub tree-accepted : (f : Forest (List ℕ)) → FineTree f → refusalOf (fileOf
 tree-accepted f v = fine-accepted (nodes f) (v .records)
 
 pub tree-back : (f : Forest (List ℕ)) → FineTree f → treeOf (fileOfTree f) ≡ f
-tree-back f v = ap build (records-back (nodes f) (v .records .longs) (v .records .some) ∙ sym (append-nil (nodes f))) ∙ build-nodes f [] (v .counts) ∙ join-none f
+tree-back f v = ap build (records-back (nodes f) (v .records .longs) (v .records .some) ∙ sym (append-nil (nodes f))) ∙ build-nodes f [] (v .counts)
+    ∙ join-none f
 
 -- An accepted file's tree is fine, and written as that file
 pub accepted-tree : (s : List ℕ) → AllBytes s → refusalOf s ≡ Accepted → FineTree (treeOf s)

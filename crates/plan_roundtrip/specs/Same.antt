@@ -68,19 +68,22 @@ second : (a b x : ℕ) → a < 256 → b < 256 → a + 256 * b ≡ x → (a ≡ 
 second a b x ha hb e = (omega arith, omega arith)
 
 -- one block that passed 2 and 3
-pub block-same : (n k : ℕ) (b : List ℕ) → length b ≡ 512 → AllBytes b → headerOk n k b ≡ true → sumOk b ≡ true → blockOf n k (part 8 (64 * getD b 4 0) b) ≡ b
+pub block-same : (n k : ℕ) (b : List ℕ) → length b ≡ 512 → AllBytes b → headerOk n k b ≡ true → sumOk b ≡ true → blockOf n k (part 8 (64 * getD b 4 0) b)
+    ≡ b
 unfolding blockOf body
 block-same n k b lb h e s =
     let c : ℕ = getD b 4 0 in
     let rs : List ℕ = part 8 (64 * c) b in
-    let t : ((eqb (le16 b 0) k && eqb (le16 b 2) n) && countOk (eqb (k + 1) n) c) ≡ true = and-left ((eqb (le16 b 0) k && eqb (le16 b 2) n) && countOk (eqb (k + 1) n) c) (paddingOk b) e in
+    let t : ((eqb (le16 b 0) k && eqb (le16 b 2) n) && countOk (eqb (k + 1) n) c) ≡ true =
+    and-left ((eqb (le16 b 0) k && eqb (le16 b 2) n) && countOk (eqb (k + 1) n) c) (paddingOk b) e in
     let pad : paddingOk b ≡ true = and-right ((eqb (le16 b 0) k && eqb (le16 b 2) n) && countOk (eqb (k + 1) n) c) (paddingOk b) e in
     let nums : (eqb (le16 b 0) k && eqb (le16 b 2) n) ≡ true = and-left (eqb (le16 b 0) k && eqb (le16 b 2) n) (countOk (eqb (k + 1) n) c) t in
     let hc : c ≤ 7 = count-small (eqb (k + 1) n) c (and-right (eqb (le16 b 0) k && eqb (le16 b 2) n) (countOk (eqb (k + 1) n) c) t) in
     let ek : le16 b 0 ≡ k = eqb-true (le16 b 0) k (and-left (eqb (le16 b 0) k) (eqb (le16 b 2) n) nums) in
     let en : le16 b 2 ≡ n = eqb-true (le16 b 2) n (and-right (eqb (le16 b 0) k) (eqb (le16 b 2) n) nums) in
     let z₁ : zeros (part 5 3 b) ≡ true = and-left (zeros (part 5 3 b)) (zeros (part (8 + 64 * c) (508 - (8 + 64 * c)) b)) pad in
-    let z₂ : zeros (part (8 + 64 * c) (508 - (8 + 64 * c)) b) ≡ true = and-right (zeros (part 5 3 b)) (zeros (part (8 + 64 * c) (508 - (8 + 64 * c)) b)) pad in
+    let z₂ : zeros (part (8 + 64 * c) (508 - (8 + 64 * c)) b) ≡ true = and-right (zeros (part 5 3 b)) (zeros (part (8 + 64 * c) (508 - (8 + 64 * c)) b))
+    pad in
     let lr : length rs ≡ 64 * c = length-part b 8 (64 * c) (omega arith) in
     let lc : length rs / 64 ≡ c = omega arith in
     let by : (i : ℕ) → i < 512 → getD b i 0 < 256 = λ i q. h .below i (omega arith) in
@@ -93,17 +96,20 @@ block-same n k b lb h e s =
     (eight b (omega arith) ∙ (λ i. k₂ .0 i ∷ k₂ .1 i ∷ n₂ .0 i ∷ n₂ .1 i ∷ sym lc i ∷ w₅ i ∷ w₆ i ∷ w₇ i ∷ [])) in
     let lz : length (part (8 + 64 * c) (508 - (8 + 64 * c)) b) ≡ 508 - (8 + 64 * c) = length-part b (8 + 64 * c) (508 - (8 + 64 * c)) (omega arith) in
     let lz₂ : 508 - (8 + 64 * c) ≡ 500 - length rs = omega arith in
-    let zs : part (8 + 64 * c) (508 - (8 + 64 * c)) b ≡ replicate (500 - length rs) 0 = zeros-are (part (8 + 64 * c) (508 - (8 + 64 * c)) b) z₂ ∙ ap (λ (m : ℕ). replicate m 0) (lz ∙ lz₂) in
+    let zs : part (8 + 64 * c) (508 - (8 + 64 * c)) b ≡ replicate (500 - length rs) 0 = zeros-are (part (8 + 64 * c) (508 - (8 + 64 * c)) b) z₂
+    ∙ ap (λ (m : ℕ). replicate m 0) (lz ∙ lz₂) in
     let q : 8 + 64 * c + (508 - (8 + 64 * c)) ≡ 508 = omega arith in
     let bd : take 508 b ≡ (header k n (length rs / 64) ++ rs) ++ replicate (500 - length rs) 0 =
-    (ap (λ (m : ℕ). take m b) (sym q) ∙ take-add (8 + 64 * c) (508 - (8 + 64 * c)) b ∙ ap₂ _++_ (take-add 8 (64 * c) b ∙ ap (λ (x : List ℕ). x ++ rs) hd) zs) in
+    (ap (λ (m : ℕ). take m b) (sym q) ∙ take-add (8 + 64 * c) (508 - (8 + 64 * c)) b ∙ ap₂ _++_ (take-add 8 (64 * c) b ∙ ap (λ (x : List ℕ). x ++ rs) hd)
+    zs) in
     let x : ℕ = total (take 508 b) in
     let ex : x ≡ le32 b 508 = eqb-true x (le32 b 508) s in
     let ld : length (drop 508 b) ≡ 4 = (let y = length-drop 508 b in omega arith) in
     let tl : drop 508 b ≡ fourBytes x =
     (quad (drop 508 b) ld
     ∙ (λ i. getD-drop 508 b 0 0 i ∷ getD-drop 508 b 1 0 i ∷ getD-drop 508 b 2 0 i ∷ getD-drop 508 b 3 0 i ∷ [])
-    ∙ sym (fourth (getD b 508 0) (getD b 509 0) (getD b 510 0) (getD b 511 0) (by 508 (omega arith)) (by 509 (omega arith)) (by 510 (omega arith)) (by 511 (omega arith)) x ex)) in
+    ∙ sym (fourth (getD b 508 0) (getD b 509 0) (getD b 510 0) (getD b 511 0) (by 508 (omega arith)) (by 509 (omega arith)) (by 510 (omega arith))
+    (by 511 (omega arith)) x ex)) in
     sym (ap₂ _++_ bd (ap fourBytes (ap total bd))) ∙ ap (λ (l : List ℕ). take 508 b ++ l) (sym tl) ∙ take-append-drop 508 b
 
 -- ---- the whole file
@@ -136,7 +142,10 @@ module _ (s : List ℕ) (by : AllBytes s) (len : lengthOk (length s) ≡ true) (
   long k h = length-part s (k * 512) 512 (let w = whole in let a = w .0 in omega arith)
 
   bytes-at : (k : ℕ) → k < blockCount s → AllBytes (block s k)
-  bytes-at k h = record { below = λ i q. (let w = whole .0 in let l = long k h in let e = at-part s (k * 512) 512 i (omega arith) in let f = by .below (k * 512 + i) (omega arith) in omega arith) }
+  bytes-at k h = record {
+    below = λ i q. (let w = whole .0 in let l = long k h in let e = at-part s (k * 512) 512 i (omega arith) in
+        let f = by .below (k * 512 + i) (omega arith) in omega arith);
+  }
 
   counted : (k : ℕ) → k < blockCount s → countOk (eqb (k + 1) (blockCount s)) (getD (block s k) 4 0) ≡ true
   counted k h =
@@ -148,7 +157,8 @@ module _ (s : List ℕ) (by : AllBytes s) (len : lengthOk (length s) ≡ true) (
   pub few : (k : ℕ) → k < blockCount s → (1 ≤ getD (block s k) 4 0) × (getD (block s k) 4 0 ≤ 7) × (k + 1 < blockCount s → getD (block s k) 4 0 ≡ 7)
   few k h = go (eqb (k + 1) (blockCount s)) refl (counted k h)
     where
-      go : (t : Bool) → eqb (k + 1) (blockCount s) ≡ t → countOk t (getD (block s k) 4 0) ≡ true → (1 ≤ getD (block s k) 4 0) × (getD (block s k) 4 0 ≤ 7) × (k + 1 < blockCount s → getD (block s k) 4 0 ≡ 7)
+      go : (t : Bool) → eqb (k + 1) (blockCount s) ≡ t → countOk t (getD (block s k) 4 0) ≡ true → (1 ≤ getD (block s k) 4 0) × (getD (block s k) 4 0 ≤ 7)
+          × (k + 1 < blockCount s → getD (block s k) 4 0 ≡ 7)
       go true q e =
           let c : ℕ = getD (block s k) 4 0 in
           let p = sym (or-false (leb 1 c && leb c 7)) ∙ e in
@@ -182,7 +192,8 @@ module _ (s : List ℕ) (by : AllBytes s) (len : lengthOk (length s) ≡ true) (
           let b = length-in N (omega arith) in
           let f = few N (omega arith) .1 in
           let p : N * 448 ≡ length (gather s N) + 0 = omega arith in
-          rw e (ap (λ (x : ℕ). part x 448 (gather s N ++ inBlock s N)) p ∙ part-right 0 448 (gather s N) (inBlock s N) ∙ take-all 448 (inBlock s N) (omega arith))
+          rw e (ap (λ (x : ℕ). part x 448 (gather s N ++ inBlock s N)) p ∙ part-right 0 448 (gather s N) (inBlock s N) ∙ take-all 448 (inBlock s N)
+          (omega arith))
 
   blocks-same : (k : ℕ) → k ≤ blockCount s → blocksTo (blockCount s) (gather s (blockCount s)) k ≡ take (k * 512) s
   unfolding blocksTo
@@ -190,7 +201,8 @@ module _ (s : List ℕ) (by : AllBytes s) (len : lengthOk (length s) ≡ true) (
   blocks-same (suc k) h =
       let m : ℕ = blockCount s in
       let g : suc k * 512 ≡ k * 512 + 512 = omega arith in
-      let e : blockOf m k (sevenAt (gather s m) k) ≡ block s k = ap (blockOf m k) (gather-at m k (omega arith) (omega arith)) ∙ block-same m k (block s k) (long k (omega arith)) (bytes-at k (omega arith)) (head-at k (omega arith)) (sum-at k (omega arith)) in
+      let e : blockOf m k (sevenAt (gather s m) k) ≡ block s k = ap (blockOf m k) (gather-at m k (omega arith) (omega arith)) ∙ block-same m k (block s k)
+      (long k (omega arith)) (bytes-at k (omega arith)) (head-at k (omega arith)) (sum-at k (omega arith)) in
       ap₂ _++_ (blocks-same k (omega arith)) e ∙ sym (take-add (k * 512) 512 s) ∙ ap (λ (x : ℕ). take x s) (sym g)
 
   all-records : blocksFor (length (gather s (blockCount s))) ≡ blockCount s
@@ -211,4 +223,5 @@ module _ (s : List ℕ) (by : AllBytes s) (len : lengthOk (length s) ≡ true) (
   pub same-bytes : fileOfBytes (gather s (blockCount s)) ≡ s
   unfolding fileOfBytes
   same-bytes =
-      ap (λ (x : ℕ). blocksTo x (gather s (blockCount s)) x) all-records ∙ blocks-same (blockCount s) (omega arith) ∙ take-all (blockCount s * 512) s (let w = whole .0 in omega arith)
+      ap (λ (x : ℕ). blocksTo x (gather s (blockCount s)) x) all-records ∙ blocks-same (blockCount s) (omega arith) ∙ take-all (blockCount s * 512) s
+      (let w = whole .0 in omega arith)

@@ -27,7 +27,8 @@ arity (tree a c r) = eqb (children a) (length (roots c)) && (arity c && arity r)
 split : (n : ℕ) (f : Forest (List ℕ)) → nodes (takeF n f) ++ nodes (dropF n f) ≡ nodes f
 split zero f = refl
 split (suc n) none = refl
-split (suc n) (tree a c r) = ap (λ (l : List (List ℕ)). a ∷ l) (append-assoc (nodes c) (nodes (takeF n r)) (nodes (dropF n r)) ∙ ap (λ (l : List (List ℕ)). nodes c ++ l) (split n r))
+split (suc n) (tree a c r) = ap (λ (l : List (List ℕ)). a ∷ l) (append-assoc (nodes c) (nodes (takeF n r)) (nodes (dropF n r))
+    ∙ ap (λ (l : List (List ℕ)). nodes c ++ l) (split n r))
 
 -- records, tree, records
 pub nodes-build : (l : List (List ℕ)) → nodes (build l) ≡ l
@@ -49,7 +50,8 @@ build-nodes (tree a c r) l h =
     let k = eqb-true (children a) (length (roots c)) (and-left (eqb (children a) (length (roots c))) (arity c && arity r) h) in
     let s = and-right (eqb (children a) (length (roots c))) (arity c && arity r) h in
     let e : build ((nodes c ++ nodes r) ++ l) ≡ c ⊕ (r ⊕ build l) =
-    (ap build (append-assoc (nodes c) (nodes r) l) ∙ build-nodes c (nodes r ++ l) (and-left (arity c) (arity r) s) ∙ ap (λ (g : Forest (List ℕ)). c ⊕ g) (build-nodes r l (and-right (arity c) (arity r) s))) in
+    (ap build (append-assoc (nodes c) (nodes r) l) ∙ build-nodes c (nodes r ++ l) (and-left (arity c) (arity r) s) ∙ ap (λ (g : Forest (List ℕ)). c ⊕ g)
+    (build-nodes r l (and-right (arity c) (arity r) s))) in
     ap₂ (tree a) (ap₂ takeF k e ∙ take-join c (r ⊕ build l)) (ap₂ dropF k e ∙ drop-join c (r ⊕ build l))
 
 roots-take : (n : ℕ) (f : Forest (List ℕ)) → n ≤ length (roots f) → length (roots (takeF n f)) ≡ n
@@ -72,7 +74,8 @@ arity-take zero f h = refl
 arity-take (suc n) none h = refl
 arity-take (suc n) (tree a c r) h =
     let s = and-right (eqb (children a) (length (roots c))) (arity c && arity r) h in
-    ap₂ _&&_ (and-left (eqb (children a) (length (roots c))) (arity c && arity r) h) (ap₂ _&&_ (and-left (arity c) (arity r) s) (arity-take n r (and-right (arity c) (arity r) s)))
+    ap₂ _&&_ (and-left (eqb (children a) (length (roots c))) (arity c && arity r) h)
+    (ap₂ _&&_ (and-left (arity c) (arity r) s) (arity-take n r (and-right (arity c) (arity r) s)))
 
 arity-drop : (n : ℕ) (f : Forest (List ℕ)) → arity f ≡ true → arity (dropF n f) ≡ true
 arity-drop zero f h = h

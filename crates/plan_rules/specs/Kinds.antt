@@ -104,7 +104,8 @@ module _ (r : List ℕ) where
   pub head-none : length r ≡ 64 → eqb (le16 r 2) 0 && eqb (value (part 4 8 r)) 0 ≡ headOk (fieldsOf 2) r
   head-none l = ap₂ _&&_ quiet (uncut l)
 
-  pub head-source : length r ≡ 64 → ((leb 1 streams && leb streams 64) && (eqb marks 0 || eqb marks 4)) && eqb (value (part 4 8 r)) 0 ≡ headOk (fieldsOf 1) r
+  pub head-source : length r ≡ 64 → ((leb 1 streams && leb streams 64) && (eqb marks 0 || eqb marks 4)) && eqb (value (part 4 8 r)) 0 ≡ headOk
+      (fieldsOf 1) r
   head-source l = ap₂ _&&_ (ap₂ _&&_ (sym (or-false (leb 1 streams && leb streams 64))) (marks-source marks)) (uncut l)
 
   pub head-repartition : length r ≡ 64 → ((leb 1 streams && leb streams 64) && ltb marks 4) && eqb (value (part 4 8 r)) 0 ≡ headOk (fieldsOf 5) r

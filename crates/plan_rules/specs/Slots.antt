@@ -157,7 +157,8 @@ module _ (p : Bool) (r : List ℕ) (h : Small r) (l : length r ≡ 64) where
       ∙ sym slots-are
 
   pub many-keys : 4 ≤ n
-      → eqb (bitAnd (value low) (value (forbidden p 4))) 0 && (eqb (bitAnd (value high) (value (forbidden p 4))) 0 && eqb (value high / 2 ^ (16 * (n - 4))) 0)
+      → eqb (bitAnd (value low) (value (forbidden p 4))) 0
+      && (eqb (bitAnd (value high) (value (forbidden p 4))) 0 && eqb (value high / 2 ^ (16 * (n - 4))) 0)
       ≡ keySlotsOk p r
   many-keys q =
       let d : drop (2 * n) low ≡ [] = drop-of-length-le low {i = 2 * n} (let e = length-part r 16 8 (omega arith) in omega arith) in

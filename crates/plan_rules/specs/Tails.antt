@@ -22,7 +22,8 @@ module _ (r : List ℕ) where
   pub last-three : length r ≡ 64 → eqb (value (part 40 8 r)) 0 && (eqb (value (part 48 8 r)) 0 && eqb (value (part 56 8 r)) 0) ≡ zeros (drop 40 r)
   last-three l =
       ap (λ b. eqb (value (part 40 8 r)) 0 && b)
-      (ap (λ b. eqb (value (part 48 8 r)) 0 && b) (value-zero (part 56 8 r) ∙ ap zeros (take-all 8 (drop 56 r) (let d = length-drop 56 r in omega arith))) ∙ eight-more 48)
+      (ap (λ b. eqb (value (part 48 8 r)) 0 && b) (value-zero (part 56 8 r) ∙ ap zeros (take-all 8 (drop 56 r) (let d = length-drop 56 r in omega arith)))
+      ∙ eight-more 48)
       ∙ eight-more 40
 
   pub last-four : eqb (value (part 32 8 r)) 0 && zeros (drop 40 r) ≡ zeros (drop 32 r)

@@ -1,4 +1,5 @@
-// Bytes 16 to 31 of a record: the keys' columns and options, four keys in one number. Masks test the options, a shift tests that what follows the keys is zero.
+// Bytes 16 to 31 of a record: the keys' columns and options, four keys in one number. Masks test the options, a shift tests that what follows the keys is
+// zero.
 ghost use mathlib.Core.Path.{_≡_};
 ghost use mathlib.Core.Bool.{_&&_};
 ghost use Prim.Native.Nat.{_*_, _/_, _^_};

@@ -41,7 +41,8 @@ pub record Comparing (l k : List ℕ) (j : ℕ) (b : Bool) : Type 0 where
 pub comparing-none : (l k : List ℕ) → Comparing l k 0 true
 comparing-none l k = record { low = omega arith; is = refl }
 
-pub comparing-more : (l k : List ℕ) (j : ℕ) (b : Bool) → length l ≡ length k → j < length l → Comparing l k j b → Comparing l k (j + 1) (b && eqb (getD l j 0) (getD k j 0))
+pub comparing-more : (l k : List ℕ) (j : ℕ) (b : Bool) → length l ≡ length k → j < length l → Comparing l k j b
+    → Comparing l k (j + 1) (b && eqb (getD l j 0) (getD k j 0))
 comparing-more l k j b e h p =
     record {
       low = omega arith;
@@ -75,7 +76,8 @@ module _ (m : List ℕ) (u : ℕ) (r ks : List ℕ) (p : Puts m u r ks) (i : ℕ
       let o = put-over m u r ks p in
       (again-asks .0, sym (proper m r ks o .count) ∙ ap children (same-is r (slot m i .rec) e), few-over m r ks o)
 
-  pub again-grown : same r (slot m i .rec) ≡ true → same ks (slot m i .kids) ≡ true → Grown m u m (record { used = u; root = 2 * i }) (node (decode r) false (forest m ks)) (u + 1)
+  pub again-grown : same r (slot m i .rec) ≡ true → same ks (slot m i .kids) ≡ true → Grown m u m (record { used = u; root = 2 * i })
+      (node (decode r) false (forest m ks)) (u + 1)
   again-grown e f =
       let n : 2 * i % 2 ≡ 0 = omega arith in
       record {
@@ -84,6 +86,7 @@ module _ (m : List ℕ) (u : ℕ) (r ks : List ℕ) (p : Puts m u r ks) (i : ℕ
         more = omega arith;
         here = omega arith;
         tree = ap₂ (λ x y. setMark (eqb x 1) (treeIn m y)) n (index-even i)
-            ∙ ap (setMark false) (shown .tree ∙ ap₂ (λ x y. node (decode x) false (forest m y)) (sym (same-is r (slot m i .rec) e)) (sym (same-is ks (slot m i .kids) f)));
+            ∙ ap (setMark false) (shown .tree ∙ ap₂ (λ x y. node (decode x) false (forest m y)) (sym (same-is r (slot m i .rec) e))
+            (sym (same-is ks (slot m i .kids) f)));
         room = omega arith;
       }

@@ -63,16 +63,19 @@ module _ (a : List ℕ) (ua h : ℕ) (b₀ : List ℕ) (v : ℕ) (c : Copies a u
     abbrev k : ℕ
     k = getD (slot a (index h) .kids) j 0
 
-    split : forest a (drop j (slot a (index h) .kids)) ≡ plant (treeOf a (getD (slot a (index h) .kids) j 0)) (forest a (drop (suc j) (slot a (index h) .kids)))
+    split : forest a (drop j (slot a (index h) .kids)) ≡ plant (treeOf a (getD (slot a (index h) .kids) j 0))
+        (forest a (drop (suc j) (slot a (index h) .kids)))
     split = drop-next a ks j l
 
     pub copied-next : (sizeT (treeOf a (getD (slot a (index h) .kids) j 0)) < sizeT (treeOf a h)) × Copies a ua (getD (slot a (index h) .kids) j 0) b w
     copied-next =
-        let s = ap size split in let t = whole (c .from) (c .here) in let q = p .left in let o = p .made .long in let r = c .room in let m = c .small in let x = p .made .more in
+        let s = ap size split in let t = whole (c .from) (c .here) in let q = p .left in let o = p .made .long in let r = c .room in let m = c .small in
+        let x = p .made .more in
         let z = below-at (2 * (index h)) ks j (shown .below) l in let y = c .here in
         (omega arith, record { from = c .from; here = omega arith; arena = p .made .arena; room = omega arith; small = omega arith })
 
-    pub copied-more : (b' : List ℕ) → length b' ≡ length b → (r : At) → Grown b w b' r (treeOf a (getD (slot a (index h) .kids) j 0)) (w + sizeT (treeOf a (getD (slot a (index h) .kids) j 0)))
+    pub copied-more : (b' : List ℕ) → length b' ≡ length b → (r : At) → Grown b w b' r (treeOf a (getD (slot a (index h) .kids) j 0))
+        (w + sizeT (treeOf a (getD (slot a (index h) .kids) j 0)))
         → ChildrenCopied a h b₀ v (j + 1) (r .used) (set kids j (r .root)) b'
     copied-more b' lb r g =
         let f = shown .few in
@@ -94,7 +97,8 @@ module _ (a : List ℕ) (ua h : ℕ) (b₀ : List ℕ) (v : ℕ) (c : Copies a u
 
     pub copied-puts : Puts b w (slot a (index h) .rec) (take n kids)
     copied-puts =
-        let s = shown in let q = p .left in let t = whole (c .from) (c .here) in let o = p .made .long in let r = c .room in let m = c .small in let sm = s .small in
+        let s = shown in let q = p .left in let t = whole (c .from) (c .here) in let o = p .made .long in let r = c .room in let m = c .small in
+        let sm = s .small in
         record {
           arena = p .made .arena;
           room = omega arith;
@@ -119,11 +123,13 @@ module _ (a : List ℕ) (ua h : ℕ) (b₀ : List ℕ) (v : ℕ) (c : Copies a u
         subst (λ x. Sums (node (decode (slot a (index h) .rec)) false x) (summaryIn (keptPart a (index h)))) (sym all-same)
         (subst (λ t. Sums t (summaryIn (keptPart a (index h)))) (shown .tree) (here-held .summary))
 
-    pub copied-end : (b' : List ℕ) → Grown b w b' (record { used = w + 1; root = 2 * w }) (node (decode (slot a (index h) .rec)) false (forest b (take n kids))) (w + 1)
+    pub copied-end : (b' : List ℕ) → Grown b w b' (record { used = w + 1; root = 2 * w })
+        (node (decode (slot a (index h) .rec)) false (forest b (take n kids))) (w + 1)
         → Grown b₀ v b' (record { used = w + 1; root = 2 * w + h % 2 }) (treeOf a h) (v + sizeT (treeOf a h))
     copied-end b' g =
         let q = p .left in let t = whole (c .from) (c .here) in let m = p .made .more in
-        let s : treeOf b' (2 * w) ≡ setMark false (treeIn a (index h)) = g .tree ∙ ap (node (decode (slot a (index h) .rec)) false) all-same ∙ ap (setMark false) (sym (shown .tree)) in
+        let s : treeOf b' (2 * w) ≡ setMark false (treeIn a (index h)) = g .tree ∙ ap (node (decode (slot a (index h) .rec)) false) all-same
+        ∙ ap (setMark false) (sym (shown .tree)) in
         record {
           arena = g .arena;
           old = same-trans v w b₀ b b' m (p .made .old) (g .old);

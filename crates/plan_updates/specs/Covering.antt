@@ -50,7 +50,8 @@ module _ (m : List ℕ) (u h : ℕ) (p : Under m u h 1) (o : Op) (ok : nodeOk o 
         few = omega arith;
       }
 
-  pub cover-grown : (m' : List ℕ) (a : At) (top : ℕ) → Grown m u m' a (node (decode r) false (forest m (h ∷ []))) top → Grown m u m' a (over o false (treeOf m h)) top
+  pub cover-grown : (m' : List ℕ) (a : At) (top : ℕ) → Grown m u m' a (node (decode r) false (forest m (h ∷ []))) top
+      → Grown m u m' a (over o false (treeOf m h)) top
   cover-grown m' a top g = subst (λ t. Grown m u m' a t top) tree-is g
 
 -- what a tree in the arena is

@@ -37,7 +37,8 @@ pub below-snoc : (n : ℕ) (hs : List ℕ) (h : ℕ) → Below n hs → h < n �
 below-snoc n [] h b l = (l, tt)
 below-snoc n (x ∷ hs) h b l = (b .0, below-snoc n hs h (b .1) l)
 
-module _ (b₀ : List ℕ) (v j w : ℕ) (kids b : List ℕ) (p : Kids b₀ v j w kids b) (h : j < 8) (b' : List ℕ) (l : length b' ≡ length b) (r : At) (t : Tree) (top : ℕ) (g : Grown b w b' r t top) where
+module _ (b₀ : List ℕ) (v j w : ℕ) (kids b : List ℕ) (p : Kids b₀ v j w kids b) (h : j < 8) (b' : List ℕ) (l : length b' ≡ length b) (r : At) (t : Tree)
+    (top : ℕ) (g : Grown b w b' r t top) where
   taken : take (j + 1) (set kids j (r .root)) ≡ take j kids ++ (r .root ∷ [])
   taken = let x = p .wide in rw (add-one j) (take-suc-set kids j (r .root) (omega arith))
 
@@ -50,7 +51,8 @@ module _ (b₀ : List ℕ) (v j w : ℕ) (kids b : List ℕ) (p : Kids b₀ v j 
         arena = g .arena;
         old = same-trans v w b₀ b b' x (p .old) (g .old);
         more = omega arith;
-        below = subst (Below (2 * r .used)) (sym taken) (below-snoc (2 * r .used) (take j kids) (r .root) (below-more (take j kids) (omega arith) (p .below)) (g .here));
+        below = subst (Below (2 * r .used)) (sym taken)
+            (below-snoc (2 * r .used) (take j kids) (r .root) (below-more (take j kids) (omega arith) (p .below)) (g .here));
       }
 
   -- its forest, before any siblings

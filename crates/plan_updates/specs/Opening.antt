@@ -18,14 +18,22 @@ opened-puts m u r ks i o =
     record { arena = o .arena; room = omega arith; small = omega arith; below = o .below; canon = o .canon; ok = o .ok; few = omega arith }
 
 pub grown-more : (m : List ℕ) (u : ℕ) (m' : List ℕ) (r : At) (t : Tree) (top top' : ℕ) → top ≤ top' → Grown m u m' r t top → Grown m u m' r t top'
-grown-more m u m' r t top top' h g = let x = g .room in record { arena = g .arena; old = g .old; more = g .more; here = g .here; tree = g .tree; room = omega arith }
+grown-more m u m' r t top top' h g = let x = g .room in
+    record { arena = g .arena; old = g .old; more = g .more; here = g .here; tree = g .tree; room = omega arith }
 
 -- one after the other
 pub grown-then : (m : List ℕ) (u : ℕ) (m₁ : List ℕ) (s : At) (t : Tree) (top₁ : ℕ) (m₂ : List ℕ) (a : At) (t₂ : Tree) (top₂ top : ℕ)
     → Grown m u m₁ s t top₁ → Grown m₁ (s .used) m₂ a t₂ top₂ → top₂ ≤ top → Grown m u m₂ a t₂ top
 grown-then m u m₁ s t top₁ m₂ a t₂ top₂ top g k h =
     let x = g .more in let y = k .more in let z = k .room in
-    record { arena = k .arena; old = same-trans u (s .used) m m₁ m₂ x (g .old) (k .old); more = omega arith; here = k .here; tree = k .tree; room = omega arith }
+    record {
+      arena = k .arena;
+      old = same-trans u (s .used) m m₁ m₂ x (g .old) (k .old);
+      more = omega arith;
+      here = k .here;
+      tree = k .tree;
+      room = omega arith;
+    }
 
 -- nothing added
 pub grown-none : (m : List ℕ) (u h top : ℕ) → Arena m u → h < 2 * u → u ≤ top → Grown m u m (record { used = u; root = h }) (treeOf m h) top

@@ -70,14 +70,17 @@ module _ (m : List ℕ) (u : ℕ) (r ks : List ℕ) (p : Puts m u r ks) where
           }
 
     -- with what is known of the node, as the code lends its place
-    module _ (b : List ℕ) (d : length b ≡ keptSize) (f : Says (factsOp (decode r) (known (forest m ks))) (loaded b)) (q : Sums (node (decode r) false (forest m ks)) (summaryIn b)) where
+    module _ (b : List ℕ) (d : length b ≡ keptSize) (f : Says (factsOp (decode r) (known (forest m ks))) (loaded b))
+        (q : Sums (node (decode r) false (forest m ks)) (summaryIn b)) where
       kept : Settled m₁ u (splice m₁ (u * slotSize + keptFrom) (u * slotSize + keptFrom + keptSize - (u * slotSize + keptFrom)) b)
       kept =
           let e : node (decode (slot m₁ u .rec)) false (forest m₁ (slot m₁ u .kids)) ≡ node (decode r) false (forest m ks) =
           (ap (λ n. node (decode (n .rec)) false (forest m₁ (n .kids))) (a .node) ∙ ap (node (decode r) false) same-kids) in
           settled-by m₁ u put-settles b d (subst (λ t. Says (fact t) (loaded b)) (sym e) f) (subst (λ t. Sums t (summaryIn b)) (sym e) q)
 
-      pub known-grown : Grown m u (splice m₁ (u * slotSize + keptFrom) (u * slotSize + keptFrom + keptSize - (u * slotSize + keptFrom)) b) (record { used = u + 1; root = 2 * u }) (node (decode r) false (forest m ks)) (u + 1)
+      pub known-grown : Grown m u (splice m₁ (u * slotSize + keptFrom) (u * slotSize + keptFrom + keptSize - (u * slotSize + keptFrom)) b)
+          (record { used = u + 1; root = 2 * u }) (node (decode r) false (forest m ks)) (u + 1)
       known-grown =
           let z : u * slotSize + keptFrom + keptSize - (u * slotSize + keptFrom) ≡ keptSize = omega arith in
-          put-grown (splice m₁ (u * slotSize + keptFrom) (u * slotSize + keptFrom + keptSize - (u * slotSize + keptFrom)) b) (rw z (length-with m₁ u b (put-settles .room) d)) kept
+          put-grown (splice m₁ (u * slotSize + keptFrom) (u * slotSize + keptFrom + keptSize - (u * slotSize + keptFrom)) b)
+          (rw z (length-with m₁ u b (put-settles .room) d)) kept

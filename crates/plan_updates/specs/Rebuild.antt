@@ -137,7 +137,8 @@ module _ (m r ks : List ℕ) (a : Over m r ks) where
   unfolding decode
   one-kid e = eqb-true (length ks) 1 (ap (λ k. childrenOk (operatorOf k (fromBytes r)) (length ks)) (sym e) ∙ rule m r ks a .count)
 
-  pub may-lose : kindOf (getD r 0 0) ≡ Repartition → (f : Coded) → Child (known (forest m ks)) 0 f → (p c : Bool) → p ≡ bit (getD r 3 0) 0 → c ≡ counts p (told f) → p && not c ≡ losing (decode r) (known (forest m ks))
+  pub may-lose : kindOf (getD r 0 0) ≡ Repartition → (f : Coded) → Child (known (forest m ks)) 0 f → (p c : Bool) → p ≡ bit (getD r 3 0) 0
+      → c ≡ counts p (told f) → p && not c ≡ losing (decode r) (known (forest m ks))
   unfolding decode
   may-lose e f x p c q w =
       let d : decode r ≡ operatorOf Repartition (fromBytes r) = ap (λ k. operatorOf k (fromBytes r)) e in
@@ -148,8 +149,10 @@ module _ (m r ks : List ℕ) (a : Over m r ks) where
   pub lowered : (b : Bool) → b ≡ losing (decode r) (known (forest m ks)) → b ≡ true → 0 < getD r 3 0
   lowered b e t = subst (λ x. 0 < getD x 3 0) (sym (a .canon)) (losing-byte (length ks) (decode r) (known (forest m ks)) (sym e ∙ t))
 
-  pub clears : (b : Bool) → b ≡ losing (decode r) (known (forest m ks)) → b ≡ true → (x : List ℕ) → x ≡ r → set x 3 (getD r 3 0 - 1) ≡ encode (length ks) (rebuilt (decode r) (known (forest m ks)))
+  pub clears : (b : Bool) → b ≡ losing (decode r) (known (forest m ks)) → b ≡ true → (x : List ℕ) → x ≡ r → set x 3 (getD r 3 0 - 1) ≡ encode (length ks)
+      (rebuilt (decode r) (known (forest m ks)))
   clears b e t x q = ap (λ y. set y 3 (getD r 3 0 - 1)) q ∙ ap cleared (a .canon) ∙ rebuilt-clears (length ks) (decode r) (known (forest m ks)) (sym e ∙ t)
 
-  pub keeps-mark : (b : Bool) → b ≡ losing (decode r) (known (forest m ks)) → b ≡ false → (x : List ℕ) → x ≡ r → x ≡ encode (length ks) (rebuilt (decode r) (known (forest m ks)))
+  pub keeps-mark : (b : Bool) → b ≡ losing (decode r) (known (forest m ks)) → b ≡ false → (x : List ℕ) → x ≡ r
+      → x ≡ encode (length ks) (rebuilt (decode r) (known (forest m ks)))
   keeps-mark b e t x q = q ∙ a .canon ∙ ap (encode (length ks)) (sym (rebuilt-same (decode r) (known (forest m ks)) (sym e ∙ t)))

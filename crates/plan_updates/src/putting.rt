@@ -35,7 +35,8 @@ ghost use Rattle.plan_updates.specs.Rebuild.{losing};
 // A node more, unmarked: the record r over the children ks. Its handle is 2 * u.
 pub fn put(m: &mut [u8], u: usize, r: &[u8], ks: &[usize])
     requires { ⌜ Puts (now m) u (now r) (now ks) ⌝ }
-    ensures { λ _. ⌜ Grown (now (m .entry)) u (now (m .exit)) (record { used = u + 1; root = 2 * u }) (node (decode (now (r .entry))) false (forest (now (m .entry)) (now (ks .entry)))) (u + 1) ⌝ }
+    ensures { λ _. ⌜ Grown (now (m .entry)) u (now (m .exit)) (record { used = u + 1; root = 2 * u })
+        (node (decode (now (r .entry))) false (forest (now (m .entry)) (now (ks .entry)))) (u + 1) ⌝ }
 {
     append(m, u, r, ks);
     settle(m, u);
@@ -43,8 +44,10 @@ pub fn put(m: &mut [u8], u: usize, r: &[u8], ks: &[usize])
 
 // The same where what is kept of the node is known: b.
 pub fn put_known(m: &mut [u8], u: usize, r: &[u8], ks: &[usize], b: &[u8])
-    requires { ⌜ Puts (now m) u (now r) (now ks) × (length (now b) ≡ keptSize) × Says (sem.factsOp (decode (now r)) (known (forest (now m) (now ks)))) (loaded (now b)) × Sums (node (decode (now r)) false (forest (now m) (now ks))) (summaryIn (now b)) ⌝ }
-    ensures { λ _. ⌜ Grown (now (m .entry)) u (now (m .exit)) (record { used = u + 1; root = 2 * u }) (node (decode (now (r .entry))) false (forest (now (m .entry)) (now (ks .entry)))) (u + 1) ⌝ }
+    requires { ⌜ Puts (now m) u (now r) (now ks) × (length (now b) ≡ keptSize) × Says (sem.factsOp (decode (now r)) (known (forest (now m) (now ks))))
+        (loaded (now b)) × Sums (node (decode (now r)) false (forest (now m) (now ks))) (summaryIn (now b)) ⌝ }
+    ensures { λ _. ⌜ Grown (now (m .entry)) u (now (m .exit)) (record { used = u + 1; root = 2 * u })
+        (node (decode (now (r .entry))) false (forest (now (m .entry)) (now (ks .entry)))) (u + 1) ⌝ }
 {
     append(m, u, r, ks);
     let at = u * SLOT + KEPT_FROM;
@@ -130,7 +133,8 @@ pub fn rebuilt(m: &[u8], r: &[u8], ks: &[usize]) -> [u8; 64]
 // The node with the record r put back over the children ks: the tree in slot i where it is just that, else a node more.
 pub fn update_plan_from_children(m: &mut [u8], u: usize, r: &[u8], ks: &[usize], i: usize) -> At
     requires { ⌜ Puts (now m) u (now r) (now ks) × (i < u) ⌝ }
-    ensures { λ a. ⌜ Grown (now (m .entry)) u (now (m .exit)) a (rebuild (decode (now (r .entry))) false (forest (now (m .entry)) (now (ks .entry)))) (u + 1) ⌝ }
+    ensures { λ a. ⌜ Grown (now (m .entry)) u (now (m .exit)) a (rebuild (decode (now (r .entry))) false (forest (now (m .entry)) (now (ks .entry))))
+        (u + 1) ⌝ }
 {
     let x = rebuilt(m, r, ks);
     put_again(m, u, &x, ks, i)

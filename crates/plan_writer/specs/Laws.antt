@@ -22,7 +22,8 @@ three b l H R Z = splice (splice (splice b 0 8 H) 8 (8 + l - 8) R) (8 + l) (508 
 module _ (b rs H R Z : List ℕ) (n k : ℕ) (lb : length b ≡ 512) (lr : length rs ≤ 448) (eH : H ≡ header k n (length rs / 64)) (eR : R ≡ rs)
     (eZ : Z ≡ replicate (length (take (508 - (8 + length rs)) (drop (8 + length rs) (splice (splice b 0 8 H) 8 (8 + length rs - 8) R)))) 0) where
   f2 : Front 512 (8 + length rs) (H ++ R) (splice (splice b 0 8 H) 8 (8 + length rs - 8) R)
-  f2 = front-more R 8 (8 + length rs - 8) (8 + length rs) (omega arith) (omega arith) (ap length eR ∙ omega arith) (front-more H 0 8 8 refl (omega arith) (ap length eH) (front-none 512 b lb))
+  f2 = front-more R 8 (8 + length rs - 8) (8 + length rs) (omega arith) (omega arith) (ap length eR ∙ omega arith)
+      (front-more H 0 8 8 refl (omega arith) (ap length eH) (front-none 512 b lb))
 
   gap : length (take (508 - (8 + length rs)) (drop (8 + length rs) (splice (splice b 0 8 H) 8 (8 + length rs - 8) R))) ≡ 508 - (8 + length rs)
   gap =
@@ -43,7 +44,8 @@ module _ (b rs H R Z : List ℕ) (n k : ℕ) (lb : length b ≡ 512) (lr : lengt
   unfolding body
   isBody = ap₂ _++_ (ap₂ _++_ eH eR) isZ
 
-  pub put-all : (S : List ℕ) (x : ℕ) → x ≡ total (take 508 (three b (length rs) H R Z)) → S ≡ fourBytes x → splice (three b (length rs) H R Z) 508 4 S ≡ blockOf n k rs
+  pub put-all : (S : List ℕ) (x : ℕ) → x ≡ total (take 508 (three b (length rs) H R Z)) → S ≡ fourBytes x → splice (three b (length rs) H R Z) 508 4 S
+      ≡ blockOf n k rs
   unfolding blockOf
   put-all S x ex eS =
       front-all (front-more S 508 4 512 refl (omega arith) (ap length eS) f3)
@@ -69,15 +71,18 @@ blocks-more out₀ rs out p n k h l e c =
     let g : (k + 1) * 512 ≡ k * 512 + 512 = omega arith in
     let m : length p ≡ 512 = ap length e ∙ length-block n k (sevenAt rs k) (length-seven rs k) in
     let o = c .front .long in
-    let f : Front (length out₀) ((k + 1) * 512) (blocksTo n rs k ++ p) (splice out (k * 512) 512 p) = front-more p (k * 512) 512 ((k + 1) * 512) (omega arith) (omega arith) m (c .front) in
+    let f : Front (length out₀) ((k + 1) * 512) (blocksTo n rs k ++ p) (splice out (k * 512) 512 p) = front-more p (k * 512) 512 ((k + 1) * 512)
+    (omega arith) (omega arith) m (c .front) in
     let w : (blocksTo n rs k ++ p) ≡ blocksTo n rs (k + 1) = rw (add-one k) (ap (λ (x : List ℕ). blocksTo n rs k ++ x) e) in
     rw q (record {
       low = omega arith;
       front = rw w at f;
-      rest = rw g (splice-drop out p (k * 512) 512 (omega arith) m ∙ sym (drop-drop 512 (k * 512) out) ∙ ap (drop 512) (c .rest) ∙ drop-drop 512 (k * 512) out₀);
+      rest = rw g (splice-drop out p (k * 512) 512 (omega arith) m ∙ sym (drop-drop 512 (k * 512) out) ∙ ap (drop 512) (c .rest)
+          ∙ drop-drop 512 (k * 512) out₀);
     })
 
-pub blocks-end : (out₀ rs out : List ℕ) (n k : ℕ) → n ≡ blocksFor (length rs) → n * 512 ≤ length out₀ → n ≤ k → Blocks out₀ rs n k out → out ≡ written rs out₀
+pub blocks-end : (out₀ rs out : List ℕ) (n k : ℕ) → n ≡ blocksFor (length rs) → n * 512 ≤ length out₀ → n ≤ k → Blocks out₀ rs n k out
+    → out ≡ written rs out₀
 unfolding written fileOfBytes
 blocks-end out₀ rs out n k e h l c =
     let lo = c .low in
@@ -88,4 +93,5 @@ blocks-end out₀ rs out n k e h l c =
 
 pub short-out : (out₀ rs : List ℕ) (n : ℕ) → n ≡ blocksFor (length rs) → length out₀ < n * 512 → out₀ ≡ written rs out₀
 unfolding written
-short-out out₀ rs n e h = let t : ltb (length out₀) (blocksFor (length rs) * 512) ≡ true = lt-ltb (length out₀) (blocksFor (length rs) * 512) (omega arith) in rw t
+short-out out₀ rs n e h = let t : ltb (length out₀) (blocksFor (length rs) * 512) ≡ true = lt-ltb (length out₀) (blocksFor (length rs) * 512)
+    (omega arith) in rw t

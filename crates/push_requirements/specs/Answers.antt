@@ -97,19 +97,24 @@ module _ (ks : List Key) (o : Order) (k : Keys) (h : Ordered ks o) (e : o ≡ By
   pub by-some : isNil ks ≡ false
   by-some = ap isNil (sym by-is) ∙ some-keys k by-real
 
-pub order-allows-none : (F : Facts) (ps : List Key) (o : Order) → Ordered (knownOrder F) o → o ≡ Unordered → true ≡ (isNil (knownOrder F) || compatible F ps (knownOrder F))
+pub order-allows-none : (F : Facts) (ps : List Key) (o : Order) → Ordered (knownOrder F) o → o ≡ Unordered
+    → true ≡ (isNil (knownOrder F) || compatible F ps (knownOrder F))
 order-allows-none F ps o h e = sym (ap (λ b. b || compatible F ps (knownOrder F)) (none-in (knownOrder F) o h e))
 
-pub order-allows-some : (F : Facts) (ps : List Key) (o : Order) (k : Keys) → Ordered (knownOrder F) o → o ≡ By k → (x : Bool) → x ≡ compatible F ps (keysOf k) → x ≡ (isNil (knownOrder F) || compatible F ps (knownOrder F))
-order-allows-some F ps o k h e x d = d ∙ ap (compatible F ps) (by-is (knownOrder F) o k h e) ∙ sym (ap (λ b. b || compatible F ps (knownOrder F)) (by-some (knownOrder F) o k h e))
+pub order-allows-some : (F : Facts) (ps : List Key) (o : Order) (k : Keys) → Ordered (knownOrder F) o → o ≡ By k → (x : Bool)
+    → x ≡ compatible F ps (keysOf k) → x ≡ (isNil (knownOrder F) || compatible F ps (knownOrder F))
+order-allows-some F ps o k h e x d = d ∙ ap (compatible F ps) (by-is (knownOrder F) o k h e)
+    ∙ sym (ap (λ b. b || compatible F ps (knownOrder F)) (by-some (knownOrder F) o k h e))
 
 -- a merge that knows no order, or one
 pub merge-stop : (F : Facts) (ps : List Key) (o : Order) (m : ℕ) → Ordered (knownOrder F) o → o ≡ Unordered → Pushes m (walk.handleMerge F ps) Stop
 merge-stop F ps o m h e = go-stop m _ _ (and-no (not (isNil (knownOrder F))) _ (ap not (none-in (knownOrder F) o h e)))
 
-module _ (F : Facts) (ps : List Key) (o : Order) (k : Keys) (m : ℕ) (h : Ordered (knownOrder F) o) (e : o ≡ By k) (x : Bool) (d : x ≡ compatible F ps (keysOf k)) where
+module _ (F : Facts) (ps : List Key) (o : Order) (k : Keys) (m : ℕ) (h : Ordered (knownOrder F) o) (e : o ≡ By k) (x : Bool)
+    (d : x ≡ compatible F ps (keysOf k)) where
   merge-test : not (isNil (knownOrder F)) && compatible F ps (knownOrder F) ≡ x
-  merge-test = and-so (not (isNil (knownOrder F))) _ (ap not (by-some (knownOrder F) o k h e)) ∙ sym (d ∙ ap (compatible F ps) (by-is (knownOrder F) o k h e))
+  merge-test = and-so (not (isNil (knownOrder F))) _ (ap not (by-some (knownOrder F) o k h e))
+      ∙ sym (d ∙ ap (compatible F ps) (by-is (knownOrder F) o k h e))
 
   pub merge-goes : x ≡ true → (p : Pushed) → Pushes m (walk.goes (λ i. ps)) p → Pushes m (walk.handleMerge F ps) p
   merge-goes f p g = go-on m _ _ p (merge-test ∙ f) g

@@ -40,9 +40,11 @@ or-none false = refl
 pub violates-none : (n : Op) (ps : List Key) (o : Order) → Ordered (wanted n 0) o → o ≡ Unordered → false ≡ walk.pushdownWouldViolateRequirements n 1 ps
 violates-none n ps o h e = sym (or-none _ ∙ ap (λ b. not b && walk.noneEqual (wanted n 0) ps) (none-in (wanted n 0) o h e))
 
-pub violates-some : (n : Op) (ps : List Key) (o : Order) (k : Keys) → Ordered (wanted n 0) o → o ≡ By k → (x : Bool) → x ≡ walk.noneEqual (keysOf k) ps → x ≡ walk.pushdownWouldViolateRequirements n 1 ps
+pub violates-some : (n : Op) (ps : List Key) (o : Order) (k : Keys) → Ordered (wanted n 0) o → o ≡ By k → (x : Bool) → x ≡ walk.noneEqual (keysOf k) ps
+    → x ≡ walk.pushdownWouldViolateRequirements n 1 ps
 violates-some n ps o k h e x d =
-    d ∙ ap (λ l. walk.noneEqual l ps) (by-is (wanted n 0) o k h e) ∙ sym (or-none _ ∙ ap (λ b. not b && walk.noneEqual (wanted n 0) ps) (by-some (wanted n 0) o k h e))
+    d ∙ ap (λ l. walk.noneEqual l ps) (by-is (wanted n 0) o k h e)
+    ∙ sym (or-none _ ∙ ap (λ b. not b && walk.noneEqual (wanted n 0) ps) (by-some (wanted n 0) o k h e))
 
 -- ---- the branches by kind
 
@@ -53,7 +55,8 @@ two-at-least : (m : ℕ) → eqb m 2 ≡ true → 1 < m
 two-at-least m e = let x = eqb-true m 2 e in omega arith
 
 module _ (r : List ℕ) (fs : List Facts) (m : ℕ) (ps : List Key) (p : Pushed) where
-  pub by-kind : (k : Kind) → kindOf (getD r 0 0) ≡ k → Pushes m (walk.pushByKind (operatorOf k (fromBytes r)) fs ps) p → Pushes m (walk.pushByKind (decode r) fs ps) p
+  pub by-kind : (k : Kind) → kindOf (getD r 0 0) ≡ k → Pushes m (walk.pushByKind (operatorOf k (fromBytes r)) fs ps) p
+      → Pushes m (walk.pushByKind (decode r) fs ps) p
   by-kind k e h = subst⁻¹ (λ o. Pushes m (walk.pushByKind o fs ps) p) (op-of r k e) h
 
   module _ (o : Op) (F L R : Facts) (s : Seen (decode r) o fs m F L R) where
@@ -63,33 +66,46 @@ module _ (r : List ℕ) (fs : List Facts) (m : ℕ) (ps : List Key) (p : Pushed)
     facts-of : (n : Op) → decode r ≡ n → F ≡ factsOp n fs
     facts-of n e = s .facts ∙ ap (λ x. factsOp x fs) e
 
-    pub by-sort : kindOf (getD r 0 0) ≡ Sort → Pushes m (walk.goIf (compatible L ps (fromBytes r .keys)) (λ i. ps)) p → Pushes m (walk.pushByKind (decode r) fs ps) p
-    by-sort e h = by-kind Sort e (subst (λ G. Pushes m (walk.goIf (compatible G ps (fromBytes r .keys)) (λ i. ps)) p) (s .first (one-at-least m (count-of _ (op-of r Sort e)))) h)
+    pub by-sort : kindOf (getD r 0 0) ≡ Sort → Pushes m (walk.goIf (compatible L ps (fromBytes r .keys)) (λ i. ps)) p
+        → Pushes m (walk.pushByKind (decode r) fs ps) p
+    by-sort e h = by-kind Sort e (subst (λ G. Pushes m (walk.goIf (compatible G ps (fromBytes r .keys)) (λ i. ps)) p)
+        (s .first (one-at-least m (count-of _ (op-of r Sort e)))) h)
 
-    pub by-merge : kindOf (getD r 0 0) ≡ Merge → Pushes m (cond (walk.pushdownWouldViolateRequirements (decode r) 1 ps) walk.stop (walk.handleMerge F ps)) p → Pushes m (walk.pushByKind (decode r) fs ps) p
+    pub by-merge : kindOf (getD r 0 0) ≡ Merge → Pushes m (cond (walk.pushdownWouldViolateRequirements (decode r) 1 ps) walk.stop (walk.handleMerge F ps)) p
+        → Pushes m (walk.pushByKind (decode r) fs ps) p
     by-merge e h =
         by-kind Merge e
         (subst (λ n. Pushes m (cond (walk.pushdownWouldViolateRequirements n 1 ps) walk.stop (walk.handleMerge (factsOp n fs) ps)) p) (op-of r Merge e)
         (subst (λ G. Pushes m (cond (walk.pushdownWouldViolateRequirements (decode r) 1 ps) walk.stop (walk.handleMerge G ps)) p) (s .facts) h))
 
-    pub by-requirement : kindOf (getD r 0 0) ≡ OutputRequirement → Pushes m (cond (walk.pushdownWouldViolateRequirements (decode r) 1 ps) walk.stop (walk.handleCustomPushdown ps)) p → Pushes m (walk.pushByKind (decode r) fs ps) p
-    by-requirement e h = by-kind OutputRequirement e (subst (λ n. Pushes m (cond (walk.pushdownWouldViolateRequirements n 1 ps) walk.stop (walk.handleCustomPushdown ps)) p) (op-of r OutputRequirement e) h)
+    pub by-requirement : kindOf (getD r 0 0) ≡ OutputRequirement
+        → Pushes m (cond (walk.pushdownWouldViolateRequirements (decode r) 1 ps) walk.stop (walk.handleCustomPushdown ps)) p
+        → Pushes m (walk.pushByKind (decode r) fs ps) p
+    by-requirement e h = by-kind OutputRequirement e
+        (subst (λ n. Pushes m (cond (walk.pushdownWouldViolateRequirements n 1 ps) walk.stop (walk.handleCustomPushdown ps)) p)
+        (op-of r OutputRequirement e) h)
 
-    pub by-join : (t : JoinType) → decode r ≡ sortMergeJoin t (pairsOf r) → Pushes 2 (walk.pushToSide (decode r) t F L R ps (walk.exprSourceSide F ps t (L .width))) p → Pushes m (walk.pushByKind (decode r) fs ps) p
+    pub by-join : (t : JoinType) → decode r ≡ sortMergeJoin t (pairsOf r)
+        → Pushes 2 (walk.pushToSide (decode r) t F L R ps (walk.exprSourceSide F ps t (L .width))) p → Pushes m (walk.pushByKind (decode r) fs ps) p
     by-join t e h =
         let n : Op = sortMergeJoin t (pairsOf r) in
         let c : childrenOk n m ≡ true = count-of n e in
         let G : Op → Facts → Facts → Facts → walk.Pushed = λ n F L R. walk.pushToSide n t F L R ps (walk.exprSourceSide F ps t (L .width)) in
         let i : G (decode r) F L R ≡ G n (factsOp n fs) (at0 fs) (at1 fs) =
-        ap₂ (λ n F. G n F L R) e (facts-of n e) ∙ ap₂ (G n (factsOp n fs)) (s .first (let z = two-at-least m c in omega arith)) (s .second (two-at-least m c)) in
-        subst⁻¹ (λ o. Pushes m (walk.pushByKind o fs ps) p) e (subst (λ j. Pushes j (G n (factsOp n fs) (at0 fs) (at1 fs)) p) (sym (eqb-true m 2 c)) (subst (λ P. Pushes 2 P p) i h))
+        ap₂ (λ n F. G n F L R) e (facts-of n e) ∙ ap₂ (G n (factsOp n fs)) (s .first (let z = two-at-least m c in omega arith))
+        (s .second (two-at-least m c)) in
+        subst⁻¹ (λ o. Pushes m (walk.pushByKind o fs ps) p) e (subst (λ j. Pushes j (G n (factsOp n fs) (at0 fs) (at1 fs)) p) (sym (eqb-true m 2 c))
+        (subst (λ P. Pushes 2 P p) i h))
 
     pub by-hash : (t : JoinType) → decode r ≡ hashJoin t (pairsOf r) → (x y : ℕ) → x ≡ F .width → y ≡ R .width
-        → Pushes m (walk.goIf (keptSide (hashKept t) 1 && every (λ k. leb (x - y) (k .col)) ps) (walk.onRight (walk.addOffsetToPhysicalSortExprs (x - y) ps))) p → Pushes m (walk.pushByKind (decode r) fs ps) p
+        → Pushes m (walk.goIf (keptSide (hashKept t) 1 && every (λ k. leb (x - y) (k .col)) ps)
+        (walk.onRight (walk.addOffsetToPhysicalSortExprs (x - y) ps))) p → Pushes m (walk.pushByKind (decode r) fs ps) p
     by-hash t e x y ex ey h =
         let n : Op = hashJoin t (pairsOf r) in
-        let G : ℕ → ℕ → walk.Pushed = λ u v. walk.goIf (keptSide (hashKept t) 1 && every (λ k. leb (u - v) (k .col)) ps) (walk.onRight (walk.addOffsetToPhysicalSortExprs (u - v) ps)) in
-        let i : G x y ≡ G (factsOp n fs .width) (at1 fs .width) = ap₂ G (ex ∙ ap (λ H. H .width) (facts-of n e)) (ey ∙ ap (λ H. H .width) (s .second (two-at-least m (count-of n e)))) in
+        let G : ℕ → ℕ → walk.Pushed = λ u v. walk.goIf (keptSide (hashKept t) 1 && every (λ k. leb (u - v) (k .col)) ps)
+        (walk.onRight (walk.addOffsetToPhysicalSortExprs (u - v) ps)) in
+        let i : G x y ≡ G (factsOp n fs .width) (at1 fs .width) = ap₂ G (ex ∙ ap (λ H. H .width) (facts-of n e))
+        (ey ∙ ap (λ H. H .width) (s .second (two-at-least m (count-of n e)))) in
         subst⁻¹ (λ o. Pushes m (walk.pushByKind o fs ps) p) e (subst (λ P. Pushes m P p) i h)
 
 -- ---- through an operator with a fetch
@@ -99,11 +115,14 @@ on-one true = refl
 on-one false = refl
 
 -- one child: what it maintains of its children is what it maintains of the first
-one-child : (n : Op) (fs : List Facts) (m : ℕ) (x b : Bool) (s : Bool) → length fs ≡ m → eqb m 1 ≡ true → (0 < length fs → b ≡ maintains n fs 0) → x && (s && b) ≡ x && (s && walk.allBelow m (maintains n fs))
+one-child : (n : Op) (fs : List Facts) (m : ℕ) (x b : Bool) (s : Bool) → length fs ≡ m → eqb m 1 ≡ true → (0 < length fs → b ≡ maintains n fs 0) → x
+    && (s && b) ≡ x && (s && walk.allBelow m (maintains n fs))
 one-child n fs m x b s l e h =
-    ap (λ (c : Bool). x && (s && c)) (h (let z = one-at-least m e in omega arith) ∙ sym (ap (λ j. walk.allBelow j (maintains n fs)) (eqb-true m 1 e) ∙ on-one (maintains n fs 0)))
+    ap (λ (c : Bool). x && (s && c))
+    (h (let z = one-at-least m e in omega arith) ∙ sym (ap (λ j. walk.allBelow j (maintains n fs)) (eqb-true m 1 e) ∙ on-one (maintains n fs 0)))
 
-pub through-is : (n : Op) (fs : List Facts) (ts : List Fetch) (m : ℕ) → length fs ≡ m → childrenOk n m ≡ true → (f : Fetch) → f ≡ fetchOp n ts → (b : Bool) → (0 < length fs → b ≡ maintains n fs 0)
+pub through-is : (n : Op) (fs : List Facts) (ts : List Fetch) (m : ℕ) → length fs ≡ m → childrenOk n m ≡ true → (f : Fetch) → f ≡ fetchOp n ts → (b : Bool)
+    → (0 < length fs → b ≡ maintains n fs 0)
     → someFetch f && (supportsLimitPushdown n && b) ≡ walk.throughFetch n f m fs
 through-is (source s) fs ts m l c f e b h = refl
 through-is filter fs ts m l c f e b h = refl
@@ -141,4 +160,5 @@ module _ (n o : Op) (fs : List Facts) (m : ℕ) (F L R : Facts) (s : Seen n o fs
     pub of-like : Pushes m (walk.pushdownRequirementToChildren n limit m fs ps f) p → Pushes m (walk.pushdownRequirementToChildren o limit m fs ps f) p
     of-like h =
         subst (λ P. Pushes m P p)
-        (ap (asks n) limit-of ∙ sym (remark-same (λ x. asks x (fetchOp x ts)) (s .mark) (λ p q k h ks. refl) n) ∙ sym (ap (λ x. asks x (fetchOp x ts)) (s .like)) ∙ sym (ap (asks o) e)) h
+        (ap (asks n) limit-of ∙ sym (remark-same (λ x. asks x (fetchOp x ts)) (s .mark) (λ p q k h ks. refl) n)
+        ∙ sym (ap (λ x. asks x (fetchOp x ts)) (s .like)) ∙ sym (ap (asks o) e)) h

@@ -30,7 +30,8 @@ use Rattle.push_requirements.specs.declared.Pushed.the-variants.{Stop, G
 use Rattle.push_requirements.specs.Pushing.{Pushes, JoinRows}
 use Rattle.push_requirements.specs.Answers.{go-stop, go-on, and-no, and-so, and-last, to-left, to-right}
 
-drop-keep : (P : Key → Type 0) (seen : List ℕ) (k : Key) (ks : List Key) (b : Bool) → P k → All P (dropRepeats seen ks) → All P (dropRepeats (k .col ∷ seen) ks)
+drop-keep : (P : Key → Type 0) (seen : List ℕ) (k : Key) (ks : List Key) (b : Bool) → P k → All P (dropRepeats seen ks)
+    → All P (dropRepeats (k .col ∷ seen) ks)
     → All P (cond b (dropRepeats seen ks) (k ∷ dropRepeats (k .col ∷ seen) ks))
 drop-keep P seen k ks true h a b = a
 drop-keep P seen k ks false h a b = all-cons h b
@@ -62,22 +63,28 @@ module _ (t : JoinType) (r own a b : List ℕ) (j : JoinRows t r own a b) (paren
     pub left-place : Keyed (knownOrder (told b)) o → All (λ k. k .col < told a .width) (keysOf keys) → Placeable t w d o
     left-place ko h =
         rw e
-        (placeable t (told a .width) (told b .width) d o (j .sides .left .wide) (j .sides .right .wide) (j .sides .wide) (kd .few) (ko .few) (subst⁻¹ (All (λ k. k .col < told a .width)) (kd .is) (drop-all [] ks h))
+        (placeable t (told a .width) (told b .width) d o (j .sides .left .wide) (j .sides .right .wide) (j .sides .wide) (kd .few) (ko .few)
+        (subst⁻¹ (All (λ k. k .col < told a .width)) (kd .is) (drop-all [] ks h))
         (subst⁻¹ (All (λ k. k .col < told b .width)) (ko .is) (j .sides .rightFits)))
 
     pub right-place : Keyed (knownOrder (told a)) o → All (λ k. k .col < told b .width) (keysOf keys) → Placeable t w o d
     right-place ko h =
         rw e
-        (placeable t (told a .width) (told b .width) o d (j .sides .left .wide) (j .sides .right .wide) (j .sides .wide) (ko .few) (kd .few) (subst⁻¹ (All (λ k. k .col < told a .width)) (ko .is) (j .sides .leftFits))
+        (placeable t (told a .width) (told b .width) o d (j .sides .left .wide) (j .sides .right .wide) (j .sides .wide) (ko .few) (kd .few)
+        (subst⁻¹ (All (λ k. k .col < told a .width)) (ko .is) (j .sides .leftFits))
         (subst⁻¹ (All (λ k. k .col < told b .width)) (kd .is) (drop-all [] ks h)))
 
     -- the join's order once the side's child has the new one
     module _ (kept : KeptSide) (ek : keptOf kept ≡ smjKept t) (n : Keys) where
-      pub left-new : Keyed (knownOrder (told b)) o → ((F G : Facts) → F .width ≡ w → keysOf d ≡ F .order → keysOf o ≡ G .order → Keyed (joinOrder t (keptOf kept) F G) n) → keysOf n ≡ walk.newOutputOrdering t (told a) (told b) (keysOf keys) 0
-      left-new ko h = h (ordered (told a) 0 (dropRepeats [] ks)) (told b) (sym e) (kd .is) (ko .is) .is ∙ ap (λ k. joinOrder t k (ordered (told a) 0 (dropRepeats [] ks)) (told b)) ek
+      pub left-new : Keyed (knownOrder (told b)) o → ((F G : Facts) → F .width ≡ w → keysOf d ≡ F .order → keysOf o ≡ G .order
+          → Keyed (joinOrder t (keptOf kept) F G) n) → keysOf n ≡ walk.newOutputOrdering t (told a) (told b) (keysOf keys) 0
+      left-new ko h = h (ordered (told a) 0 (dropRepeats [] ks)) (told b) (sym e) (kd .is) (ko .is) .is
+          ∙ ap (λ k. joinOrder t k (ordered (told a) 0 (dropRepeats [] ks)) (told b)) ek
 
-      pub right-new : Keyed (knownOrder (told a)) o → ((F G : Facts) → F .width ≡ w → keysOf o ≡ F .order → keysOf d ≡ G .order → Keyed (joinOrder t (keptOf kept) F G) n) → keysOf n ≡ walk.newOutputOrdering t (told a) (told b) (keysOf keys) 1
-      right-new ko h = h (told a) (ordered (told b) 0 (dropRepeats [] ks)) (sym e) (ko .is) (kd .is) .is ∙ ap (λ k. joinOrder t k (told a) (ordered (told b) 0 (dropRepeats [] ks))) ek
+      pub right-new : Keyed (knownOrder (told a)) o → ((F G : Facts) → F .width ≡ w → keysOf o ≡ F .order → keysOf d ≡ G .order
+          → Keyed (joinOrder t (keptOf kept) F G) n) → keysOf n ≡ walk.newOutputOrdering t (told a) (told b) (keysOf keys) 1
+      right-new ko h = h (told a) (ordered (told b) 0 (dropRepeats [] ks)) (sym e) (ko .is) (kd .is) .is
+          ∙ ap (λ k. joinOrder t k (told a) (ordered (told b) 0 (dropRepeats [] ks))) ek
 
   -- the side does not meet what the join wants of it
   module _ (ws : List Key) (x : Bool) where
@@ -90,24 +97,30 @@ module _ (t : JoinType) (r own a b : List ℕ) (j : JoinRows t r own a b) (paren
     -- it does; y: the join then meets what is required of it
     module _ (n : Keys) (y : Bool) (hy : y ≡ met (walk.reorderTo (told own) (keysOf n)) (keysOf parent)) where
       pub left-lost : keysOf n ≡ walk.newOutputOrdering t (told a) (told b) (keysOf keys) 0 → y ≡ false → Pushes 2 (tries 0) Stop
-      left-lost e f = go-stop 2 _ _ (and-last (compatible (told a) ks (wanted (decode r) 0)) _ (sym (hy ∙ ap (λ l. met (walk.reorderTo (told own) l) (keysOf parent)) e) ∙ f))
+      left-lost e f = go-stop 2 _ _
+          (and-last (compatible (told a) ks (wanted (decode r) 0)) _ (sym (hy ∙ ap (λ l. met (walk.reorderTo (told own) l) (keysOf parent)) e) ∙ f))
 
       pub right-lost : keysOf n ≡ walk.newOutputOrdering t (told a) (told b) (keysOf keys) 1 → y ≡ false → Pushes 2 (tries 1) Stop
-      right-lost e f = go-stop 2 _ _ (and-last (compatible (told b) ks (wanted (decode r) 1)) _ (sym (hy ∙ ap (λ l. met (walk.reorderTo (told own) l) (keysOf parent)) e) ∙ f))
+      right-lost e f = go-stop 2 _ _
+          (and-last (compatible (told b) ks (wanted (decode r) 1)) _ (sym (hy ∙ ap (λ l. met (walk.reorderTo (told own) l) (keysOf parent)) e) ∙ f))
 
       module _ (d : Keys) (kd : Keyed (dropRepeats [] (keysOf keys)) d) (p q : Order) where
-        pub left-goes : ws ≡ wanted (decode r) 0 → x ≡ compatible (told a) (keysOf keys) ws → x ≡ true → keysOf n ≡ walk.newOutputOrdering t (told a) (told b) (keysOf keys) 0 → y ≡ true
+        pub left-goes : ws ≡ wanted (decode r) 0 → x ≡ compatible (told a) (keysOf keys) ws → x ≡ true → keysOf n ≡ walk.newOutputOrdering t (told a)
+            (told b) (keysOf keys) 0 → y ≡ true
             → Ordered (keysOf d) p → Ordered (wanted (decode r) 1) q → Pushes 2 (tries 0) (Goes p q)
         left-goes e h f i g op oq =
             go-on 2 _ _ (Goes p q)
-            (and-so (compatible (told a) ks (wanted (decode r) 0)) _ (sym (h ∙ ap (compatible (told a) ks) e) ∙ f) ∙ sym (hy ∙ ap (λ l. met (walk.reorderTo (told own) l) (keysOf parent)) i) ∙ g)
+            (and-so (compatible (told a) ks (wanted (decode r) 0)) _ (sym (h ∙ ap (compatible (told a) ks) e) ∙ f)
+            ∙ sym (hy ∙ ap (λ l. met (walk.reorderTo (told own) l) (keysOf parent)) i) ∙ g)
             (to-left (dropRepeats [] ks) (wanted (decode r)) p q (subst (λ l. Ordered l p) (kd .is) op) oq)
 
-        pub right-goes : ws ≡ wanted (decode r) 1 → x ≡ compatible (told b) (keysOf keys) ws → x ≡ true → keysOf n ≡ walk.newOutputOrdering t (told a) (told b) (keysOf keys) 1 → y ≡ true
+        pub right-goes : ws ≡ wanted (decode r) 1 → x ≡ compatible (told b) (keysOf keys) ws → x ≡ true → keysOf n ≡ walk.newOutputOrdering t (told a)
+            (told b) (keysOf keys) 1 → y ≡ true
             → Ordered (wanted (decode r) 0) p → Ordered (keysOf d) q → Pushes 2 (tries 1) (Goes p q)
         right-goes e h f i g op oq =
             go-on 2 _ _ (Goes p q)
-            (and-so (compatible (told b) ks (wanted (decode r) 1)) _ (sym (h ∙ ap (compatible (told b) ks) e) ∙ f) ∙ sym (hy ∙ ap (λ l. met (walk.reorderTo (told own) l) (keysOf parent)) i) ∙ g)
+            (and-so (compatible (told b) ks (wanted (decode r) 1)) _ (sym (h ∙ ap (compatible (told b) ks) e) ∙ f)
+            ∙ sym (hy ∙ ap (λ l. met (walk.reorderTo (told own) l) (keysOf parent)) i) ∙ g)
             (to-right (dropRepeats [] ks) (wanted (decode r)) p q op (subst (λ l. Ordered l q) (kd .is) oq))
 
 -- ---- the side
@@ -137,7 +150,8 @@ right-few walk.noSide k h = absurd h
 right-few (walk.leftSide ks) k h = absurd h
 right-few (walk.rightSide ks) k h = h .few
 
-module _ (t : JoinType) (r own a b : List ℕ) (j : JoinRows t r own a b) (parent : Keys) (inside : All (λ k. k .col < told own .width) (keysOf parent)) (w : ℕ) (ew : w ≡ told a .width) (s : JoinSide) (h : SideIs (walk.exprSourceSide (told own) (keysOf parent) t w) s) where
+module _ (t : JoinType) (r own a b : List ℕ) (j : JoinRows t r own a b) (parent : Keys) (inside : All (λ k. k .col < told own .width) (keysOf parent))
+    (w : ℕ) (ew : w ≡ told a .width) (s : JoinSide) (h : SideIs (walk.exprSourceSide (told own) (keysOf parent) t w) s) where
   abbrev S : walk.JoinSide
   S = walk.exprSourceSide (told own) (keysOf parent) t (told a .width)
 
@@ -154,9 +168,11 @@ module _ (t : JoinType) (r own a b : List ℕ) (j : JoinRows t r own a b) (paren
     pub left-keys : s ≡ side.Left k → (k .len ≤ 8) × All (λ k. k .col < told a .width) (keysOf k)
     left-keys e = let x = subst (SideIs S) e at-side in (left-few S k x, subst⁻¹ (Room (told a .width) off (told b .width)) (left-is S k x) room)
 
-    pub pushed-left : s ≡ side.Left k → (p : Pushed) → Pushes 2 (walk.tryPushdownRequirementsToJoin (decode r) t (told own) (told a) (told b) (keysOf parent) (keysOf k) 0) p
+    pub pushed-left : s ≡ side.Left k → (p : Pushed)
+        → Pushes 2 (walk.tryPushdownRequirementsToJoin (decode r) t (told own) (told a) (told b) (keysOf parent) (keysOf k) 0) p
         → Pushes 2 (walk.pushToSide (decode r) t (told own) (told a) (told b) (keysOf parent) S) p
-    pushed-left e p g = subst (λ x. Pushes 2 (walk.pushToSide (decode r) t (told own) (told a) (told b) (keysOf parent) x) p) (left-is S k (subst (SideIs S) e at-side)) g
+    pushed-left e p g = subst (λ x. Pushes 2 (walk.pushToSide (decode r) t (told own) (told a) (told b) (keysOf parent) x) p)
+        (left-is S k (subst (SideIs S) e at-side)) g
 
     right-all : s ≡ side.Right k → All (λ k. (off ≤ k .col) × (k .col - off < told b .width)) (keysOf k)
     right-all e = subst⁻¹ (Room (told a .width) off (told b .width)) (right-is S k (subst (SideIs S) e at-side)) room
@@ -177,14 +193,17 @@ module _ (t : JoinType) (r own a b : List ℕ) (j : JoinRows t r own a b) (paren
         pub right-inside : (q .len ≤ 8) × All (λ k. k .col < told b .width) (keysOf q)
         right-inside = (kq .few, subst⁻¹ (All (λ k. k .col < told b .width)) back-is (all-over (walk.atColumn (λ c. c - off)) (λ k p. p .1) (right-all e)))
 
-        pub pushed-right : (p : Pushed) → Pushes 2 (walk.tryPushdownRequirementsToJoin (decode r) t (told own) (told a) (told b) (keysOf parent) (keysOf q) 1) p
+        pub pushed-right : (p : Pushed) → Pushes 2 (walk.tryPushdownRequirementsToJoin (decode r) t (told own) (told a) (told b) (keysOf parent)
+            (keysOf q) 1) p
             → Pushes 2 (walk.pushToSide (decode r) t (told own) (told a) (told b) (keysOf parent) S) p
         pushed-right p g =
-            subst (λ x. Pushes 2 (walk.pushToSide (decode r) t (told own) (told a) (told b) (keysOf parent) x) p) (right-is S k (subst (SideIs S) e at-side))
+            subst (λ x. Pushes 2 (walk.pushToSide (decode r) t (told own) (told a) (told b) (keysOf parent) x) p)
+            (right-is S k (subst (SideIs S) e at-side))
             (subst (λ l. Pushes 2 (walk.tryPushdownRequirementsToJoin (decode r) t (told own) (told a) (told b) (keysOf parent) l 1) p) back-is g)
 
   pub pushed-neither : s ≡ side.Neither → Pushes 2 (walk.pushToSide (decode r) t (told own) (told a) (told b) (keysOf parent) S) Stop
-  pushed-neither e = subst (λ x. Pushes 2 (walk.pushToSide (decode r) t (told own) (told a) (told b) (keysOf parent) x) Stop) (neither-is S (subst (SideIs S) e at-side)) tt
+  pushed-neither e = subst (λ x. Pushes 2 (walk.pushToSide (decode r) t (told own) (told a) (told b) (keysOf parent) x) Stop)
+      (neither-is S (subst (SideIs S) e at-side)) tt
 
 -- where a hash join keeps its right side, its columns are the last
 pub hash-room : (t : JoinType) (wl wr w : ℕ) → w ≡ joinWidth t wl wr → keptSide (hashKept t) 1 ≡ true → wr ≤ w

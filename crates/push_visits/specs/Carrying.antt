@@ -70,19 +70,23 @@ merge-one [] f h = absurd (h refl)
 merge-one (k ∷ ks) f h = refl
 
 -- no order: no node
-pub top-none : (b : List ℕ) (u h : ℕ) (order : Order) (ts : List Op) (g : List Key → List Op) → Topping b u h order ts → order ≡ Unordered → ts ≡ g (orderOf order) → g [] ≡ [] → Grown b u b (record { used = u; root = h }) (cover ts (treeOf b h)) (u + 1)
+pub top-none : (b : List ℕ) (u h : ℕ) (order : Order) (ts : List Op) (g : List Key → List Op) → Topping b u h order ts → order ≡ Unordered
+    → ts ≡ g (orderOf order) → g [] ≡ [] → Grown b u b (record { used = u; root = h }) (cover ts (treeOf b h)) (u + 1)
 top-none b u h order ts g p e x y =
-    subst⁻¹ (λ us. Grown b u b (record { used = u; root = h }) (cover us (treeOf b h)) (u + 1)) (x ∙ ap (λ o. g (orderOf o)) e ∙ y) (grown-none b u h (u + 1) (p .under .arena) (p .under .here) (omega arith))
+    subst⁻¹ (λ us. Grown b u b (record { used = u; root = h }) (cover us (treeOf b h)) (u + 1)) (x ∙ ap (λ o. g (orderOf o)) e ∙ y)
+    (grown-none b u h (u + 1) (p .under .arena) (p .under .here) (omega arith))
 
 -- one node o
-module _ (b : List ℕ) (u h : ℕ) (order : Order) (ts : List Op) (p : Topping b u h order ts) (o : Op) (e : ts ≡ o ∷ []) (r : List ℕ) (c : r ≡ encode 1 o) where
+module _ (b : List ℕ) (u h : ℕ) (order : Order) (ts : List Op) (p : Topping b u h order ts) (o : Op) (e : ts ≡ o ∷ []) (r : List ℕ)
+    (c : r ≡ encode 1 o) where
   rule : nodeOk o (fact (treeOf b h) .width ∷ []) ≡ true
   rule = subst (λ us. OkT (cover us (treeOf b h))) e (p .ok) .0
 
   pub top-puts : Puts b u r (h ∷ [])
   top-puts = cover-puts b u h (p .under) o rule r c (ok-of b u h (p .under .arena) (p .under .here))
 
-  pub top-grown : (b' : List ℕ) (x : At) → Grown b u b' x (node (decode r) false (forest b (h ∷ []))) (u + 1) → Grown b u b' x (cover ts (treeOf b h)) (u + 1)
+  pub top-grown : (b' : List ℕ) (x : At) → Grown b u b' x (node (decode r) false (forest b (h ∷ []))) (u + 1) → Grown b u b' x (cover ts (treeOf b h))
+      (u + 1)
   top-grown b' x g = subst⁻¹ (λ us. Grown b u b' x (cover us (treeOf b h)) (u + 1)) e (cover-grown b u h (p .under) o rule r c b' x (u + 1) g)
 
 module _ (order : Order) (k : Keys) (h : Real order) (e : order ≡ By k) where
@@ -101,7 +105,8 @@ module _ (order : Order) (k : Keys) (h : Real order) (e : order ≡ By k) where
 -- ---- the node's record
 
 -- a repartition's own mark is the one to be counted
-own-mark : (k : Kind) (r : List ℕ) (F : Facts) → remark (λ p. counts (fromBytes r .preserve) F) (operatorOf k (fromBytes r)) ≡ remark (λ p. counts p F) (operatorOf k (fromBytes r))
+own-mark : (k : Kind) (r : List ℕ) (F : Facts) → remark (λ p. counts (fromBytes r .preserve) F) (operatorOf k (fromBytes r)) ≡ remark (λ p. counts p F)
+    (operatorOf k (fromBytes r))
 own-mark Source r F = refl
 own-mark Filter r F = refl
 own-mark Projection r F = refl
@@ -136,16 +141,20 @@ no-mark (partialSort p ks k f) n g h c e = refl
 
 module _ (a : List ℕ) (ua i : ℕ) (g : Arena a ua) (l : i < ua) where
   count : childrenOk (decode (slot a i .rec)) (length (slot a i .kids)) ≡ true
-  count = subst (λ n. childrenOk (decode (slot a i .rec)) n ≡ true) (length-facts a (slot a i .kids)) (counts-of (decode (slot a i .rec)) (known (forest a (slot a i .kids))) (shown a ua i g l .ok .0) .count)
+  count = subst (λ n. childrenOk (decode (slot a i .rec)) n ≡ true) (length-facts a (slot a i .kids))
+      (counts-of (decode (slot a i .rec)) (known (forest a (slot a i .kids))) (shown a ua i g l .ok .0) .count)
 
-  marks-alike : (f : List ℕ) → RowOf a i 0 f → remark (λ p. counts p (told f)) (decode (slot a i .rec)) ≡ rebuilt (decode (slot a i .rec)) (known (forest a (slot a i .kids)))
+  marks-alike : (f : List ℕ) → RowOf a i 0 f → remark (λ p. counts p (told f)) (decode (slot a i .rec)) ≡ rebuilt (decode (slot a i .rec))
+      (known (forest a (slot a i .kids)))
   marks-alike f r = go (length (slot a i .kids)) refl
     where
-      go : (n : ℕ) → length (slot a i .kids) ≡ n → remark (λ p. counts p (told f)) (decode (slot a i .rec)) ≡ rebuilt (decode (slot a i .rec)) (known (forest a (slot a i .kids)))
+      go : (n : ℕ) → length (slot a i .kids) ≡ n → remark (λ p. counts p (told f)) (decode (slot a i .rec)) ≡ rebuilt (decode (slot a i .rec))
+          (known (forest a (slot a i .kids)))
       go zero e = no-mark (decode (slot a i .rec)) (length (slot a i .kids)) _ _ count e
       go (suc n) e = ap (λ F. remark (λ p. counts p F) (decode (slot a i .rec))) (r .is (omega arith) ∙ sym (first-of (known (forest a (slot a i .kids)))))
 
-  pub record-rebuilt : (f r : List ℕ) → RowOf a i 0 f → r ≡ slot a i .rec → (x : Bool) → x ≡ true → (p q : Bool) → p ≡ fromBytes r .preserve → q ≡ counts p (told f) → (y : List ℕ)
+  pub record-rebuilt : (f r : List ℕ) → RowOf a i 0 f → r ≡ slot a i .rec → (x : Bool) → x ≡ true → (p q : Bool) → p ≡ fromBytes r .preserve
+      → q ≡ counts p (told f) → (y : List ℕ)
       → ((n : ℕ) → r ≡ encode n (decode r) → y ≡ encode n (remark (λ z. q) (decode r))) → y ≡ encode (length (slot a i .kids)) (opBy a i x)
   record-rebuilt f r w e x t p q ep eq y h =
       let o : Op = decode (slot a i .rec) in
@@ -153,7 +162,9 @@ module _ (a : List ℕ) (ua i : ℕ) (g : Arena a ua) (l : i < ua) where
       h (length (slot a i .kids)) (e ∙ s .canon ∙ ap (λ z. encode (length (slot a i .kids)) (decode z)) (sym e))
       ∙ ap (encode (length (slot a i .kids)))
       (ap₂ (λ z n. remark (λ b. z) n) (eq ∙ ap (λ z. counts z (told f)) (ep ∙ ap (λ z. fromBytes z .preserve) e)) (ap decode e)
-      ∙ (ap (remark (λ b. counts (fromBytes (slot a i .rec) .preserve) (told f))) (op-of (slot a i .rec) (kindOf (getD (slot a i .rec) 0 0)) refl) ∙ own-mark (kindOf (getD (slot a i .rec) 0 0)) (slot a i .rec) (told f) ∙ sym (ap (remark (λ b. counts b (told f))) (op-of (slot a i .rec) (kindOf (getD (slot a i .rec) 0 0)) refl)))
+      ∙ (ap (remark (λ b. counts (fromBytes (slot a i .rec) .preserve) (told f))) (op-of (slot a i .rec) (kindOf (getD (slot a i .rec) 0 0)) refl)
+      ∙ own-mark (kindOf (getD (slot a i .rec) 0 0)) (slot a i .rec) (told f)
+      ∙ sym (ap (remark (λ b. counts b (told f))) (op-of (slot a i .rec) (kindOf (getD (slot a i .rec) 0 0)) refl)))
       ∙ marks-alike f w ∙ sym (ap (λ z. cond z (rebuilt o (known (forest a (slot a i .kids)))) o) t))
 
   pub record-kept : (r : List ℕ) → r ≡ slot a i .rec → (x : Bool) → x ≡ false → (y : List ℕ) → y ≡ r → y ≡ encode (length (slot a i .kids)) (opBy a i x)
@@ -185,19 +196,24 @@ module _ (a : List ℕ) (ua i : ℕ) (b : List ℕ) (w : ℕ) (d : Decision) (ki
   gone-grown e =
       let s = p .some e in
       subst (λ t. Grown b w b (record { used = w; root = getD kids 0 0 }) t (w + 1))
-      (first-kid b (opBy a i (d .rebuilt)) kids s ∙ sym (ap (λ x. cond x (kid0 (node (opBy a i (d .rebuilt)) false (forest b kids)) (forest b kids)) (rebuild (opBy a i (d .rebuilt)) false (forest b kids))) e))
+      (first-kid b (opBy a i (d .rebuilt)) kids s
+      ∙ sym (ap (λ x. cond x (kid0 (node (opBy a i (d .rebuilt)) false (forest b kids)) (forest b kids))
+      (rebuild (opBy a i (d .rebuilt)) false (forest b kids))) e))
       (grown-none b w (getD kids 0 0) (w + 1) (p .arena) (below-at (2 * w) kids 0 (p .below) s) (omega arith))
 
   -- it stays
   module _ (e : d .gone ≡ false) (x : List ℕ) (c : x ≡ encode (length (slot a i .kids)) (opBy a i (d .rebuilt))) where
     stays : belowBy a i d (forest b kids) ≡ rebuild (opBy a i (d .rebuilt)) false (forest b kids)
-    stays = ap (λ y. cond y (kid0 (node (opBy a i (d .rebuilt)) false (forest b kids)) (forest b kids)) (rebuild (opBy a i (d .rebuilt)) false (forest b kids))) e
+    stays = ap (λ y. cond y (kid0 (node (opBy a i (d .rebuilt)) false (forest b kids)) (forest b kids))
+        (rebuild (opBy a i (d .rebuilt)) false (forest b kids))) e
 
     rule₁ : nodeOk (opBy a i (d .rebuilt)) (map (λ F. F .width) (known (forest b kids))) ≡ true
-    rule₁ = sym (remark-same (λ y. nodeOk y (map (λ F. F .width) (known (forest b kids)))) (λ q. counts q (at0 (known (forest b kids)))) (λ p q k h ks. refl) (opBy a i (d .rebuilt))) ∙ subst OkT stays below-ok .0
+    rule₁ = sym (remark-same (λ y. nodeOk y (map (λ F. F .width) (known (forest b kids)))) (λ q. counts q (at0 (known (forest b kids))))
+        (λ p q k h ks. refl) (opBy a i (d .rebuilt))) ∙ subst OkT stays below-ok .0
 
     decoded : decode x ≡ opBy a i (d .rebuilt)
-    decoded = ap decode c ∙ decode-encode (length (slot a i .kids)) (opBy a i (d .rebuilt)) (counts-of (opBy a i (d .rebuilt)) (known (forest b kids)) rule₁ .fields)
+    decoded = ap decode c ∙ decode-encode (length (slot a i .kids)) (opBy a i (d .rebuilt))
+        (counts-of (opBy a i (d .rebuilt)) (known (forest b kids)) rule₁ .fields)
 
     pub stay-puts : Puts b w x kids
     stay-puts =
@@ -222,9 +238,11 @@ module _ (a : List ℕ) (ua i : ℕ) (b : List ℕ) (w : ℕ) (d : Decision) (ki
       pub node-puts : Puts b w y kids
       node-puts = rebuilt-puts b w x kids stay-puts y q
 
-      pub node-grown : (b' : List ℕ) (z : At) → Grown b w b' z (node (decode y) false (forest b kids)) (w + 1) → Grown b w b' z (belowBy a i d (forest b kids)) (w + 1)
+      pub node-grown : (b' : List ℕ) (z : At) → Grown b w b' z (node (decode y) false (forest b kids)) (w + 1)
+          → Grown b w b' z (belowBy a i d (forest b kids)) (w + 1)
       node-grown b' z g =
-          subst (λ t. Grown b w b' z t (w + 1)) (ap (λ n. rebuild n false (forest b kids)) decoded ∙ sym stays) (rebuilt-grown b w x kids stay-puts y q b' z (w + 1) g)
+          subst (λ t. Grown b w b' z t (w + 1)) (ap (λ n. rebuild n false (forest b kids)) decoded ∙ sym stays)
+          (rebuilt-grown b w x kids stay-puts y q b' z (w + 1) g)
 
   -- ---- the new nodes
 
@@ -242,22 +260,27 @@ module _ (a : List ℕ) (ua i : ℕ) (b : List ℕ) (w : ℕ) (d : Decision) (ki
     abbrev ms : List Op
     ms = newMerge (orderOf (d .tops .merge)) (d .tops .mfetch)
 
-    all-ok : OkT (cover (newMerge (orderOf (d .tops .merge)) (d .tops .mfetch)) (cover (newSort (d .tops .preserve) (orderOf (d .tops .sort)) (d .tops .sfetch)) (treeOf b₁ (t .root))))
+    all-ok : OkT (cover (newMerge (orderOf (d .tops .merge)) (d .tops .mfetch))
+        (cover (newSort (d .tops .preserve) (orderOf (d .tops .sort)) (d .tops .sfetch)) (treeOf b₁ (t .root))))
     all-ok = subst OkT (cover-two ms ss (belowBy a i d (forest b kids)) ∙ ap (λ u. cover ms (cover ss u)) (sym (g .tree))) (p .ok)
 
     pub sort-topping : Topping b₁ (t .used) (t .root) (d .tops .sort) (newSort (d .tops .preserve) (orderOf (d .tops .sort)) (d .tops .sfetch))
     sort-topping =
-        let r = p .room in let s = p .small in let n = p .few in let x = g .room in let z = below-size (d .gone) (opBy a i (d .rebuilt)) (forest b kids) in let y = ap sizeT (g .tree) in
+        let r = p .room in let s = p .small in let n = p .few in let x = g .room in let z = below-size (d .gone) (opBy a i (d .rebuilt)) (forest b kids) in
+        let y = ap sizeT (g .tree) in
         record {
           under = record { arena = g .arena; here = g .here; room = omega arith; small = omega arith; few = omega arith };
           real = p .sort;
           ok = cover-ok ms (cover ss (treeOf b₁ (t .root))) all-ok;
         }
 
-    module _ (b₂ : List ℕ) (lc : length b₂ ≡ length b₁) (s : At) (k : Grown b₁ (t .used) b₂ s (cover (newSort (d .tops .preserve) (orderOf (d .tops .sort)) (d .tops .sfetch)) (treeOf b₁ (t .root))) (t .used + 1)) where
+    module _ (b₂ : List ℕ) (lc : length b₂ ≡ length b₁) (s : At)
+        (k : Grown b₁ (t .used) b₂ s (cover (newSort (d .tops .preserve) (orderOf (d .tops .sort)) (d .tops .sfetch)) (treeOf b₁ (t .root)))
+        (t .used + 1)) where
       pub merge-topping : Topping b₂ (s .used) (s .root) (d .tops .merge) (newMerge (orderOf (d .tops .merge)) (d .tops .mfetch))
       merge-topping =
-          let r = p .room in let o = p .small in let n = p .few in let x = g .room in let z = below-size (d .gone) (opBy a i (d .rebuilt)) (forest b kids) in let y = ap sizeT (g .tree) in let u = k .room in
+          let r = p .room in let o = p .small in let n = p .few in let x = g .room in
+          let z = below-size (d .gone) (opBy a i (d .rebuilt)) (forest b kids) in let y = ap sizeT (g .tree) in let u = k .room in
           let v = sort-size (d .tops .preserve) (orderOf (d .tops .sort)) (d .tops .sfetch) (treeOf b₁ (t .root)) in let q = ap sizeT (k .tree) in
           record {
             under = record { arena = k .arena; here = k .here; room = omega arith; small = omega arith; few = omega arith };
@@ -265,8 +288,10 @@ module _ (a : List ℕ) (ua i : ℕ) (b : List ℕ) (w : ℕ) (d : Decision) (ki
             ok = subst (λ y. OkT (cover ms y)) (sym (k .tree)) all-ok;
           }
 
-      pub carried : (b₃ : List ℕ) (x : At) → Grown b₂ (s .used) b₃ x (cover (newMerge (orderOf (d .tops .merge)) (d .tops .mfetch)) (treeOf b₂ (s .root))) (s .used + 1) → Grown b w b₃ x (carriedBy a i d (forest b kids)) (w + 3)
+      pub carried : (b₃ : List ℕ) (x : At) → Grown b₂ (s .used) b₃ x (cover (newMerge (orderOf (d .tops .merge)) (d .tops .mfetch)) (treeOf b₂ (s .root)))
+          (s .used + 1) → Grown b w b₃ x (carriedBy a i d (forest b kids)) (w + 3)
       carried b₃ x m =
           let z = g .room in let y = k .room in
           subst (λ u. Grown b w b₃ x u (w + 3)) (ap (cover ms) (k .tree ∙ ap (cover ss) (g .tree)) ∙ sym (cover-two ms ss (belowBy a i d (forest b kids))))
-          (grown-then b w b₂ s _ (w + 2) b₃ x _ (s .used + 1) (w + 3) (grown-then b w b₁ t _ (w + 1) b₂ s _ (t .used + 1) (w + 2) g k (omega arith)) m (omega arith))
+          (grown-then b w b₂ s _ (w + 2) b₃ x _ (s .used + 1) (w + 3) (grown-then b w b₁ t _ (w + 1) b₂ s _ (t .used + 1) (w + 2) g k (omega arith)) m
+          (omega arith))

@@ -91,7 +91,8 @@ same-mark (partialSort p ks n f) = refl
 -- the record of node i
 module _ (a : List ℕ) (ua i : ℕ) (g : Arena a ua) (l : i < ua) where
   rule : Counts (decode (slot a i .rec)) (length (slot a i .kids))
-  rule = subst (Counts (decode (slot a i .rec))) (length-facts a (slot a i .kids)) (counts-of (decode (slot a i .rec)) (known (forest a (slot a i .kids))) (shown a ua i g l .ok .0))
+  rule = subst (Counts (decode (slot a i .rec))) (length-facts a (slot a i .kids))
+      (counts-of (decode (slot a i .rec)) (known (forest a (slot a i .kids))) (shown a ua i g l .ok .0))
 
   pub proper-at : Proper (slot a i .rec)
   proper-at = let s = shown a ua i g l in record-proper (slot a i .rec) (length (slot a i .kids)) (forest a (slot a i .kids)) (s .canon) (s .ok)
@@ -102,38 +103,51 @@ module _ (a : List ℕ) (ua i : ℕ) (g : Arena a ua) (l : i < ua) where
       (t .row, t .is ∙ ap (λ x. fact (treeIn a x)) (index-even i) ∙ ap fact (shown a ua i g l .tree))
 
   pub count-at : childrenOk (decode (slot a i .rec)) (walk.childCount (strip (forest a (slot a i .kids)))) ≡ true
-  count-at = subst (λ n. childrenOk (decode (slot a i .rec)) n ≡ true) (sym (length-facts a (slot a i .kids)) ∙ roots-long (strip (forest a (slot a i .kids)))) (rule .count)
+  count-at = subst (λ n. childrenOk (decode (slot a i .rec)) n ≡ true)
+      (sym (length-facts a (slot a i .kids)) ∙ roots-long (strip (forest a (slot a i .kids)))) (rule .count)
 
   module _ (own f s : List ℕ) (eo : own ≡ keptPart a i) (rf : RowOf a i 0 f) (rs : RowOf a i 1 s) where
     two : childrenOk (decode (slot a i .rec)) (length (slot a i .kids)) ≡ eqb (length (slot a i .kids)) 2 → length (slot a i .kids) ≡ 2
     two e = eqb-true (length (slot a i .kids)) 2 (sym e ∙ rule .count)
 
-    join-wide : (t : JoinType) → length (slot a i .kids) ≡ 2 → factsOp (decode (slot a i .rec)) (known (forest a (slot a i .kids))) .width ≡ joinWidth t (at0 (known (forest a (slot a i .kids))) .width) (at1 (known (forest a (slot a i .kids))) .width)
+    join-wide : (t : JoinType) → length (slot a i .kids) ≡ 2 → factsOp (decode (slot a i .rec)) (known (forest a (slot a i .kids))) .width ≡ joinWidth t
+        (at0 (known (forest a (slot a i .kids))) .width) (at1 (known (forest a (slot a i .kids))) .width)
         → told own .width ≡ joinWidth t (told f .width) (told s .width)
     join-wide t n e =
         ap (λ F. F .width) (own-tells own eo .1) ∙ e
-        ∙ ap₂ (λ F G. joinWidth t (F .width) (G .width)) (first-of (known (forest a (slot a i .kids))) ∙ sym (rf .is (omega arith))) (second-of (known (forest a (slot a i .kids))) ∙ sym (rs .is (omega arith)))
+        ∙ ap₂ (λ F G. joinWidth t (F .width) (G .width)) (first-of (known (forest a (slot a i .kids))) ∙ sym (rf .is (omega arith)))
+        (second-of (known (forest a (slot a i .kids))) ∙ sym (rs .is (omega arith)))
 
     merged-at : (t : JoinType) → decode (slot a i .rec) ≡ sortMergeJoin t (pairsOf (slot a i .rec)) → JoinRows t (slot a i .rec) own f s
     merged-at t e =
         let n = two (ap (λ o. childrenOk o (length (slot a i .kids))) e) in
-        let w = join-wide t n (ap (λ o. factsOp o (known (forest a (slot a i .kids))) .width) e ∙ join-width t (pairsOf (slot a i .rec)) (at0 (known (forest a (slot a i .kids)))) (at1 (known (forest a (slot a i .kids))))) in
+        let w = join-wide t n (ap (λ o. factsOp o (known (forest a (slot a i .kids))) .width) e ∙ join-width t (pairsOf (slot a i .rec))
+        (at0 (known (forest a (slot a i .kids)))) (at1 (known (forest a (slot a i .kids))))) in
         let o = own-tells own eo .0 in let z = o .fine .wide in
         record {
           proper = proper-at;
           here = o;
           first = rf .row;
           second = rs .row;
-          sides = record { left = rf .usable .fine; right = rs .usable .fine; leftFits = rf .usable .fits; rightFits = rs .usable .fits; wide = omega arith };
+          sides = record {
+            left = rf .usable .fine;
+            right = rs .usable .fine;
+            leftFits = rf .usable .fits;
+            rightFits = rs .usable .fits;
+            wide = omega arith;
+          };
           width = w;
         }
 
-    hashed-at : (t : JoinType) → decode (slot a i .rec) ≡ hashJoin t (pairsOf (slot a i .rec)) → told own .width ≡ joinWidth t (told f .width) (told s .width)
+    hashed-at : (t : JoinType) → decode (slot a i .rec) ≡ hashJoin t (pairsOf (slot a i .rec)) → told own .width ≡ joinWidth t (told f .width)
+        (told s .width)
     hashed-at t e =
         join-wide t (two (ap (λ o. childrenOk o (length (slot a i .kids))) e))
-        (ap (λ o. factsOp o (known (forest a (slot a i .kids))) .width) e ∙ join-width t (pairsOf (slot a i .rec)) (at0 (known (forest a (slot a i .kids)))) (at1 (known (forest a (slot a i .kids)))))
+        (ap (λ o. factsOp o (known (forest a (slot a i .kids))) .width) e ∙ join-width t (pairsOf (slot a i .rec)) (at0 (known (forest a (slot a i .kids))))
+        (at1 (known (forest a (slot a i .kids)))))
 
-    pub seen-at : Seen (decode (slot a i .rec)) (decode (slot a i .rec)) (facts (strip (forest a (slot a i .kids)))) (walk.childCount (strip (forest a (slot a i .kids)))) (told own) (told f) (told s)
+    pub seen-at : Seen (decode (slot a i .rec)) (decode (slot a i .rec)) (facts (strip (forest a (slot a i .kids))))
+        (walk.childCount (strip (forest a (slot a i .kids)))) (told own) (told f) (told s)
     seen-at =
         let c = roots-long (strip (forest a (slot a i .kids))) in let n = length-facts a (slot a i .kids) in
         record {
@@ -149,7 +163,8 @@ module _ (a : List ℕ) (ua i : ℕ) (g : Arena a ua) (l : i < ua) where
 
     pub visited-at : (v : Visit) (h : ℕ) → Visits a ua h v → i ≡ index h → Visited (slot a i .rec) own f s (v .req .order)
     visited-at v h x e =
-        let w : fact (treeOf a h) .width ≡ told own .width = ap (λ F. F .width) (ap (λ j. fact (treeIn a j)) (sym e) ∙ ap fact (shown a ua i g l .tree) ∙ sym (own-tells own eo .1)) in
+        let w : fact (treeOf a h) .width ≡ told own .width = ap (λ F. F .width) (ap (λ j. fact (treeIn a j)) (sym e) ∙ ap fact (shown a ua i g l .tree)
+        ∙ sym (own-tells own eo .1)) in
         record {
           proper = proper-at;
           here = own-tells own eo .0;
@@ -162,5 +177,6 @@ module _ (a : List ℕ) (ua i : ℕ) (g : Arena a ua) (l : i < ua) where
         }
 
 -- the fetch, of the node in the slot
-pub fetch-in : (a : List ℕ) (ua i : ℕ) (g : Arena a ua) (l : i < ua) (h : ℕ) → i ≡ index h → (f : Fetch) → f ≡ fetchT (treeOf a h) → f ≡ fetchOp (decode (slot a i .rec)) (fetches (strip (forest a (slot a i .kids))))
+pub fetch-in : (a : List ℕ) (ua i : ℕ) (g : Arena a ua) (l : i < ua) (h : ℕ) → i ≡ index h → (f : Fetch) → f ≡ fetchT (treeOf a h)
+    → f ≡ fetchOp (decode (slot a i .rec)) (fetches (strip (forest a (slot a i .kids))))
 fetch-in a ua i g l h e f x = x ∙ ap (λ j. fetchT (treeIn a j)) (sym e) ∙ ap fetchT (shown a ua i g l .tree)

@@ -52,7 +52,8 @@ pub fn fetch_at(a: &[u8], h: usize) -> Fetch
 
 pub fn decide_at(a: &[u8], ua: usize, h: usize, v: Visit) -> Decision
     requires { ⌜ Visits (now a) ua h v ⌝ }
-    ensures { λ d. ⌜ Decides (opAt (now (a .entry)) h) (planAt (now (a .entry)) h) (pushdownSortsHelper (visitOf v) (opAt (now (a .entry)) h) (planAt (now (a .entry)) h)) d ⌝ }
+    ensures { λ d. ⌜ Decides (opAt (now (a .entry)) h) (planAt (now (a .entry)) h)
+        (pushdownSortsHelper (visitOf v) (opAt (now (a .entry)) h) (planAt (now (a .entry)) h)) d ⌝ }
 {
     let i = h / 2;
     let first = child_row(a, ua, i, 0);

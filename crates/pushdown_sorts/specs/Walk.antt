@@ -100,7 +100,8 @@ from q j i = q (j + i)
 -- The first j of the children ks are walked: b₀ with v nodes has become b with w, and the plan has m nodes, n before them
 pub record Visiting (a ks : List ℕ) (q : ℕ → walk.Visit) (n : ℕ) (b₀ : List ℕ) (v j w m : ℕ) (kids b : List ℕ) : Type 0 where
   pub made : Kids b₀ v j w kids b
-  pub is : countDown q n (strip (forest a ks)) ≡ bind (countDown (from q j) m (strip (forest a (drop j ks)))) (λ s l. counted (forest b (take j kids) ⊕ s) l)
+  pub is : countDown q n (strip (forest a ks)) ≡ bind (countDown (from q j) m (strip (forest a (drop j ks))))
+      (λ s l. counted (forest b (take j kids) ⊕ s) l)
   pub pure : forest b (take j kids) ⊕ walk.pushdownSorts (from q j) (strip (forest a (drop j ks))) ≡ walk.pushdownSorts q (strip (forest a ks))
   pub left : w + 3 * size (forest a (drop j ks)) ≤ v + 3 * size (forest a ks)
   pub low : n + size (forest a (drop j ks)) ≤ m + size (forest a ks)

@@ -57,7 +57,8 @@ use Rattle.push_visits.specs.Visiting.{roots-long, shown, own-tells}
 -- ---- one tree of a forest
 
 bind-step : {A B : Type 0} (a b : Bool) (e f : Refusal) (x : Counted A) (c : A → Tree) (k : Tree → ℕ → Counted B)
-    → cond a (stopped e) (cond b (stopped f) (bind x (λ d m. k (c d) m))) ≡ bind (cond a (stopped e) (cond b (stopped f) (bind x (λ d m. counted (c d) m)))) k
+    → cond a (stopped e) (cond b (stopped f) (bind x (λ d m. k (c d) m))) ≡ bind (cond a (stopped e) (cond b (stopped f) (bind x (λ d m. counted (c d) m))))
+    k
 bind-step true b e f x c k = refl
 bind-step false true e f x c k = refl
 bind-step false false e f (stopped r) c k = refl
@@ -67,13 +68,15 @@ count-tree : (q : ℕ → walk.Visit) (n : ℕ) (t : Tree) (r : Forest Marked)
     → countDown q n (strip (plant t r)) ≡ bind (countedT (q 0) n t) (λ u m. bind (countDown (λ i. q (suc i)) m (strip r)) (λ s l. counted (plant u s) l))
 count-tree q n t r =
     let D : walk.Decision = walk.pushdownSortsHelper (q 0) (opT t) (strip (t .kids)) in
-    bind-step (constantSort (opT t) (strip (t .kids))) (overflows D n) ConstantSort TooManyNodes (countDown (D .reqs) (afterwards D n) (strip (t .kids))) (walk.carryOut D) (λ u m. bind (countDown (λ i. q (suc i)) m (strip r)) (λ s l. counted (plant u s) l))
+    bind-step (constantSort (opT t) (strip (t .kids))) (overflows D n) ConstantSort TooManyNodes (countDown (D .reqs) (afterwards D n) (strip (t .kids)))
+    (walk.carryOut D) (λ u m. bind (countDown (λ i. q (suc i)) m (strip r)) (λ s l. counted (plant u s) l))
 
 bind-id : (x : Counted (Forest Marked)) → x ≡ bind x (λ s l. counted s l)
 bind-id (stopped e) = refl
 bind-id (counted s l) = refl
 
-bind-plant : (x : Counted (Forest Marked)) (t : Tree) (f : Forest Marked) → bind (bind x (λ s l. counted (plant t s) l)) (λ s l. counted (f ⊕ s) l) ≡ bind x (λ s l. counted (f ⊕ plant t s) l)
+bind-plant : (x : Counted (Forest Marked)) (t : Tree) (f : Forest Marked) → bind (bind x (λ s l. counted (plant t s) l)) (λ s l. counted (f ⊕ s) l) ≡ bind x
+    (λ s l. counted (f ⊕ plant t s) l)
 bind-plant (stopped e) t f = refl
 bind-plant (counted s l) t f = refl
 
@@ -81,7 +84,8 @@ bind-plant (counted s l) t f = refl
 pushed-below : (q p : ℕ → walk.Visit) (f : Plan) → ((i : ℕ) → i < length (roots f) → q i ≡ p i) → walk.pushdownSorts q f ≡ walk.pushdownSorts p f
 pushed-below q p none h = refl
 pushed-below q p (tree o c r) h =
-    ap₂ (λ v s. plant (walk.carryOut (walk.pushdownSortsHelper v o c) (walk.pushdownSorts (walk.pushdownSortsHelper v o c .reqs) c)) s) (h zero (omega arith))
+    ap₂ (λ v s. plant (walk.carryOut (walk.pushdownSortsHelper v o c) (walk.pushdownSorts (walk.pushdownSortsHelper v o c .reqs) c)) s)
+    (h zero (omega arith))
     (pushed-below (λ i. q (suc i)) (λ i. p (suc i)) r (λ i l. h (suc i) (omega arith)))
 
 from-none : (q : ℕ → walk.Visit) → q ≡ from q 0
@@ -128,42 +132,54 @@ module _ (a ks : List ℕ) (q : ℕ → walk.Visit) (n : ℕ) (b₀ : List ℕ) 
     pub split : forest a (drop j ks) ≡ plant (treeOf a (getD ks j 0)) (forest a (drop (j + 1) ks))
     split = drop-next a ks j l ∙ ap (λ i. plant (treeOf a (getD ks j 0)) (forest a (drop i ks))) (sym (add-one j))
 
-    next : countDown q n (strip (forest a ks)) ≡ bind (bind (countedT (q j) m (treeIn a (index (getD ks j 0)))) (λ u k. bind (countDown (from q (j + 1)) k (strip (forest a (drop (j + 1) ks)))) (λ s l. counted (plant u s) l))) (λ s l. counted (forest b (take j kids) ⊕ s) l)
+    next : countDown q n (strip (forest a ks)) ≡ bind
+        (bind (countedT (q j) m (treeIn a (index (getD ks j 0)))) (λ u k. bind (countDown (from q (j + 1)) k (strip (forest a (drop (j + 1) ks))))
+        (λ s l. counted (plant u s) l))) (λ s l. counted (forest b (take j kids) ⊕ s) l)
     next =
         p .is
         ∙ ap (λ f. bind (countDown (from q j) m (strip f)) (λ s l. counted (forest b (take j kids) ⊕ s) l)) split
         ∙ ap (λ x. bind x (λ s l. counted (forest b (take j kids) ⊕ s) l))
-        (count-tree (from q j) m t rest ∙ ap₂ (λ (z : walk.Visit) (g : ℕ → walk.Visit). bind (countedT z m t) (λ u k. bind (countDown g k (strip rest)) (λ s l. counted (plant u s) l))) (from-first q j) (from-next q j))
+        (count-tree (from q j) m t rest
+        ∙ ap₂ (λ (z : walk.Visit) (g : ℕ → walk.Visit). bind (countedT z m t) (λ u k. bind (countDown g k (strip rest)) (λ s l. counted (plant u s) l)))
+        (from-first q j) (from-next q j))
 
     pub visiting-stop : (e : Refusal) → countedT (q j) m (treeIn a (index (getD ks j 0))) ≡ stopped e → countDown q n (strip (forest a ks)) ≡ stopped e
-    visiting-stop e h = next ∙ ap (λ x. bind (bind x (λ u k. bind (countDown (from q (j + 1)) k (strip rest)) (λ s l. counted (plant u s) l))) (λ s l. counted (forest b (take j kids) ⊕ s) l)) h
+    visiting-stop e h = next ∙ ap (λ x. bind (bind x (λ u k. bind (countDown (from q (j + 1)) k (strip rest)) (λ s l. counted (plant u s) l)))
+        (λ s l. counted (forest b (take j kids) ⊕ s) l)) h
 
-    module _ (few8 : length ks ≤ 8) (b' : List ℕ) (lb : length b' ≡ length b) (x : Walked) (e : Ended (q j) m (treeIn a (index (getD ks j 0))) b w b' x) where
+    module _ (few8 : length ks ≤ 8) (b' : List ℕ) (lb : length b' ≡ length b) (x : Walked)
+        (e : Ended (q j) m (treeIn a (index (getD ks j 0))) b w b' x) where
       abbrev r : At
       r = record { used = x .used; root = x .root }
 
       abbrev u : Tree
       u = pushedT (q j) t
 
-      more : (s : Forest Marked) → forest b' (take (j + 1) (set kids j (x .root))) ⊕ s ≡ forest b (take j kids) ⊕ plant (pushedT (q j) (treeIn a (index (getD ks j 0)))) s
+      more : (s : Forest Marked) → forest b' (take (j + 1) (set kids j (x .root))) ⊕ s ≡ forest b (take j kids) ⊕ plant
+          (pushedT (q j) (treeIn a (index (getD ks j 0)))) s
       more s = kids-forest b₀ v j w kids b (p .made) (omega arith) b' lb r u (w + 3 * sizeT t) (e .grown) s
 
       pub visiting-more : Visiting a ks q n b₀ v (j + 1) (x .used) (x .count) (set kids j (x .root)) b'
       visiting-more =
-          let sz = ap size split in let sq : sizeT (treeOf a (getD ks j 0)) ≡ sizeT (treeIn a (index (getD ks j 0))) = refl in let top = e .grown .room in let p₁ = p .left in let p₂ = p .low in let p₃ = p .high in let p₄ = p .few in
+          let sz = ap size split in let sq : sizeT (treeOf a (getD ks j 0)) ≡ sizeT (treeIn a (index (getD ks j 0))) = refl in let top = e .grown .room in
+          let p₁ = p .left in let p₂ = p .low in let p₃ = p .high in let p₄ = p .few in
           let e₁ = e .few in let e₂ = e .low in let e₃ = e .high in
           let sm : size (forest b' (take (j + 1) (set kids j (x .root)))) ≡ size (forest b (take j kids)) + sizeT u =
-          (let z = ap size (sym (plus-none (forest b' (take (j + 1) (set kids j (x .root))))) ∙ more none) in let y = size-plus (forest b (take j kids)) (plant u none) in omega arith) in
+          (let z = ap size (sym (plus-none (forest b' (take (j + 1) (set kids j (x .root))))) ∙ more none) in
+          let y = size-plus (forest b (take j kids)) (plant u none) in omega arith) in
           record {
             made = kids-more b₀ v j w kids b (p .made) (omega arith) b' lb r u (w + 3 * sizeT t) (e .grown);
             is =
                 next
-                ∙ ap (λ z. bind (bind z (λ u k. bind (countDown (from q (j + 1)) k (strip rest)) (λ s l. counted (plant u s) l))) (λ s l. counted (forest b (take j kids) ⊕ s) l)) (e .is)
+                ∙ ap (λ z. bind (bind z (λ u k. bind (countDown (from q (j + 1)) k (strip rest)) (λ s l. counted (plant u s) l)))
+                (λ s l. counted (forest b (take j kids) ⊕ s) l)) (e .is)
                 ∙ bind-plant (countDown (from q (j + 1)) (x .count) (strip rest)) u (forest b (take j kids))
-                ∙ ap (λ (g : Forest Marked → Forest Marked). bind (countDown (from q (j + 1)) (x .count) (strip rest)) (λ s l. counted (g s) l)) (fun-ext (λ s. sym (more s)));
+                ∙ ap (λ (g : Forest Marked → Forest Marked). bind (countDown (from q (j + 1)) (x .count) (strip rest)) (λ s l. counted (g s) l))
+                (fun-ext (λ s. sym (more s)));
             pure =
                 more (walk.pushdownSorts (from q (j + 1)) (strip rest))
-                ∙ ap₂ (λ (z : walk.Visit) (g : ℕ → walk.Visit). forest b (take j kids) ⊕ plant (pushedT z t) (walk.pushdownSorts g (strip rest))) (sym (from-first q j)) (sym (from-next q j))
+                ∙ ap₂ (λ (z : walk.Visit) (g : ℕ → walk.Visit). forest b (take j kids) ⊕ plant (pushedT z t) (walk.pushdownSorts g (strip rest)))
+                (sym (from-first q j)) (sym (from-next q j))
                 ∙ ap (λ f. forest b (take j kids) ⊕ walk.pushdownSorts (from q j) (strip f)) (sym split)
                 ∙ p .pure;
             left = omega arith;
@@ -180,12 +196,15 @@ module _ (a ks : List ℕ) (q : ℕ → walk.Visit) (n : ℕ) (b₀ : List ℕ) 
     pub visiting-end : countDown q n (strip (forest a ks)) ≡ counted (forest b (take j kids)) m
     unfolding forest
     visiting-end =
-        p .is ∙ ap (λ d. bind (countDown (from q j) m (strip (forest a d))) (λ s l. counted (forest b (take j kids) ⊕ s) l)) gone ∙ ap (λ f. counted f m) (plus-none (forest b (take j kids)))
+        p .is ∙ ap (λ d. bind (countDown (from q j) m (strip (forest a d))) (λ s l. counted (forest b (take j kids) ⊕ s) l)) gone
+        ∙ ap (λ f. counted f m) (plus-none (forest b (take j kids)))
 
     pub visiting-pure : forest b (take j kids) ≡ walk.pushdownSorts q (strip (forest a ks))
-    visiting-pure = no-more a ks b (take j kids) j (λ f. walk.pushdownSorts (from q j) (strip f)) (walk.pushdownSorts q (strip (forest a ks))) l refl (p .pure)
+    visiting-pure = no-more a ks b (take j kids) j (λ f. walk.pushdownSorts (from q j) (strip f)) (walk.pushdownSorts q (strip (forest a ks))) l refl
+        (p .pure)
 
-    pub visiting-sizes : (w ≤ v + 3 * size (forest a ks)) × (n ≤ m + size (forest a ks)) × (m ≤ n + 2 * size (forest a ks)) × (size (forest b (take j kids)) ≤ 3 * size (forest a ks))
+    pub visiting-sizes : (w ≤ v + 3 * size (forest a ks)) × (n ≤ m + size (forest a ks)) × (m ≤ n + 2 * size (forest a ks))
+        × (size (forest b (take j kids)) ≤ 3 * size (forest a ks))
     visiting-sizes = let x = p .left in let y = p .low in let z = p .high in let u = p .few in (omega arith, omega arith, omega arith, omega arith)
 
 -- ---- the step
@@ -198,14 +217,16 @@ stepCount : Step → ℕ
 stepCount (step.Refused e) = 0
 stepCount (step.On n) = suc n
 
-step-stop : (k o : Bool) (n : ℕ) (s : Step) → s ≡ cond k (step.Refused ConstantSort) (cond o (step.Refused TooManyNodes) (step.On n)) → (e : Refusal) → s ≡ step.Refused e → {A : Type 0} (y : Counted A)
+step-stop : (k o : Bool) (n : ℕ) (s : Step) → s ≡ cond k (step.Refused ConstantSort) (cond o (step.Refused TooManyNodes) (step.On n)) → (e : Refusal)
+    → s ≡ step.Refused e → {A : Type 0} (y : Counted A)
     → cond k (stopped ConstantSort) (cond o (stopped TooManyNodes) y) ≡ stopped e
 unfolding stepRefusal stepCount
 step-stop true o n s h e f y = ap stopped (ap stepRefusal (sym h ∙ f))
 step-stop false true n s h e f y = ap stopped (ap stepRefusal (sym h ∙ f))
 step-stop false false n s h e f y = let z : suc n ≡ 0 = ap stepCount (sym h ∙ f) in absurd (omega arith)
 
-step-on : (k o : Bool) (n : ℕ) (s : Step) → s ≡ cond k (step.Refused ConstantSort) (cond o (step.Refused TooManyNodes) (step.On n)) → (m : ℕ) → s ≡ step.On m → {A : Type 0} (y : Counted A)
+step-on : (k o : Bool) (n : ℕ) (s : Step) → s ≡ cond k (step.Refused ConstantSort) (cond o (step.Refused TooManyNodes) (step.On n)) → (m : ℕ)
+    → s ≡ step.On m → {A : Type 0} (y : Counted A)
     → (cond k (stopped ConstantSort) (cond o (stopped TooManyNodes) y) ≡ y) × (m ≡ n)
 unfolding stepRefusal stepCount
 step-on true o n s h m f y = let z : 0 ≡ suc m = ap stepCount (sym h ∙ f) in absurd (omega arith)
@@ -266,7 +287,8 @@ module _ (a : List ℕ) (ua h : ℕ) (b : List ℕ) (v : ℕ) (visit : Visit) (n
   size-is : sizeT (treeOf a h) ≡ suc (size (forest a (slot a (index h) .kids)))
   size-is = ap sizeT see
 
-  pub back : (r : Pushed) (b' : List ℕ) → Ends (visitOf visit) n (node (decode (slot a (index h) .rec)) false (forest a (slot a (index h) .kids))) b v b' r → Ends (visitOf visit) n (treeIn a (index h)) b v b' r
+  pub back : (r : Pushed) (b' : List ℕ) → Ends (visitOf visit) n (node (decode (slot a (index h) .rec)) false (forest a (slot a (index h) .kids))) b v b' r
+      → Ends (visitOf visit) n (treeIn a (index h)) b v b' r
   back r b' e = subst⁻¹ (λ t. Ends (visitOf visit) n t b v b' r) see e
 
   fits : VisitFits (factsOp o (facts c) .width) q
@@ -286,43 +308,63 @@ module _ (a : List ℕ) (ua h : ℕ) (b : List ℕ) (v : ℕ) (visit : Visit) (n
       one-fits (suc i) l = absurd (omega arith)
 
   -- ---- the decision, and its step
-  module _ (d : Decision) (dec : Decides (decode (slot a (index h) .rec)) (strip (forest a (slot a (index h) .kids))) (walk.pushdownSortsHelper (visitOf visit) (decode (slot a (index h) .rec)) (strip (forest a (slot a (index h) .kids)))) d) where
+  module _ (d : Decision) (dec : Decides (decode (slot a (index h) .rec)) (strip (forest a (slot a (index h) .kids)))
+      (walk.pushdownSortsHelper (visitOf visit) (decode (slot a (index h) .rec)) (strip (forest a (slot a (index h) .kids)))) d) where
     abbrev Q : ℕ → walk.Visit
     Q = visitFor d (fetches (strip (forest a (slot a (index h) .kids))))
 
-    module _ (rec own : List ℕ) (er : rec ≡ slot a (index h) .rec) (eo : own ≡ keptPart a (index h)) (s : Step) (es : s ≡ stepBy (isSort (decode rec) && isNil (knownOrder (told own))) (d .quiet) (d .peak) (afterBy d n)) where
+    module _ (rec own : List ℕ) (er : rec ≡ slot a (index h) .rec) (eo : own ≡ keptPart a (index h)) (s : Step)
+        (es : s ≡ stepBy (isSort (decode rec) && isNil (knownOrder (told own))) (d .quiet) (d .peak) (afterBy d n)) where
       own-is : told own ≡ factsOp o (facts c)
       own-is = own-tells a ua i (p .visits .from) low-i own eo .1
 
       step-is : s ≡ cond (constantSort o c) (step.Refused ConstantSort) (cond (overflows D n) (step.Refused TooManyNodes) (step.On (afterBy d n)))
-      step-is = es ∙ ap (λ x. stepBy (isSort (decode x) && isNil (knownOrder (told own))) (d .quiet) (d .peak) (afterBy d n)) er ∙ ap₂ (λ x y. cond x (step.Refused ConstantSort) (cond y (step.Refused TooManyNodes) (step.On (afterBy d n)))) (constant-is o q c (told own) d dec own-is) (over-is o q c (told own) d dec own-is n)
+      step-is = es ∙ ap (λ x. stepBy (isSort (decode x) && isNil (knownOrder (told own))) (d .quiet) (d .peak) (afterBy d n)) er
+          ∙ ap₂ (λ x y. cond x (step.Refused ConstantSort) (cond y (step.Refused TooManyNodes) (step.On (afterBy d n))))
+          (constant-is o q c (told own) d dec own-is) (over-is o q c (told own) d dec own-is n)
 
-      stops : (e : Refusal) → s ≡ step.Refused e → countedT (visitOf visit) n (node (decode (slot a (index h) .rec)) false (forest a (slot a (index h) .kids))) ≡ stopped e
-      stops e f = step-stop (constantSort o c) (overflows D n) (afterBy d n) s step-is e f (bind (countDown (D .reqs) (afterwards D n) c) (λ x m. counted (walk.carryOut D x) m))
+      stops : (e : Refusal) → s ≡ step.Refused e → countedT (visitOf visit) n
+          (node (decode (slot a (index h) .rec)) false (forest a (slot a (index h) .kids))) ≡ stopped e
+      stops e f = step-stop (constantSort o c) (overflows D n) (afterBy d n) s step-is e f
+          (bind (countDown (D .reqs) (afterwards D n) c) (λ x m. counted (walk.carryOut D x) m))
 
-      pub step-ends : (e : Refusal) → s ≡ step.Refused e → (r : Pushed) → r ≡ refusedBy s → (b' : List ℕ) → Ends (visitOf visit) n (treeIn a (index h)) b v b' r
+      pub step-ends : (e : Refusal) → s ≡ step.Refused e → (r : Pushed) → r ≡ refusedBy s → (b' : List ℕ)
+          → Ends (visitOf visit) n (treeIn a (index h)) b v b' r
       step-ends e f r x b' = back r b' (subst⁻¹ (λ y. Ends q n N b v b' y) (x ∙ ap refusedBy f) (stops e f))
 
-      pub goes-on : (m : ℕ) → s ≡ step.On m → (countedT (visitOf visit) n (node (decode (slot a (index h) .rec)) false (forest a (slot a (index h) .kids))) ≡ bind (countDown (visitFor d (fetches (strip (forest a (slot a (index h) .kids))))) m (strip (forest a (slot a (index h) .kids)))) (λ x l. counted (walk.carryOut (walk.pushdownSortsHelper (visitOf visit) (decode (slot a (index h) .rec)) (strip (forest a (slot a (index h) .kids)))) x) l)) × (m ≡ afterBy d n)
+      pub goes-on : (m : ℕ) → s ≡ step.On m
+          → (countedT (visitOf visit) n (node (decode (slot a (index h) .rec)) false (forest a (slot a (index h) .kids))) ≡ bind
+          (countDown (visitFor d (fetches (strip (forest a (slot a (index h) .kids))))) m (strip (forest a (slot a (index h) .kids))))
+          (λ x l. counted (walk.carryOut (walk.pushdownSortsHelper (visitOf visit) (decode (slot a (index h) .rec))
+          (strip (forest a (slot a (index h) .kids)))) x) l)) × (m ≡ afterBy d n)
       goes-on m f =
-          let x = step-on (constantSort o c) (overflows D n) (afterBy d n) s step-is m f (bind (countDown (D .reqs) (afterwards D n) c) (λ x m. counted (walk.carryOut D x) m)) in (
+          let x = step-on (constantSort o c) (overflows D n) (afterBy d n) s step-is m f
+          (bind (countDown (D .reqs) (afterwards D n) c) (λ x m. counted (walk.carryOut D x) m)) in (
             x .0
-                ∙ ap (λ z. bind z (λ x l. counted (walk.carryOut D x) l)) (ap (λ k. countDown (D .reqs) k c) (sym (after-is o q c (told own) d dec own-is n) ∙ sym (x .1)) ∙ sym (children-visited q o c d m dec)),
+                ∙ ap (λ z. bind z (λ x l. counted (walk.carryOut D x) l))
+                (ap (λ k. countDown (D .reqs) k c) (sym (after-is o q c (told own) d dec own-is n) ∙ sym (x .1))
+                ∙ sym (children-visited q o c d m dec)),
             x .1,
           )
 
     -- ---- the walk below
-    module _ (m₀ : ℕ) (em : m₀ ≡ afterBy d n) (is : countedT (visitOf visit) n (node (decode (slot a (index h) .rec)) false (forest a (slot a (index h) .kids))) ≡ bind (countDown (visitFor d (fetches (strip (forest a (slot a (index h) .kids))))) m₀ (strip (forest a (slot a (index h) .kids)))) (λ x l. counted (walk.carryOut (walk.pushdownSortsHelper (visitOf visit) (decode (slot a (index h) .rec)) (strip (forest a (slot a (index h) .kids)))) x) l)) where
+    module _ (m₀ : ℕ) (em : m₀ ≡ afterBy d n)
+        (is : countedT (visitOf visit) n (node (decode (slot a (index h) .rec)) false (forest a (slot a (index h) .kids))) ≡ bind
+        (countDown (visitFor d (fetches (strip (forest a (slot a (index h) .kids))))) m₀ (strip (forest a (slot a (index h) .kids))))
+        (λ x l. counted (walk.carryOut (walk.pushdownSortsHelper (visitOf visit) (decode (slot a (index h) .rec))
+        (strip (forest a (slot a (index h) .kids)))) x) l)) where
       after-low : n ≤ m₀ + 1
       after-low = let z = one-le (d .gone) in omega arith
 
       after-high : m₀ ≤ n + 2
       after-high = let z = tops-few (d .tops) in omega arith
 
-      pub start : (kids : List ℕ) → length kids ≡ 8 → Visiting a (slot a (index h) .kids) (visitFor d (fetches (strip (forest a (slot a (index h) .kids))))) m₀ b v 0 v m₀ kids b
+      pub start : (kids : List ℕ) → length kids ≡ 8 → Visiting a (slot a (index h) .kids) (visitFor d (fetches (strip (forest a (slot a (index h) .kids)))))
+          m₀ b v 0 v m₀ kids b
       start kids l = visiting-none a ks Q m₀ b v kids (p .arena) l
 
-      module _ (j w m : ℕ) (kids b₁ : List ℕ) (z : Visiting a (slot a (index h) .kids) (visitFor d (fetches (strip (forest a (slot a (index h) .kids))))) m₀ b v j w m kids b₁) (l : j < length (slot a (index h) .kids)) where
+      module _ (j w m : ℕ) (kids b₁ : List ℕ) (z : Visiting a (slot a (index h) .kids) (visitFor d (fetches (strip (forest a (slot a (index h) .kids))))) m₀
+          b v j w m kids b₁) (l : j < length (slot a (index h) .kids)) where
         abbrev k : ℕ
         k = getD (slot a (index h) .kids) j 0
 
@@ -344,12 +386,16 @@ module _ (a : List ℕ) (ua h : ℕ) (b : List ℕ) (v : ℕ) (visit : Visit) (n
           child-fits : VisitFits (fact (treeOf a k) .width) (visitOf below)
           child-fits =
               let y = length-facts a ks in let u = roots-long c in
-              subst⁻¹ (λ x. VisitFits (fact (treeOf a k) .width) x) (visit-is ∙ dec .reqs j (omega arith)) (subst (λ F. VisitFits (F .width) (D .reqs j)) (facts-at a ks j l) (each j (omega arith)))
+              subst⁻¹ (λ x. VisitFits (fact (treeOf a k) .width) x) (visit-is ∙ dec .reqs j (omega arith))
+              (subst (λ F. VisitFits (F .width) (D .reqs j)) (facts-at a ks j l) (each j (omega arith)))
 
-          pub child-pushes : (sizeT (treeOf a (getD (slot a (index h) .kids) j 0)) < sizeT (treeOf a h)) × Pushes a ua (getD (slot a (index h) .kids) j 0) b₁ w below m
+          pub child-pushes : (sizeT (treeOf a (getD (slot a (index h) .kids) j 0)) < sizeT (treeOf a h))
+              × Pushes a ua (getD (slot a (index h) .kids) j 0) b₁ w below m
           child-pushes =
-              let sz = ap size (split a ks Q m₀ b v j w m kids b₁ z l) in let s = size-is in let z₁ = z .left in let z₂ = z .low in let z₃ = z .high in let lb = z .made .long in
-              let r = p .room in let sm = p .small in let lo = p .low in let hi = p .high in let al = after-low in let ah = after-high in let tot = drop-size a ks j in
+              let sz = ap size (split a ks Q m₀ b v j w m kids b₁ z l) in let s = size-is in let z₁ = z .left in let z₂ = z .low in let z₃ = z .high in
+              let lb = z .made .long in
+              let r = p .room in let sm = p .small in let lo = p .low in let hi = p .high in let al = after-low in let ah = after-high in
+              let tot = drop-size a ks j in
               let bl = below-at (2 * i) ks j (shown a ua i (p .visits .from) low-i .below) l in let he = p .visits .here in (
                 omega arith,
                 record {
@@ -362,17 +408,24 @@ module _ (a : List ℕ) (ua h : ℕ) (b : List ℕ) (v : ℕ) (visit : Visit) (n
                 },
               )
 
-          module _ (b₂ : List ℕ) (lb : length b₂ ≡ length b₁) (r : Pushed) (en : Ends (visitOf below) m (treeIn a (index (getD (slot a (index h) .kids) j 0))) b₁ w b₂ r) where
-            pub child-more : (x : Walked) → r ≡ Done x → Visiting a (slot a (index h) .kids) (visitFor d (fetches (strip (forest a (slot a (index h) .kids))))) m₀ b v (j + 1) (x .used) (x .count) (set kids j (x .root)) b₂
+          module _ (b₂ : List ℕ) (lb : length b₂ ≡ length b₁) (r : Pushed)
+              (en : Ends (visitOf below) m (treeIn a (index (getD (slot a (index h) .kids) j 0))) b₁ w b₂ r) where
+            pub child-more : (x : Walked) → r ≡ Done x → Visiting a (slot a (index h) .kids)
+                (visitFor d (fetches (strip (forest a (slot a (index h) .kids))))) m₀ b v (j + 1) (x .used) (x .count) (set kids j (x .root)) b₂
             child-more x e =
-                visiting-more a ks Q m₀ b v j w m kids b₁ z l (shown a ua i (p .visits .from) low-i .few) b₂ lb x (subst (λ y. Ended y m (treeIn a (index k)) b₁ w b₂ x) visit-is (subst (λ y. Ends (visitOf below) m (treeIn a (index k)) b₁ w b₂ y) e en))
+                visiting-more a ks Q m₀ b v j w m kids b₁ z l (shown a ua i (p .visits .from) low-i .few) b₂ lb x
+                (subst (λ y. Ended y m (treeIn a (index k)) b₁ w b₂ x) visit-is
+                (subst (λ y. Ends (visitOf below) m (treeIn a (index k)) b₁ w b₂ y) e en))
 
             pub child-stop : (e : Refusal) → r ≡ Refused e → Ends (visitOf visit) n (treeIn a (index h)) b v b₂ r
             child-stop e f =
-                back r b₂ (subst⁻¹ (λ y. Ends q n N b v b₂ y) f (stopped-child e (ap (λ y. countedT y m (treeIn a (index k))) (sym visit-is) ∙ subst (λ y. Ends (visitOf below) m (treeIn a (index k)) b₁ w b₂ y) f en)))
+                back r b₂ (subst⁻¹ (λ y. Ends q n N b v b₂ y) f
+                (stopped-child e (ap (λ y. countedT y m (treeIn a (index k))) (sym visit-is)
+                ∙ subst (λ y. Ends (visitOf below) m (treeIn a (index k)) b₁ w b₂ y) f en)))
 
       -- ---- all children are walked
-      module _ (j w m : ℕ) (kids b₁ : List ℕ) (z : Visiting a (slot a (index h) .kids) (visitFor d (fetches (strip (forest a (slot a (index h) .kids))))) m₀ b v j w m kids b₁) (e : ℕ) (ej : e ≡ j) (ek : e ≡ children (slot a (index h) .rec)) where
+      module _ (j w m : ℕ) (kids b₁ : List ℕ) (z : Visiting a (slot a (index h) .kids) (visitFor d (fetches (strip (forest a (slot a (index h) .kids))))) m₀
+          b v j w m kids b₁) (e : ℕ) (ej : e ≡ j) (ek : e ≡ children (slot a (index h) .rec)) where
         long : length (slot a (index h) .kids) ≤ j
         long = let x = shown a ua i (p .visits .from) low-i .count in omega arith
 
@@ -384,12 +437,15 @@ module _ (a : List ℕ) (ua h : ℕ) (b : List ℕ) (v : ℕ) (visit : Visit) (n
 
         carried-is : carriedBy a (index h) d (forest b₁ (take j kids)) ≡ pushedT q N
         carried-is =
-            ap₂ (λ (ts : List Op) (t : Tree). cover ts t) (dec .tops .is) (ap₂ (λ (g : Bool) (x : Op). cond g (kid0 (node x false f) f) (rebuild x false f)) (dec .gone) (dec .op)) ∙ ap (walk.carryOut D) pure-is
+            ap₂ (λ (ts : List Op) (t : Tree). cover ts t) (dec .tops .is) (ap₂ (λ (g : Bool) (x : Op). cond g (kid0 (node x false f) f) (rebuild x false f))
+            (dec .gone) (dec .op)) ∙ ap (walk.carryOut D) pure-is
 
         taken : length (take j kids) ≡ length ks
-        taken = let x = shown a ua i (p .visits .from) low-i .count in let y = shown a ua i (p .visits .from) low-i .few in let u = z .made .wide in length-take-le j kids (omega arith) ∙ (let w : j ≡ length ks = omega arith in w)
+        taken = let x = shown a ua i (p .visits .from) low-i .count in let y = shown a ua i (p .visits .from) low-i .few in let u = z .made .wide in
+            length-take-le j kids (omega arith) ∙ (let w : j ≡ length ks = omega arith in w)
 
-        sizes : (w ≤ v + 3 * size (forest a ks)) × (m₀ ≤ m + size (forest a ks)) × (m ≤ m₀ + 2 * size (forest a ks)) × (size (forest b₁ (take j kids)) ≤ 3 * size (forest a ks))
+        sizes : (w ≤ v + 3 * size (forest a ks)) × (m₀ ≤ m + size (forest a ks)) × (m ≤ m₀ + 2 * size (forest a ks))
+            × (size (forest b₁ (take j kids)) ≤ 3 * size (forest a ks))
         sizes = visiting-sizes a ks Q m₀ b v j w m kids b₁ z long
 
         first : d .gone ≡ true → 0 < length (take j kids)
@@ -402,7 +458,8 @@ module _ (a : List ℕ) (ua h : ℕ) (b : List ℕ) (v : ℕ) (visit : Visit) (n
         pub all-carries : Carries a ua (index h) b₁ w d (take e kids)
         all-carries =
             subst⁻¹ (λ y. Carries a ua (index h) b₁ w d (take y kids)) ej
-            (let s = size-is in let x = sizes in let x₀ = x .0 in let x₃ = x .3 in let r = p .room in let sm = p .small in let lo = p .low in let hi = p .high in let lb = z .made .long in
+            (let s = size-is in let x = sizes in let x₀ = x .0 in let x₃ = x .3 in let r = p .room in let sm = p .small in let lo = p .low in
+            let hi = p .high in let lb = z .made .long in
             record {
               from = p .visits .from;
               low = low-i;
@@ -418,27 +475,46 @@ module _ (a : List ℕ) (ua h : ℕ) (b : List ℕ) (v : ℕ) (visit : Visit) (n
               sort = dec .tops .sort;
             })
 
-        pub all-ends : (b₂ : List ℕ) (x : At) → Grown b₁ w b₂ x (carriedBy a (index h) d (forest b₁ (take e kids))) (w + 3) → Ends (visitOf visit) n (treeIn a (index h)) b v b₂ (Done (record { used = x .used; root = x .root; count = m }))
+        pub all-ends : (b₂ : List ℕ) (x : At) → Grown b₁ w b₂ x (carriedBy a (index h) d (forest b₁ (take e kids))) (w + 3)
+            → Ends (visitOf visit) n (treeIn a (index h)) b v b₂ (Done (record { used = x .used; root = x .root; count = m }))
         all-ends b₂ x g =
-            let g₁ : Grown b₁ w b₂ x (pushedT q N) (w + 3) = subst (λ t. Grown b₁ w b₂ x t (w + 3)) (ap (λ y. carriedBy a (index h) d (forest b₁ (take y kids))) ej ∙ carried-is) g in
-            let y = sizes in let y₀ = y .0 in let y₁ = y .1 in let y₂ = y .2 in let y₃ = y .3 in let al = after-low in let ah = after-high in let mr = z .made .more in let gm = g₁ .more in let gr = g₁ .room in
-            let cs = cover-size (topsOf (d .tops)) (belowBy a (index h) d f) in let bs = below-size (d .gone) (opBy a (index h) (d .rebuilt)) f in let tf = tops-few (d .tops) in let ci = ap sizeT carried-is in
+            let g₁ : Grown b₁ w b₂ x (pushedT q N) (w + 3) = subst (λ t. Grown b₁ w b₂ x t (w + 3))
+            (ap (λ y. carriedBy a (index h) d (forest b₁ (take y kids))) ej ∙ carried-is) g in
+            let y = sizes in let y₀ = y .0 in let y₁ = y .1 in let y₂ = y .2 in let y₃ = y .3 in let al = after-low in let ah = after-high in
+            let mr = z .made .more in let gm = g₁ .more in let gr = g₁ .room in
+            let cs = cover-size (topsOf (d .tops)) (belowBy a (index h) d f) in let bs = below-size (d .gone) (opBy a (index h) (d .rebuilt)) f in
+            let tf = tops-few (d .tops) in let ci = ap sizeT carried-is in
             back (Done (record { used = x .used; root = x .root; count = m })) b₂
             (record {
-              is = is ∙ ap (λ y. bind y (λ x l. counted (walk.carryOut D x) l)) (visiting-end a ks Q m₀ b v j w m kids b₁ z long) ∙ ap (λ y. counted (walk.carryOut D y) m) pure-is;
-              grown = record { arena = g₁ .arena; old = same-trans v w b b₁ b₂ mr (z .made .old) (g₁ .old); more = omega arith; here = g₁ .here; tree = g₁ .tree; room = omega arith };
+              is = is ∙ ap (λ y. bind y (λ x l. counted (walk.carryOut D x) l)) (visiting-end a ks Q m₀ b v j w m kids b₁ z long)
+                  ∙ ap (λ y. counted (walk.carryOut D y) m) pure-is;
+              grown = record {
+                arena = g₁ .arena;
+                old = same-trans v w b b₁ b₂ mr (z .made .old) (g₁ .old);
+                more = omega arith;
+                here = g₁ .here;
+                tree = g₁ .tree;
+                room = omega arith;
+              };
               few = omega arith;
               low = omega arith;
               high = omega arith;
             })
 
 -- ---- a whole plan
-module _ (a : List ℕ) (ua h : ℕ) (b : List ℕ) (p : Rooted a ua h b) (visit : Visit) (ev : visitOf visit ≡ walk.atRoot) (n : ℕ) (en : n ≡ sizeT (treeOf a h)) where
+module _ (a : List ℕ) (ua h : ℕ) (b : List ℕ) (p : Rooted a ua h b) (visit : Visit) (ev : visitOf visit ≡ walk.atRoot) (n : ℕ)
+    (en : n ≡ sizeT (treeOf a h)) where
   pub root-pushes : Real (visit .req .order) → Pushes a ua h b 0 visit n
   root-pushes r =
       let x = p .few in let y = p .room in
       record {
-        visits = record { from = p .arena; here = p .here; real = r; fits = subst⁻¹ (VisitFits (fact (treeOf a h) .width)) ev (record { keys = no-keys; fetch = refl }) };
+        visits = record {
+          from = p .arena;
+          here = p .here;
+          real = r;
+          fits = subst⁻¹ (VisitFits (fact (treeOf a h) .width)) ev
+              (record { keys = no-keys; fetch = refl });
+        };
         arena = record { slots = omega arith; small = omega arith; all = λ i l. absurd (omega arith) };
         room = omega arith;
         small = omega arith;
@@ -446,7 +522,8 @@ module _ (a : List ℕ) (ua h : ℕ) (b : List ℕ) (p : Rooted a ua h b) (visit
         high = omega arith;
       }
 
-  counted-is : countDown (λ i. walk.atRoot) (size (planT (treeOf a h))) (planT (treeOf a h)) ≡ bind (countedT (visitOf visit) n (treeIn a (index h))) (λ u m. counted (plant u none) m)
+  counted-is : countDown (λ i. walk.atRoot) (size (planT (treeOf a h))) (planT (treeOf a h)) ≡ bind (countedT (visitOf visit) n (treeIn a (index h)))
+      (λ u m. counted (plant u none) m)
   counted-is =
       let e : size (planT (treeOf a h)) ≡ n = (let z = size-strip (treeIn a (index h) .kids) in omega arith) in
       ap (λ m. countDown (λ i. walk.atRoot) m (planT (treeOf a h))) e

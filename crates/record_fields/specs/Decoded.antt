@@ -47,7 +47,9 @@ packed-keys n r h = packed-list n (part 16 16 r) h
 -- the bytes that the code reads
 pub packed-bytes : (r : List ℕ) → length r ≡ 64
     → packedKeys r
-    ≡ (32 * getD r 17 0 + getD r 16 0 % 32) ∷ (32 * getD r 19 0 + getD r 18 0 % 32) ∷ (32 * getD r 21 0 + getD r 20 0 % 32) ∷ (32 * getD r 23 0 + getD r 22 0 % 32) ∷ (32 * getD r 25 0 + getD r 24 0 % 32) ∷ (32 * getD r 27 0 + getD r 26 0 % 32) ∷ (32 * getD r 29 0 + getD r 28 0 % 32) ∷ (32 * getD r 31 0 + getD r 30 0 % 32) ∷ []
+    ≡ (32 * getD r 17 0 + getD r 16 0 % 32) ∷ (32 * getD r 19 0 + getD r 18 0 % 32) ∷ (32 * getD r 21 0 + getD r 20 0 % 32)
+    ∷ (32 * getD r 23 0 + getD r 22 0 % 32) ∷ (32 * getD r 25 0 + getD r 24 0 % 32) ∷ (32 * getD r 27 0 + getD r 26 0 % 32)
+    ∷ (32 * getD r 29 0 + getD r 28 0 % 32) ∷ (32 * getD r 31 0 + getD r 30 0 % 32) ∷ []
 unfolding span
 packed-bytes r h = ap packed (part-bytes r 16 16 (omega arith))
 
@@ -95,6 +97,8 @@ packed-right-keys n r g h = right-list n 8 (part 16 16 r) (drop 32 r) g h
 
 pub packed-right-bytes : (r : List ℕ) → length r ≡ 64
     → packedRightKeys r
-    ≡ (32 * getD r 17 0 + getD r 32 0 % 32) ∷ (32 * getD r 19 0 + getD r 33 0 % 32) ∷ (32 * getD r 21 0 + getD r 34 0 % 32) ∷ (32 * getD r 23 0 + getD r 35 0 % 32) ∷ (32 * getD r 25 0 + getD r 36 0 % 32) ∷ (32 * getD r 27 0 + getD r 37 0 % 32) ∷ (32 * getD r 29 0 + getD r 38 0 % 32) ∷ (32 * getD r 31 0 + getD r 39 0 % 32) ∷ []
+    ≡ (32 * getD r 17 0 + getD r 32 0 % 32) ∷ (32 * getD r 19 0 + getD r 33 0 % 32) ∷ (32 * getD r 21 0 + getD r 34 0 % 32)
+    ∷ (32 * getD r 23 0 + getD r 35 0 % 32) ∷ (32 * getD r 25 0 + getD r 36 0 % 32) ∷ (32 * getD r 27 0 + getD r 37 0 % 32)
+    ∷ (32 * getD r 29 0 + getD r 38 0 % 32) ∷ (32 * getD r 31 0 + getD r 39 0 % 32) ∷ []
 unfolding span
 packed-right-bytes r h = ap₂ rightPacked (part-bytes r 16 16 (omega arith)) (part-bytes r 8 32 (omega arith))

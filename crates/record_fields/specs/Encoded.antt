@@ -64,15 +64,18 @@ not-kind k l n e = absurd (n (ap kindNumber e))
 
 module _ (n : ℕ) (ws : List ℕ) (w : getD ws 0 0 ≤ 32) (v : getD ws 1 0 ≤ 32) where
   -- a record with the keys ks and nothing else of these
-  plain : (x : NodeRecord) → x .width ≡ 0 → (x .kind ≡ SortMergeJoin → ⊥) → (x .kind ≡ Projection → ⊥) → (x .kind ≡ PartialSort → ⊥) → below 32 (columns (x .keys)) ≡ true → Inside x
+  plain : (x : NodeRecord) → x .width ≡ 0 → (x .kind ≡ SortMergeJoin → ⊥) → (x .kind ≡ Projection → ⊥) → (x .kind ≡ PartialSort → ⊥)
+      → below 32 (columns (x .keys)) ≡ true → Inside x
   plain x a b c d k = record { wide = omega arith; keys = k; others = λ e. absurd (b e); child = λ e. absurd (c e); prefix = λ e. absurd (d e) }
 
   left-keys : (on : List On) → onFit (getD ws 0 0) (getD ws 1 0) on ≡ true → below 32 (columns (map (λ k. k .key) on)) ≡ true
-  left-keys on e = ap (below 32) (on-columns on) ∙ fit-columns (getD ws 0 0) (map (λ k. k .key .col) on) w (and-left (columnsFit (getD ws 0 0) (map (λ k. k .key .col) on)) (columnsFit (getD ws 1 0) (map (λ k. k .other) on)) e)
+  left-keys on e = ap (below 32) (on-columns on) ∙ fit-columns (getD ws 0 0) (map (λ k. k .key .col) on) w
+      (and-left (columnsFit (getD ws 0 0) (map (λ k. k .key .col) on)) (columnsFit (getD ws 1 0) (map (λ k. k .other) on)) e)
 
   inside-of : (o : Op) → fieldsOk o ≡ true → columnsOk o ws ≡ true → Inside (recordOf n o)
   inside-of (source s) e c =
-      let a = and-left (between 1 32 (s .width)) (between 1 64 (s .streams)) (and-left (between 1 32 (s .width) && between 1 64 (s .streams)) (ltb (s .constants) (2 ^ 32) && few (s .keys)) e) in
+      let a = and-left (between 1 32 (s .width)) (between 1 64 (s .streams))
+      (and-left (between 1 32 (s .width) && between 1 64 (s .streams)) (ltb (s .constants) (2 ^ 32) && few (s .keys)) e) in
       let b : s .width ≤ 32 = leb-true (s .width) 32 (and-right (leb 1 (s .width)) (leb (s .width) 32) a) in
       record {
         wide = b;
@@ -81,7 +84,8 @@ module _ (n : ℕ) (ws : List ℕ) (w : getD ws 0 0 ≤ 32) (v : getD ws 1 0 ≤
         child = not-kind Source Projection (λ z. omega arith);
         prefix = not-kind Source PartialSort (λ z. omega arith);
       }
-  inside-of filter e c = plain (recordOf n filter) refl (not-kind Filter SortMergeJoin (λ z. omega arith)) (not-kind Filter Projection (λ z. omega arith)) (not-kind Filter PartialSort (λ z. omega arith)) refl
+  inside-of filter e c = plain (recordOf n filter) refl (not-kind Filter SortMergeJoin (λ z. omega arith)) (not-kind Filter Projection (λ z. omega arith))
+      (not-kind Filter PartialSort (λ z. omega arith)) refl
   inside-of (projection cols) e c =
       let a : length cols ≤ 32 = leb-true (length cols) 32 (and-right (leb 1 (length cols)) (leb (length cols) 32) e) in
       record {
@@ -91,29 +95,40 @@ module _ (n : ℕ) (ws : List ℕ) (w : getD ws 0 0 ≤ 32) (v : getD ws 1 0 ≤
         child = λ z i. subst (λ m. m < 32) (sym (fill-at 32 cols i a)) (below-at cols (below-more (getD ws 0 0) 32 cols w c) i);
         prefix = not-kind Projection PartialSort (λ z. omega arith);
       }
-  inside-of union e c = plain (recordOf n union) refl (not-kind Union SortMergeJoin (λ z. omega arith)) (not-kind Union Projection (λ z. omega arith)) (not-kind Union PartialSort (λ z. omega arith)) refl
-  inside-of (repartition p k h ks) e c = plain (recordOf n (repartition p k h ks)) refl (not-kind Repartition SortMergeJoin (λ z. omega arith)) (not-kind Repartition Projection (λ z. omega arith)) (not-kind Repartition PartialSort (λ z. omega arith)) (fit-below (getD ws 0 0) ks w c)
-  inside-of (coalesce f) e c = plain (recordOf n (coalesce f)) refl (not-kind Coalesce SortMergeJoin (λ z. omega arith)) (not-kind Coalesce Projection (λ z. omega arith)) (not-kind Coalesce PartialSort (λ z. omega arith)) refl
-  inside-of (sortOp p ks f) e c = plain (recordOf n (sortOp p ks f)) refl (not-kind Sort SortMergeJoin (λ z. omega arith)) (not-kind Sort Projection (λ z. omega arith)) (not-kind Sort PartialSort (λ z. omega arith)) (fit-below (getD ws 0 0) ks w c)
-  inside-of (mergeOp ks f) e c = plain (recordOf n (mergeOp ks f)) refl (not-kind Merge SortMergeJoin (λ z. omega arith)) (not-kind Merge Projection (λ z. omega arith)) (not-kind Merge PartialSort (λ z. omega arith)) (fit-below (getD ws 0 0) ks w c)
-  inside-of (globalLimit s f note) e c = plain (recordOf n (globalLimit s f note)) refl (not-kind GlobalLimit SortMergeJoin (λ z. omega arith)) (not-kind GlobalLimit Projection (λ z. omega arith)) (not-kind GlobalLimit PartialSort (λ z. omega arith)) (fit-below (getD ws 0 0) note w c)
-  inside-of (localLimit f note) e c = plain (recordOf n (localLimit f note)) refl (not-kind LocalLimit SortMergeJoin (λ z. omega arith)) (not-kind LocalLimit Projection (λ z. omega arith)) (not-kind LocalLimit PartialSort (λ z. omega arith)) (fit-below (getD ws 0 0) note w c)
+  inside-of union e c = plain (recordOf n union) refl (not-kind Union SortMergeJoin (λ z. omega arith)) (not-kind Union Projection (λ z. omega arith))
+      (not-kind Union PartialSort (λ z. omega arith)) refl
+  inside-of (repartition p k h ks) e c = plain (recordOf n (repartition p k h ks)) refl (not-kind Repartition SortMergeJoin (λ z. omega arith))
+      (not-kind Repartition Projection (λ z. omega arith)) (not-kind Repartition PartialSort (λ z. omega arith)) (fit-below (getD ws 0 0) ks w c)
+  inside-of (coalesce f) e c = plain (recordOf n (coalesce f)) refl (not-kind Coalesce SortMergeJoin (λ z. omega arith))
+      (not-kind Coalesce Projection (λ z. omega arith)) (not-kind Coalesce PartialSort (λ z. omega arith)) refl
+  inside-of (sortOp p ks f) e c = plain (recordOf n (sortOp p ks f)) refl (not-kind Sort SortMergeJoin (λ z. omega arith))
+      (not-kind Sort Projection (λ z. omega arith)) (not-kind Sort PartialSort (λ z. omega arith)) (fit-below (getD ws 0 0) ks w c)
+  inside-of (mergeOp ks f) e c = plain (recordOf n (mergeOp ks f)) refl (not-kind Merge SortMergeJoin (λ z. omega arith))
+      (not-kind Merge Projection (λ z. omega arith)) (not-kind Merge PartialSort (λ z. omega arith)) (fit-below (getD ws 0 0) ks w c)
+  inside-of (globalLimit s f note) e c = plain (recordOf n (globalLimit s f note)) refl (not-kind GlobalLimit SortMergeJoin (λ z. omega arith))
+      (not-kind GlobalLimit Projection (λ z. omega arith)) (not-kind GlobalLimit PartialSort (λ z. omega arith)) (fit-below (getD ws 0 0) note w c)
+  inside-of (localLimit f note) e c = plain (recordOf n (localLimit f note)) refl (not-kind LocalLimit SortMergeJoin (λ z. omega arith))
+      (not-kind LocalLimit Projection (λ z. omega arith)) (not-kind LocalLimit PartialSort (λ z. omega arith)) (fit-below (getD ws 0 0) note w c)
   inside-of (sortMergeJoin t on) e c =
       record {
         wide = omega arith;
         keys = left-keys on c;
-        others = λ z. ap (below 32) (others-are on e) ∙ fit-columns (getD ws 1 0) (map (λ k. k .other) on) v (and-right (columnsFit (getD ws 0 0) (map (λ k. k .key .col) on)) (columnsFit (getD ws 1 0) (map (λ k. k .other) on)) c);
+        others = λ z. ap (below 32) (others-are on e) ∙ fit-columns (getD ws 1 0) (map (λ k. k .other) on) v
+            (and-right (columnsFit (getD ws 0 0) (map (λ k. k .key .col) on)) (columnsFit (getD ws 1 0) (map (λ k. k .other) on)) c);
         child = not-kind SortMergeJoin Projection (λ z. omega arith);
         prefix = not-kind SortMergeJoin PartialSort (λ z. omega arith);
       }
     where
-      others-are : (on : List On) → some on ≡ true → map (λ k. k .other) (onOf (map (λ k. k .key) on) (fill 32 (map (λ k. k .other) on))) ≡ map (λ k. k .other) on
+      others-are : (on : List On) → some on ≡ true → map (λ k. k .other) (onOf (map (λ k. k .key) on) (fill 32 (map (λ k. k .other) on))) ≡ map
+          (λ k. k .other) on
       others-are on e =
           let l : length on ≤ 8 = leb-true (length on) 8 (and-right (leb 1 (length on)) (leb (length on) 8) e) in
           ap (map (λ k. k .other)) (on-back 32 on (omega arith))
-  inside-of (hashJoin t on) e c = plain (recordOf n (hashJoin t on)) refl (not-kind HashJoin SortMergeJoin (λ z. omega arith)) (not-kind HashJoin Projection (λ z. omega arith)) (not-kind HashJoin PartialSort (λ z. omega arith)) (left-keys on c)
+  inside-of (hashJoin t on) e c = plain (recordOf n (hashJoin t on)) refl (not-kind HashJoin SortMergeJoin (λ z. omega arith))
+      (not-kind HashJoin Projection (λ z. omega arith)) (not-kind HashJoin PartialSort (λ z. omega arith)) (left-keys on c)
   inside-of (outputRequirement ks d f) e c =
-      plain (recordOf n (outputRequirement ks d f)) refl (not-kind OutputRequirement SortMergeJoin (λ z. omega arith)) (not-kind OutputRequirement Projection (λ z. omega arith)) (not-kind OutputRequirement PartialSort (λ z. omega arith))
+      plain (recordOf n (outputRequirement ks d f)) refl (not-kind OutputRequirement SortMergeJoin (λ z. omega arith))
+      (not-kind OutputRequirement Projection (λ z. omega arith)) (not-kind OutputRequirement PartialSort (λ z. omega arith))
       (fit-below (getD ws 0 0) ks w (and-left (keysFit (getD ws 0 0) ks) (distributionFits (getD ws 0 0) d) c))
   inside-of (partialSort p ks k f) e c =
       let a = ltb-true k (length ks) (and-right (leb 1 k) (ltb k (length ks)) (and-right (some ks && fetchOk f) (leb 1 k && ltb k (length ks)) e)) in
@@ -141,7 +156,8 @@ count-is : (r : List ℕ) (n : ℕ) → r ≡ encode n (decode r) → getD r 12 
 unfolding encode
 count-is r n e = ap (λ x. getD x 12 0) e
 
-pub proper : (r : List ℕ) (n : ℕ) (ws : List ℕ) → r ≡ encode n (decode r) → fieldsOk (decode r) ≡ true → columnsOk (decode r) ws ≡ true → getD ws 0 0 ≤ 32 → getD ws 1 0 ≤ 32 → Proper r
+pub proper : (r : List ℕ) (n : ℕ) (ws : List ℕ) → r ≡ encode n (decode r) → fieldsOk (decode r) ≡ true → columnsOk (decode r) ws ≡ true → getD ws 0 0 ≤ 32
+    → getD ws 1 0 ≤ 32 → Proper r
 proper r n ws e f c w v =
     let i = inside-of n ws w v (decode r) f c in
     let x = fields-are r n e f in

@@ -94,7 +94,8 @@ module _ (x : Bool) (c d : Forest Marked) where
       (λ p n h ks e q. no-bool (sym e)) (λ g e q. refl)
       (λ o a e q. ap (λ s. breakBy s (record { op = o; mark = x }) c d) (a .0))
 
-by-mark : (x y : Bool) (o : Op) (c d : Forest Marked) (s : Shape) → breakBy s (record { op = o; mark = x }) c d ≡ breakBy s (record { op = o; mark = y }) c d
+by-mark : (x y : Bool) (o : Op) (c d : Forest Marked) (s : Shape) → breakBy s (record { op = o; mark = x }) c d ≡ breakBy s
+    (record { op = o; mark = y }) c d
 by-mark x y o c d (aSort p ks g) = refl
 by-mark x y o c d (aMerge ks g) = refl
 by-mark x y o c d (aRepartition p n h ks) = refl
@@ -115,7 +116,8 @@ by-size (aSort p ks g) m c d h = omega arith
 by-size (aMerge ks g) m c d h = let x = first-size false d in omega arith
 by-size (aRepartition p n q ks) m c d h =
     let x = first-size false d in
-    cond-le (suc (size c)) (keepsOrder p (at0 (known c))) (node (repartition false n q ks) false (markFirst false d)) (rebuild (m .op) false d) (omega arith)
+    cond-le (suc (size c)) (keepsOrder p (at0 (known c))) (node (repartition false n q ks) false (markFirst false d)) (rebuild (m .op) false d)
+    (omega arith)
     (omega arith)
 by-size (aCoalesce g) m c d h = omega arith
 by-size another m c d h = omega arith
@@ -159,7 +161,8 @@ module _ (m : List ℕ) (w i : ℕ) (r ks : List ℕ) (p : Puts m w r ks) (er : 
         → Grown m w m' a (brokenRepartition (decode r) (forest m (slot m i .kids)) (forest m ks)) (w + 1)
     repartition-broken q m' a g =
         grown-as (parts true q)
-        (replaced-grown m w r ks p one-child false k hk (remark (λ q. false) (decode r)) x new-record (remark-ok m w r ks p one-child false (λ q. false)) m' a (w + 1) g)
+        (replaced-grown m w r ks p one-child false k hk (remark (λ q. false) (decode r)) x new-record (remark-ok m w r ks p one-child false (λ q. false)) m'
+        a (w + 1) g)
 
 -- ---- a merge
 
@@ -236,7 +239,8 @@ module _ (m₀ : List ℕ) (u h : ℕ) (p : Enters m₀ u h) where
 
       broke : Broke m (index h) (take n kids) ≡ planWithOrderBreakingVariants (treeOf m₀ h)
       broke =
-          (λ i. breakBy (shape (decode (same-slot (p .arena) (p .here) (q .made) i .rec))) (record { op = decode (same-slot (p .arena) (p .here) (q .made) i .rec); mark = true })
+          (λ i. breakBy (shape (decode (same-slot (p .arena) (p .here) (q .made) i .rec)))
+          (record { op = decode (same-slot (p .arena) (p .here) (q .made) i .rec); mark = true })
           (same-kids (p .arena) (p .here) (q .made) i) (news m₀ u h p (eachOf m₀ h) j w kids m q n e c refl i))
           ∙ by-mark true (marked h) o c₀ (breakEach q₀ c₀) (shape o)
           ∙ sym (ap (λ t. planWithOrderBreakingVariants (setMark (marked h) t)) (view (p .arena) (p .here) .tree))
@@ -244,4 +248,5 @@ module _ (m₀ : List ℕ) (u h : ℕ) (p : Enters m₀ u h) where
       pub break-end : (b : Bool) → b ≡ true → (m' : List ℕ) (r : At) → Grown m w m' r (Broke m (index h) (take n kids)) (w + 1)
           → Grown m₀ u m' r (breakOne b (treeOf m₀ h)) (u + sizeT (treeOf m₀ h))
       break-end b eb m' r g =
-          going-end m₀ u h p (eachOf m₀ h) j w kids m q n e c (breakOne b (treeOf m₀ h)) m' r (grown-as (broke ∙ sym (ap (λ z. breakOne z (treeOf m₀ h)) eb)) g)
+          going-end m₀ u h p (eachOf m₀ h) j w kids m q n e c (breakOne b (treeOf m₀ h)) m' r
+          (grown-as (broke ∙ sym (ap (λ z. breakOne z (treeOf m₀ h)) eb)) g)

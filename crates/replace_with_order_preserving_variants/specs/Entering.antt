@@ -72,7 +72,8 @@ module _ (m₀ : List ℕ) (u h : ℕ) (p : Enters m₀ u h) (each : ℕ → For
       news z = new-kids (p .arena) (p .here) (q .made) e c (each j) (each 0 (forest m₀ hs)) z (q .is)
 
       pub going-puts : each j none ≡ none → size (each 0 (forest m₀ (slot m₀ (index h) .kids))) ≤ size (forest m₀ (slot m₀ (index h) .kids))
-          → OkT (node (decode (slot m₀ (index h) .rec)) false (each 0 (forest m₀ (slot m₀ (index h) .kids)))) → Puts m w (slot m (index h) .rec) (take n kids)
+          → OkT (node (decode (slot m₀ (index h) .rec)) false (each 0 (forest m₀ (slot m₀ (index h) .kids)))) → Puts m w (slot m (index h) .rec)
+          (take n kids)
       going-puts z f k =
           let v = q .left in let t = whole (p .arena) (p .here) in let l = q .made .long in let r = p .room in let s = p .small in let x = q .made .more in
           let y = ap size (news z) in let v₀ = view (p .arena) (p .here) in let g = v₀ .small in

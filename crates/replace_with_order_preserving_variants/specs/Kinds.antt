@@ -18,7 +18,8 @@ abbrev Apart : Op → Type 0
 Apart o = (shape o ≡ another) × (eqb (code o) 5 ≡ false) × (eqb (code o) 6 ≡ false) × (eqb (code o) 7 ≡ false) × (eqb (code o) 8 ≡ false)
 
 pub op-ind : (P : Op → Type 0) → ((p : Bool) (ks : List Key) (f : Fetch) → P (sortOp p ks f)) → ((ks : List Key) (f : Fetch) → P (mergeOp ks f))
-    → ((p : Bool) (n : ℕ) (h : Bool) (ks : List Key) → P (repartition p n h ks)) → ((f : Fetch) → P (coalesce f)) → ((o : Op) → Apart o → P o) → (o : Op) → P o
+    → ((p : Bool) (n : ℕ) (h : Bool) (ks : List Key) → P (repartition p n h ks)) → ((f : Fetch) → P (coalesce f)) → ((o : Op) → Apart o → P o) → (o : Op)
+    → P o
 op-ind P s m r c q (source d) = q (source d) (refl, refl, refl, refl, refl)
 op-ind P s m r c q filter = q filter (refl, refl, refl, refl, refl)
 op-ind P s m r c q (projection cols) = q (projection cols) (refl, refl, refl, refl, refl)
@@ -41,7 +42,8 @@ treated o = (eqb (code o) 5 || eqb (code o) 6) || (eqb (code o) 7 || eqb (code o
 -- they have one child
 pub one-kid : (n : ℕ) (o : Op) → treated o ≡ true → childrenOk o n ≡ true → n ≡ 1
 one-kid n =
-    op-ind (λ o. treated o ≡ true → childrenOk o n ≡ true → n ≡ 1) (λ p ks f t e. eqb-true n 1 e) (λ ks f t e. eqb-true n 1 e) (λ p k h ks t e. eqb-true n 1 e)
+    op-ind (λ o. treated o ≡ true → childrenOk o n ≡ true → n ≡ 1) (λ p ks f t e. eqb-true n 1 e) (λ ks f t e. eqb-true n 1 e)
+    (λ p k h ks t e. eqb-true n 1 e)
     (λ f t e. eqb-true n 1 e)
     (λ o a t e. no-bool (sym (ap₂ _||_ (ap₂ _||_ (a .1) (a .2)) (ap₂ _||_ (a .3) (a .4))) ∙ t))
 

@@ -108,11 +108,19 @@ module _ (m : List ℕ) (i : ℕ) (p : ℕ → Bool) (a : Arena m (i + 1)) where
     pub cutting-room : j < length (slot m i .kids) → j < 8
     cutting-room l = let f = shown m i a .few in omega arith
 
-    module _ (l : j < length (slot m i .kids)) (k : ℕ) (e : k ≡ getD (slot m i .kids) j 0) (x : Bool) (hx : x ≡ marked k && p j) (r : ℕ) (c : Marks k x r) where
+    module _ (l : j < length (slot m i .kids)) (k : ℕ) (e : k ≡ getD (slot m i .kids) j 0) (x : Bool) (hx : x ≡ marked k && p j) (r : ℕ)
+        (c : Marks k x r) where
       grown : Grown m (i + 1) m (record { used = i + 1; root = r }) (setMark (marked k && p j) (treeOf m k)) (i + 1)
       grown =
           let s = c .slot in let b = kid-below m i a j l k e in
-          record { arena = a; old = refl; more = omega arith; here = omega arith; tree = c .tree m ∙ ap (λ z. setMark z (treeOf m k)) hx; room = omega arith }
+          record {
+            arena = a;
+            old = refl;
+            more = omega arith;
+            here = omega arith;
+            tree = c .tree m ∙ ap (λ z. setMark z (treeOf m k)) hx;
+            room = omega arith;
+          }
 
       split : masked (from p j) (forest m (drop j (slot m i .kids)))
           ≡ plant (setMark (marked k && p j) (treeOf m k)) (masked (from p (suc j)) (forest m (drop (suc j) (slot m i .kids))))
@@ -252,7 +260,8 @@ module _ (m : List ℕ) (u h : ℕ) (p : Carrying m u h) where
 
     pub cut-grown : (b : Bool) (m' : List ℕ) (a : At) → Grown m u m' a (node (decode (slot m (index h) .rec)) false (forest m (take n kids))) (u + 1)
         → (r : ℕ) → Marks (a .root) b r
-        → Grown m u m' (record { used = a .used; root = r }) (node (decode (slot m (index h) .rec)) b (masked q (forest m (slot m (index h) .kids)))) (u + 1)
+        → Grown m u m' (record { used = a .used; root = r }) (node (decode (slot m (index h) .rec)) b (masked q (forest m (slot m (index h) .kids))))
+        (u + 1)
     cut-grown b m' a g r k =
         let s = k .slot in let x = g .here in
         record {

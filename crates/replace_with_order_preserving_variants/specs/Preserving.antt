@@ -70,7 +70,8 @@ module _ (spr spm : Bool) (f : Fetch) (x : Bool) (c d : Forest Marked) where
   pub by-coalesce : (o : Op) → eqb (code o) 6 ≡ true → isFetchedCoalesce o ≡ false → preserveBy (shape o) spr spm f (record { op = o; mark = x }) c d
       ≡ mergeOver spm f (record { op = o; mark = true }) d
   by-coalesce =
-      op-ind (λ o. eqb (code o) 6 ≡ true → isFetchedCoalesce o ≡ false → Variant o ≡ mergeOver spm f (record { op = o; mark = true }) d) (λ p ks g e. no-bool e)
+      op-ind (λ o. eqb (code o) 6 ≡ true → isFetchedCoalesce o ≡ false → Variant o ≡ mergeOver spm f (record { op = o; mark = true }) d)
+      (λ p ks g e. no-bool e)
       (λ ks g e. no-bool e) (λ p n h ks e. no-bool e) plain
       (λ o a e. no-bool (sym (a .2) ∙ e))
     where
@@ -98,12 +99,14 @@ by-mark spr spm f x y o c d another = refl
 
 -- ---- sizes: nothing is added
 
-by-size : (s : Shape) (spr spm : Bool) (f : Fetch) (m : Marked) (c d : Forest Marked) → size d ≤ size c → sizeT (preserveBy s spr spm f m c d) ≤ suc (size c)
+by-size : (s : Shape) (spr spm : Bool) (f : Fetch) (m : Marked) (c d : Forest Marked) → size d ≤ size c → sizeT (preserveBy s spr spm f m c d) ≤ suc
+    (size c)
 by-size (aSort p ks g) spr spm f m c d h = omega arith
 by-size (aMerge ks g) spr spm f m c d h = omega arith
 by-size (aRepartition p n q ks) spr spm f m c d h =
     let x = first-size true d in
-    cond-le (suc (size c)) (not (keepsOrder p (at0 (known c))) && spr) (rebuild (repartition true n q ks) false (markFirst true d)) (rebuild (m .op) false d)
+    cond-le (suc (size c)) (not (keepsOrder p (at0 (known c))) && spr) (rebuild (repartition true n q ks) false (markFirst true d))
+    (rebuild (m .op) false d)
     (omega arith) (omega arith)
 by-size (aCoalesce Unlimited) spr spm f m c d h =
     let x = first-size true d in
@@ -165,7 +168,8 @@ module _ (m : List ℕ) (w i : ℕ) (r ks : List ℕ) (p : Puts m w r ks) (h : i
             → Grown m w m' a (preservedRepartition spr (decode r) (forest m (slot m i .kids)) (forest m ks)) (w + 1)
         repartition-marked q m' a g =
             grown-as (tests true q)
-            (rebuilt-grown m w r ks p one-child true k hk (remark (λ q. true) (decode r)) x new-record (remark-ok m w r ks p one-child true (λ q. true)) m' a (w + 1) g)
+            (rebuilt-grown m w r ks p one-child true k hk (remark (λ q. true) (decode r)) x new-record (remark-ok m w r ks p one-child true (λ q. true)) m'
+            a (w + 1) g)
 
 -- ---- a coalesce
 
@@ -189,7 +193,8 @@ module _ (m : List ℕ) (w : ℕ) (r ks : List ℕ) (p : Puts m w r ks) (e : eqb
     by-order : (l : List Key) → l ≡ knownOrder (at0 (known (forest m ks)))
         → cond (spm && not (isNil l)) (node (mergeOp l f) false (markFirst true (forest m ks))) (rebuild (decode r) false (forest m ks))
         ≡ mergeOver spm f (record { op = decode r; mark = true }) (forest m ks)
-    by-order l q = ap (λ z. cond (spm && not (isNil z)) (node (mergeOp z f) false (markFirst true (forest m ks))) (rebuild (decode r) false (forest m ks))) q
+    by-order l q = ap (λ z. cond (spm && not (isNil z)) (node (mergeOp z f) false (markFirst true (forest m ks))) (rebuild (decode r) false (forest m ks)))
+        q
 
     -- the child has no order
     pub coalesce-unordered : (v : Order) → Ordered (knownOrder (told b)) v → v ≡ Unordered → (m' : List ℕ) (a : At)
@@ -285,7 +290,8 @@ module _ (m₀ : List ℕ) (u h : ℕ) (spr spm : Bool) (f : Fetch) (p : Preserv
         old = refl;
         more = omega arith;
         here = omega arith;
-        tree = k .tree m₀ ∙ ap (setMark false) (view (E .arena) (E .here) .tree) ∙ sym (by-fetched spr spm f true c₀ (preserveEach spr spm f c₀) o e) ∙ sym (now z);
+        tree = k .tree m₀ ∙ ap (setMark false) (view (E .arena) (E .here) .tree) ∙ sym (by-fetched spr spm f true c₀ (preserveEach spr spm f c₀) o e)
+            ∙ sym (now z);
         room = omega arith;
       }
 
@@ -314,7 +320,8 @@ module _ (m₀ : List ℕ) (u h : ℕ) (spr spm : Bool) (f : Fetch) (p : Preserv
       pub preserve-puts : Puts m w (slot m (index h) .rec) (take n kids)
       preserve-puts =
           going-puts m₀ u h E (eachOf spr spm f) j w kids m q n e c refl (each-size spr spm f c₀)
-          (kept-node {a = false} {b = isAll f} {h = fetchOk f} o o false false c₀ (preserveEach spr spm f c₀) (like-refl o) (fit .0) all-kept .ok (p .fetch) (view (E .arena) (E .here) .ok))
+          (kept-node {a = false} {b = isAll f} {h = fetchOk f} o o false false c₀ (preserveEach spr spm f c₀) (like-refl o) (fit .0) all-kept .ok (p .fetch)
+          (view (E .arena) (E .here) .ok))
 
       became : Became m (index h) (take n kids) spr spm f
           ≡ preserveBy (shape (decode (slot m₀ (index h) .rec))) spr spm f (record { op = decode (slot m₀ (index h) .rec); mark = true })
@@ -326,7 +333,8 @@ module _ (m₀ : List ℕ) (u h : ℕ) (spr spm : Bool) (f : Fetch) (p : Preserv
 
       pub preserve-ok : OkT (Became m (index h) (take n kids) spr spm f)
       preserve-ok =
-          subst OkT (sym became) (preserveBy-kept spr spm f true c₀ (preserveEach spr spm f c₀) o (fit .0) (fit .1) all-kept .ok (p .fetch) (view (E .arena) (E .here) .ok))
+          subst OkT (sym became) (preserveBy-kept spr spm f true c₀ (preserveEach spr spm f c₀) o (fit .0) (fit .1) all-kept .ok (p .fetch)
+          (view (E .arena) (E .here) .ok))
 
       pub preserve-plain : (b : Bool) → b ≡ isFetchedCoalesce (decode (slot m₀ (index h) .rec)) → b ≡ false
           → isFetchedCoalesce (decode (slot m (index h) .rec)) ≡ false

@@ -32,7 +32,8 @@ pub grown-as : {m : List ℕ} {u : ℕ} {m' : List ℕ} {a : At} {t t' : Tree} {
 grown-as {m} {u} {m'} {a} {t} {t'} {top} e g = subst (λ x. Grown m u m' a x top) e g
 
 -- over the children that a loop has made
-pub made-then : {m₀ : List ℕ} {u j w : ℕ} {kids m m' : List ℕ} {a : At} {t : Tree} {top : ℕ} (top' : ℕ) → Kids m₀ u j w kids m → Grown m w m' a t top → top ≤ top' → Grown m₀ u m' a t top'
+pub made-then : {m₀ : List ℕ} {u j w : ℕ} {kids m m' : List ℕ} {a : At} {t : Tree} {top : ℕ} (top' : ℕ) → Kids m₀ u j w kids m → Grown m w m' a t top
+    → top ≤ top' → Grown m₀ u m' a t top'
 made-then {m₀} {u} {j} {w} {kids} {m} {m'} top' p g h =
     let x = p .more in let y = g .more in let z = g .room in
     record { arena = g .arena; old = same-trans u w m₀ m m' x (p .old) (g .old); more = omega arith; here = g .here; tree = g .tree; room = omega arith }

@@ -109,7 +109,8 @@ module _ (m : List ℕ) (u : ℕ) (r : List ℕ) (h i : ℕ) (p : Sorting m u r 
           fetch = ap fetchOk ef ∙ node-fetch (decode r) (map (λ F. F .width) (known (forest m (h ∷ [])))) (p .puts .ok .0);
         }
 
-    module _ (b : Bool) (eb : b ≡ useOrderPreservingVariant (settingsOf s) (fromBytes r .keys) (node (decode r) false (forest m (h ∷ []))) (treeOf m h)) where
+    module _ (b : Bool) (eb : b ≡ useOrderPreservingVariant (settingsOf s) (fromBytes r .keys) (node (decode r) false (forest m (h ∷ [])))
+        (treeOf m h)) where
       abbrev A : Tree
       A = planWithOrderPreservingVariants (s .spr || b) (s .spm || b) f (treeOf m h)
 
@@ -146,7 +147,8 @@ module _ (m : List ℕ) (u : ℕ) (r : List ℕ) (h i : ℕ) (p : Sorting m u r 
         sort-gone e m₂ z k =
             let c = g .room in
             grown-as (ap acceptOne (g .tree) ∙ by-met true e)
-            (grown-then m u m₁ a A (u + sizeT (treeOf m h)) m₂ z (acceptOne (treeOf m₁ (a .root))) (a .used + 1) (u + sizeT (treeOf m h) + 1) g k (omega arith))
+            (grown-then m u m₁ a A (u + sizeT (treeOf m h)) m₂ z (acceptOne (treeOf m₁ (a .root))) (a .used + 1) (u + sizeT (treeOf m h) + 1) g k
+            (omega arith))
 
         -- the sort stays
         same-kids : forest m₁ (h ∷ []) ≡ forest m (h ∷ [])
@@ -191,7 +193,8 @@ replace-not : (s : walk.Settings) (c : Forest Marked) (o : Op) (x y : Bool) → 
     → replaceBy (shape o) s (node o false c) ≡ node o false c
 replace-not s c =
     op-ind (λ o. (x y : Bool) → x ≡ eqb (code o) 7 → x && y ≡ false → (x ≡ true → y ≡ headMark c) → replaceBy (shape o) s (node o false c) ≡ node o false c)
-    (λ p ks f x y e z q. let t = node (sortOp p ks f) false c in ap (λ w. cond w (accepted t (alternatePlan s ks f t (kid0 t c))) t) (sym (q e) ∙ sym (ap (λ w. w && y) e) ∙ z))
+    (λ p ks f x y e z q. let t = node (sortOp p ks f) false c in
+    ap (λ w. cond w (accepted t (alternatePlan s ks f t (kid0 t c))) t) (sym (q e) ∙ sym (ap (λ w. w && y) e) ∙ z))
     (λ ks f x y e z q. refl) (λ p n h ks x y e z q. refl) (λ f x y e z q. refl) (λ o a x y e z q. ap (λ w. replaceBy w s (node o false c)) (a .0))
 
 module _ (m : List ℕ) (u : ℕ) (r ks : List ℕ) (i : ℕ) (p : Opened m u r ks i) where
@@ -265,7 +268,8 @@ module _ (m : List ℕ) (u : ℕ) (r ks : List ℕ) (i : ℕ) (p : Opened m u r 
       pub step-sort : (m₂ : List ℕ) (a : At)
           → Grown m₁ w m₂ a (replaceBy (shape (decode r)) (settingsOf s) (node (decode r) false (forest m₁ (getD kids 0 0 ∷ []))))
           (w + sizeT (treeOf m₁ (getD kids 0 0)) + 1)
-          → Grown m u m₂ a (replaceWithOrderPreservingVariants (settingsOf s) (node (decode r) false (forest m ks))) (u + stepRoom (suc (size (forest m ks))))
+          → Grown m u m₂ a (replaceWithOrderPreservingVariants (settingsOf s) (node (decode r) false (forest m ks)))
+          (u + stepRoom (suc (size (forest m ks))))
       step-sort m₂ a g =
           let x = kids-few m ks in let n = c .room in let v = first-size in
           grown-as (ap (λ l. replaceBy (shape (decode r)) (settingsOf s) (node (decode r) false (forest m₁ l))) (sym taken-one) ∙ step-def)

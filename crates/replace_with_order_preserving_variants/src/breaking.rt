@@ -56,7 +56,9 @@ fn enters(m: &[u8], i: usize, j: usize) -> bool
 // kept the order.
 fn break_repartition(m: &mut [u8], w: usize, i: usize, r: &[u8], ks: &[usize]) -> At
     requires { ⌜ Puts (now m) w (now r) (now ks) × (i < w) × (now r ≡ slot (now m) i .rec) × (eqb (code (decode (now r))) 5 ≡ true) ⌝ }
-    ensures { λ a. ⌜ Grown (now (m .entry)) w (now (m .exit)) a (brokenRepartition (decode (now (r .entry))) (forest (now (m .entry)) (slot (now (m .entry)) i .kids)) (forest (now (m .entry)) (now (ks .entry)))) (w + 1) ⌝ }
+    ensures { λ a. ⌜ Grown (now (m .entry)) w (now (m .exit)) a
+        (brokenRepartition (decode (now (r .entry))) (forest (now (m .entry)) (slot (now (m .entry)) i .kids)) (forest (now (m .entry)) (now (ks .entry))))
+        (w + 1) ⌝ }
 {
     if maintains_input_order(m, i, 0) {
         let x = with_mark(r, false);
@@ -68,7 +70,8 @@ fn break_repartition(m: &mut [u8], w: usize, i: usize, r: &[u8], ks: &[usize]) -
 // A merge with the record r over the children ks: a coalesce with its fetch.
 fn break_merge(m: &mut [u8], w: usize, r: &[u8], ks: &[usize]) -> At
     requires { ⌜ Puts (now m) w (now r) (now ks) × (eqb (code (decode (now r))) 8 ≡ true) ⌝ }
-    ensures { λ a. ⌜ Grown (now (m .entry)) w (now (m .exit)) a (brokenMerge (decode (now (r .entry))) (forest (now (m .entry)) (now (ks .entry)))) (w + 1) ⌝ }
+    ensures { λ a. ⌜ Grown (now (m .entry)) w (now (m .exit)) a (brokenMerge (decode (now (r .entry))) (forest (now (m .entry)) (now (ks .entry))))
+        (w + 1) ⌝ }
 {
     let x = coalesce_record(node_properties::fetch(r));
     put_over(m, w, &x, set_mark(ks[0], false))
@@ -116,7 +119,8 @@ fn break_entered(m: &mut [u8], u: usize, h: usize, entered: bool) -> At
 // The tree at h.
 pub fn plan_with_order_breaking_variants(m: &mut [u8], u: usize, h: usize) -> At
     requires { ⌜ Enters (now m) u h ⌝ }
-    ensures { λ a. ⌜ Grown (now (m .entry)) u (now (m .exit)) a (walk.planWithOrderBreakingVariants (treeOf (now (m .entry)) h)) (u + sizeT (treeOf (now (m .entry)) h)) ⌝ }
+    ensures { λ a. ⌜ Grown (now (m .entry)) u (now (m .exit)) a (walk.planWithOrderBreakingVariants (treeOf (now (m .entry)) h))
+        (u + sizeT (treeOf (now (m .entry)) h)) ⌝ }
 {
     break_entered(m, u, h, true)
 }

@@ -44,7 +44,8 @@ pub struct Settings {
 // preferred, or where it is final over unbounded rows.
 fn use_order_preserving_variant(m: &[u8], r: &[u8], h: usize, s: Settings) -> bool
     requires { ⌜ Sorts (now m) (now r) h ⌝ }
-    ensures { λ b. ⌜ b ≡ walk.useOrderPreservingVariant (settingsOf s) (fromBytes (now (r .entry)) .keys) (node (decode (now (r .entry))) false (forest (now (m .entry)) (h ∷ []))) (treeOf (now (m .entry)) h) ⌝ }
+    ensures { λ b. ⌜ b ≡ walk.useOrderPreservingVariant (settingsOf s) (fromBytes (now (r .entry)) .keys)
+        (node (decode (now (r .entry))) false (forest (now (m .entry)) (h ∷ []))) (treeOf (now (m .entry)) h) ⌝ }
 {
     let x = summary(m, h);
     s.prefer | (x.endless & !meets(row(m, h), keys(r)))
@@ -88,7 +89,9 @@ fn accept(m: &mut [u8], u: usize, h: usize) -> At
 // the Rust makes then, reach no answer (breaking.rt).
 fn replace_sort(m: &mut [u8], u: usize, r: &[u8], h: usize, i: usize, s: Settings) -> At
     requires { ⌜ Sorting (now m) u (now r) h i ⌝ }
-    ensures { λ a. ⌜ Grown (now (m .entry)) u (now (m .exit)) a (walk.replaceBy (shape (decode (now (r .entry)))) (settingsOf s) (node (decode (now (r .entry))) false (forest (now (m .entry)) (h ∷ [])))) (u + sizeT (treeOf (now (m .entry)) h) + 1) ⌝ }
+    ensures { λ a. ⌜ Grown (now (m .entry)) u (now (m .exit)) a
+        (walk.replaceBy (shape (decode (now (r .entry)))) (settingsOf s) (node (decode (now (r .entry))) false (forest (now (m .entry)) (h ∷ []))))
+        (u + sizeT (treeOf (now (m .entry)) h) + 1) ⌝ }
 {
     let better = use_order_preserving_variant(m, r, h, s);
     let order = normal_form(row(m, h), keys(r));
@@ -117,7 +120,9 @@ pub fn replace_with_order_preserving_variants(
     s: Settings,
 ) -> At
     requires { ⌜ Opened (now m) u (now r) (now ks) i ⌝ }
-    ensures { λ a. ⌜ Grown (now (m .entry)) u (now (m .exit)) a (walk.replaceWithOrderPreservingVariants (settingsOf s) (node (decode (now (r .entry))) false (forest (now (m .entry)) (now (ks .entry))))) (u + stepRoom (suc (size (forest (now (m .entry)) (now (ks .entry)))))) ⌝ }
+    ensures { λ a. ⌜ Grown (now (m .entry)) u (now (m .exit)) a
+        (walk.replaceWithOrderPreservingVariants (settingsOf s) (node (decode (now (r .entry))) false (forest (now (m .entry)) (now (ks .entry)))))
+        (u + stepRoom (suc (size (forest (now (m .entry)) (now (ks .entry)))))) ⌝ }
 {
     let c = update_order_preservation_ctx_children_data(m, u, ks);
     let kids = c.kids;

@@ -61,7 +61,8 @@ fn inspect_child(m: &[u8], i: usize, j: usize) -> bool
 // The handles of the children of node i: the path is cut towards nodes whose order it does not maintain.
 fn inspected(m: &[u8], i: usize) -> [usize; 8]
     requires { ⌜ Arena (now m) (i + 1) ⌝ }
-    ensures { λ ks. ⌜ Cut (now (m .entry)) i (walk.inspectChild (decode (slot (now (m .entry)) i .rec)) (known (forest (now (m .entry)) (slot (now (m .entry)) i .kids)))) ks ⌝ }
+    ensures { λ ks. ⌜ Cut (now (m .entry)) i
+        (walk.inspectChild (decode (slot (now (m .entry)) i .rec)) (known (forest (now (m .entry)) (slot (now (m .entry)) i .kids)))) ks ⌝ }
 {
     let n = child_count(m, i);
     let mut kids = [0usize; 8];

@@ -37,7 +37,9 @@ ghost use Rattle.replace_with_order_preserving_variants.specs.Preserving
 // better.
 fn preserve_repartition(m: &mut [u8], w: usize, i: usize, r: &[u8], ks: &[usize], spr: bool) -> At
     requires { ⌜ Puts (now m) w (now r) (now ks) × (i < w) × (now r ≡ slot (now m) i .rec) × (eqb (code (decode (now r))) 5 ≡ true) ⌝ }
-    ensures { λ a. ⌜ Grown (now (m .entry)) w (now (m .exit)) a (preservedRepartition spr (decode (now (r .entry))) (forest (now (m .entry)) (slot (now (m .entry)) i .kids)) (forest (now (m .entry)) (now (ks .entry)))) (w + 1) ⌝ }
+    ensures { λ a. ⌜ Grown (now (m .entry)) w (now (m .exit)) a
+        (preservedRepartition spr (decode (now (r .entry))) (forest (now (m .entry)) (slot (now (m .entry)) i .kids))
+        (forest (now (m .entry)) (now (ks .entry)))) (w + 1) ⌝ }
 {
     if !maintains_input_order(m, i, 0) & spr {
         let x = with_mark(r, true);
@@ -57,8 +59,10 @@ fn preserve_coalesce(
     spm: bool,
     fetch: Fetch,
 ) -> At
-    requires { ⌜ Puts (now m) w (now r) (now ks) × (i < w) × (eqb (code (decode (now r))) 6 ≡ true) × OkT (mergeOver spm fetch (record { op = decode (now r); mark = true }) (forest (now m) (now ks))) ⌝ }
-    ensures { λ a. ⌜ Grown (now (m .entry)) w (now (m .exit)) a (mergeOver spm fetch (record { op = decode (now (r .entry)); mark = true }) (forest (now (m .entry)) (now (ks .entry)))) (w + 1) ⌝ }
+    requires { ⌜ Puts (now m) w (now r) (now ks) × (i < w) × (eqb (code (decode (now r))) 6 ≡ true)
+        × OkT (mergeOver spm fetch (record { op = decode (now r); mark = true }) (forest (now m) (now ks))) ⌝ }
+    ensures { λ a. ⌜ Grown (now (m .entry)) w (now (m .exit)) a (mergeOver spm fetch (record { op = decode (now (r .entry)); mark = true })
+        (forest (now (m .entry)) (now (ks .entry)))) (w + 1) ⌝ }
 {
     if !spm {
         return update_plan_from_children(m, w, r, ks, i);
@@ -82,7 +86,8 @@ fn preserve_over(
     spm: bool,
     fetch: Fetch,
 ) -> At
-    requires { ⌜ Puts (now m) w (slot (now m) i .rec) (now ks) × (i < w) × (isFetchedCoalesce (decode (slot (now m) i .rec)) ≡ false) × OkT (Became (now m) i (now ks) spr spm fetch) ⌝ }
+    requires { ⌜ Puts (now m) w (slot (now m) i .rec) (now ks) × (i < w) × (isFetchedCoalesce (decode (slot (now m) i .rec)) ≡ false)
+        × OkT (Became (now m) i (now ks) spr spm fetch) ⌝ }
     ensures { λ a. ⌜ Grown (now (m .entry)) w (now (m .exit)) a (Became (now (m .entry)) i (now (ks .entry)) spr spm fetch) (w + 1) ⌝ }
 {
     let r = read64(record_at(m, i));
@@ -98,7 +103,8 @@ fn preserve_over(
 // The tree at h, if it is marked; any other stays. A fetched coalesce stays too, unmarked, and nothing below it is entered.
 fn preserve_marked(m: &mut [u8], u: usize, h: usize, spr: bool, spm: bool, fetch: Fetch) -> At
     requires { ⌜ Preserves (now m) u h fetch ⌝ }
-    ensures { λ a. ⌜ Grown (now (m .entry)) u (now (m .exit)) a (preserveOne spr spm fetch (treeOf (now (m .entry)) h)) (u + sizeT (treeOf (now (m .entry)) h)) ⌝ }
+    ensures { λ a. ⌜ Grown (now (m .entry)) u (now (m .exit)) a (preserveOne spr spm fetch (treeOf (now (m .entry)) h))
+        (u + sizeT (treeOf (now (m .entry)) h)) ⌝ }
 {
     if !is_marked(h) {
         return At { used: u, root: h };
@@ -135,7 +141,8 @@ pub fn plan_with_order_preserving_variants(
     fetch: Fetch,
 ) -> At
     requires { ⌜ Preserves (now m) u h fetch ⌝ }
-    ensures { λ a. ⌜ Grown (now (m .entry)) u (now (m .exit)) a (planWithOrderPreservingVariants spr spm fetch (treeOf (now (m .entry)) h)) (u + sizeT (treeOf (now (m .entry)) h)) ⌝ }
+    ensures { λ a. ⌜ Grown (now (m .entry)) u (now (m .exit)) a (planWithOrderPreservingVariants spr spm fetch (treeOf (now (m .entry)) h))
+        (u + sizeT (treeOf (now (m .entry)) h)) ⌝ }
 {
     preserve_marked(m, u, set_mark(h, true), spr, spm, fetch)
 }

@@ -80,14 +80,17 @@ pub record Became (m : List ℕ) (u : ℕ) (m' : List ℕ) (h n : ℕ) (a : At) 
 
 -- It is that of node number n of the tree at h
 abbrev pub Answers : List ℕ → ℕ → List ℕ → ℕ → ℕ → Sorted → Type 0
-Answers m u m' h n NoSuchNode = (partiallySorted n (planT (treeOf m h)) ≡ refused refusals.NoSuchNode) × (outcome (fromNode n (planT (treeOf m h))) ≡ missing)
-Answers m u m' h n AllKeysMet = (partiallySorted n (planT (treeOf m h)) ≡ refused refusals.AllKeysMet) × (outcome (fromNode n (planT (treeOf m h))) ≡ found pastTheEnd)
+Answers m u m' h n NoSuchNode = (partiallySorted n (planT (treeOf m h)) ≡ refused refusals.NoSuchNode)
+    × (outcome (fromNode n (planT (treeOf m h))) ≡ missing)
+Answers m u m' h n AllKeysMet = (partiallySorted n (planT (treeOf m h)) ≡ refused refusals.AllKeysMet)
+    × (outcome (fromNode n (planT (treeOf m h))) ≡ found pastTheEnd)
 Answers m u m' h n (Becomes a) = Became m u m' h n a
 
 pub answers-none : (m : List ℕ) (u : ℕ) (m' : List ℕ) (h n : ℕ) → outcome (fromNode n (planT (treeOf m h))) ≡ missing → Answers m u m' h n NoSuchNode
 answers-none m u m' h n e = (by-outcome n (planT (treeOf m h)) missing e, e)
 
-pub answers-met : (m : List ℕ) (u : ℕ) (m' : List ℕ) (h n : ℕ) → outcome (fromNode n (planT (treeOf m h))) ≡ found pastTheEnd → Answers m u m' h n AllKeysMet
+pub answers-met : (m : List ℕ) (u : ℕ) (m' : List ℕ) (h n : ℕ) → outcome (fromNode n (planT (treeOf m h))) ≡ found pastTheEnd
+    → Answers m u m' h n AllKeysMet
 answers-met m u m' h n e = (by-outcome n (planT (treeOf m h)) (found pastTheEnd) e, e)
 
 answered-is : (n : ℕ) (f g : Plan) (p : Op) → outcome (fromNode n f) ≡ found (becomes p) → g ≡ setNode n p f → partiallySorted n f ≡ answered g
@@ -135,7 +138,8 @@ module _ (m : List ℕ) where
   behind k ks l = let z = size-strip (treeOf m k .kids) in omega arith
 
   -- the j-th of some trees, and l in it
-  pub out-at : (ks : List ℕ) (j l : ℕ) → j < length ks → l < sizeT (treeOf m (getD ks j 0)) → outcome (fromNode (size (forest m (take j ks)) + l) (strip (forest m ks))) ≡ outcome (fromNode l (planT (treeOf m (getD ks j 0))))
+  pub out-at : (ks : List ℕ) (j l : ℕ) → j < length ks → l < sizeT (treeOf m (getD ks j 0))
+      → outcome (fromNode (size (forest m (take j ks)) + l) (strip (forest m ks))) ≡ outcome (fromNode l (planT (treeOf m (getD ks j 0))))
   unfolding forest
   out-at [] j l h i = absurd (omega arith)
   out-at (k ∷ ks) zero l h i =
@@ -146,13 +150,15 @@ module _ (m : List ℕ) where
       ap (λ n. outcome (fromNode n (tree (opT (treeOf m k)) (strip (treeOf m k .kids)) (strip (forest m ks))))) (behind k (take j ks) l)
       ∙ out-skip (size (forest m (take j ks)) + l) (opT (treeOf m k)) (strip (treeOf m k .kids)) (strip (forest m ks)) ∙ out-at ks j l (omega arith) i
 
-  pub set-at : (p : Op) (ks : List ℕ) (j l x : ℕ) → j < length ks → l < sizeT (treeOf m (getD ks j 0)) → planT (treeOf m x) ≡ setNode l p (planT (treeOf m (getD ks j 0))) → strip (forest m (set ks j x)) ≡ setNode (size (forest m (take j ks)) + l) p (strip (forest m ks))
+  pub set-at : (p : Op) (ks : List ℕ) (j l x : ℕ) → j < length ks → l < sizeT (treeOf m (getD ks j 0)) → planT (treeOf m x) ≡ setNode l p
+      (planT (treeOf m (getD ks j 0))) → strip (forest m (set ks j x)) ≡ setNode (size (forest m (take j ks)) + l) p (strip (forest m ks))
   unfolding forest
   set-at p [] j l x h i e = absurd (omega arith)
   set-at p (k ∷ ks) zero l x h i e =
       let z = size-strip (treeOf m k .kids) in
       let q : 0 + l ≡ l = omega arith in
-      ap (λ g. ontoR g (strip (forest m ks))) e ∙ sym (ap (λ n. setNode n p (tree (opT (treeOf m k)) (strip (treeOf m k .kids)) (strip (forest m ks)))) q ∙ set-first l p (opT (treeOf m k)) (strip (treeOf m k .kids)) (strip (forest m ks)) (omega arith))
+      ap (λ g. ontoR g (strip (forest m ks))) e ∙ sym (ap (λ n. setNode n p (tree (opT (treeOf m k)) (strip (treeOf m k .kids)) (strip (forest m ks)))) q
+      ∙ set-first l p (opT (treeOf m k)) (strip (treeOf m k .kids)) (strip (forest m ks)) (omega arith))
   set-at p (k ∷ ks) (suc j) l x h i e =
       ap (tree (opT (treeOf m k)) (strip (treeOf m k .kids))) (set-at p ks j l x (omega arith) i e)
       ∙ sym (ap (λ n. setNode n p (tree (opT (treeOf m k)) (strip (treeOf m k .kids)) (strip (forest m ks)))) (behind k (take j ks) l)
@@ -195,17 +201,23 @@ pub passing-none : (m : List ℕ) (h n : ℕ) → Passing m h n 0 n
 unfolding forest
 passing-none m h n = record { low = omega arith; is = omega arith }
 
-module _ (m : List ℕ) (h n j left : ℕ) (p : Passing m h n j left) (l : j < length (slot m (index h) .kids)) (s : ℕ) (hs : s ≡ sizeT (treeOf m (getD (slot m (index h) .kids) j 0))) where
+module _ (m : List ℕ) (h n j left : ℕ) (p : Passing m h n j left) (l : j < length (slot m (index h) .kids)) (s : ℕ)
+    (hs : s ≡ sizeT (treeOf m (getD (slot m (index h) .kids) j 0))) where
   pub passing-more : s ≤ left → Passing m h n (j + 1) (left - s)
   passing-more z = let e = p .is in let x = at-size m (slot m (index h) .kids) j l in rw (add-one j) (record { low = omega arith; is = omega arith })
 
   pub passing-found : left < s → Located m h n (record { child = j; left = left })
   passing-found z = record { low = p .low; is = p .is; inside = λ i. omega arith }
 
-pub passing-end : (m : List ℕ) (h n j left c : ℕ) → Passing m h n j left → c ≡ length (slot m (index h) .kids) → c ≤ j → Located m h n (record { child = c; left = left })
+pub passing-end : (m : List ℕ) (h n j left c : ℕ) → Passing m h n j left → c ≡ length (slot m (index h) .kids) → c ≤ j
+    → Located m h n (record { child = c; left = left })
 passing-end m h n j left c p e l =
     let x = p .low in let q : j ≡ c = omega arith in
-    record { low = omega arith; is = subst (λ i. n ≡ size (forest m (take i (slot m (index h) .kids))) + left) q (p .is); inside = λ i. absurd (omega arith) }
+    record {
+      low = omega arith;
+      is = subst (λ i. n ≡ size (forest m (take i (slot m (index h) .kids))) + left) q (p .is);
+      inside = λ i. absurd (omega arith);
+    }
 
 -- ---- the children's handles with another in one place
 
@@ -217,10 +229,16 @@ pub record Copying (ks : List ℕ) (j : ℕ) (out : List ℕ) : Type 0 where
 pub copying-none : (ks : List ℕ) → Copying ks 0 (replicate 8 0)
 copying-none ks = record { wide = refl; low = omega arith; is = refl }
 
-pub copying-more : (ks : List ℕ) (j : ℕ) (out : List ℕ) → Copying ks j out → length ks ≤ 8 → j < length ks → (k : ℕ) → k ≡ getD ks j 0 → Copying ks (j + 1) (set out j k)
+pub copying-more : (ks : List ℕ) (j : ℕ) (out : List ℕ) → Copying ks j out → length ks ≤ 8 → j < length ks → (k : ℕ) → k ≡ getD ks j 0
+    → Copying ks (j + 1) (set out j k)
 copying-more ks j out c h l k e =
     let w = c .wide in
-    rw (add-one j) (record { wide = length-set out j k ∙ c .wide; low = omega arith; is = take-suc-set out j k (omega arith) ∙ ap₂ (λ x y. x ++ (y ∷ [])) (c .is) e ∙ sym (take-suc ks j 0 l) })
+    rw (add-one j) (record {
+      wide = length-set out j k ∙ c .wide;
+      low = omega arith;
+      is = take-suc-set out j k (omega arith) ∙ ap₂ (λ x y. x ++ (y ∷ []))
+          (c .is) e ∙ sym (take-suc ks j 0 l);
+    })
 
 take-set : (n : ℕ) (out : List ℕ) (j k : ℕ) → take n (set out j k) ≡ set (take n out) j k
 take-set zero out j k = refl
@@ -228,7 +246,8 @@ take-set (suc n) [] j k = refl
 take-set (suc n) (x ∷ out) zero k = refl
 take-set (suc n) (x ∷ out) (suc j) k = ap (λ r. x ∷ r) (take-set n out j k)
 
-pub copying-all : (ks : List ℕ) (i : ℕ) (out : List ℕ) → Copying ks i out → length ks ≤ i → (j k : ℕ) → (length (set out j k) ≡ 8) × (take (length ks) (set out j k) ≡ set ks j k)
+pub copying-all : (ks : List ℕ) (i : ℕ) (out : List ℕ) → Copying ks i out → length ks ≤ i → (j k : ℕ) → (length (set out j k) ≡ 8)
+    × (take (length ks) (set out j k) ≡ set ks j k)
 copying-all ks i out c h j k =
     let l = c .low in
     let q : length ks ≡ i = omega arith in
@@ -262,7 +281,8 @@ module _ (m : List ℕ) (u h : ℕ) (p : Sorting m u h) where
   kept n o e = partial-kept n f (setNode n o f) (answered-is n f (setNode n o f) o e refl)
 
   -- nothing changes
-  pub same-became : replaceWithPartialSort (opT (treeOf m h)) (strip (treeOf m h .kids)) ≡ becomes (opT (treeOf m h)) → Became m u m h 0 (record { used = u; root = h })
+  pub same-became : replaceWithPartialSort (opT (treeOf m h)) (strip (treeOf m h .kids)) ≡ becomes (opT (treeOf m h))
+      → Became m u m h 0 (record { used = u; root = h })
   same-became e =
       record {
         op = opT t;
@@ -284,24 +304,30 @@ module _ (m : List ℕ) (u h : ℕ) (p : Sorting m u h) where
     pub same-node : r ≡ Stays → Became m u m h 0 (record { used = u; root = h })
     same-node q = same-became (e ∙ ap (becoming (opT t)) q)
 
-    pub partial-node : Fitting (opT (treeOf m h)) r → (n : ℕ) → r ≡ Partial n → (replaceWithPartialSort (opT (treeOf m h)) (strip (treeOf m h .kids)) ≡ becomes (partial n (opT (treeOf m h)))) × (n ≤ 8) × (code (opT (treeOf m h)) ≡ 7)
+    pub partial-node : Fitting (opT (treeOf m h)) r → (n : ℕ) → r ≡ Partial n
+        → (replaceWithPartialSort (opT (treeOf m h)) (strip (treeOf m h .kids)) ≡ becomes (partial n (opT (treeOf m h)))) × (n ≤ 8)
+        × (code (opT (treeOf m h)) ≡ 7)
     partial-node f n q = let g = subst (Fitting (opT t)) q f in (e ∙ ap (becoming (opT t)) q, g .0, g .1)
 
   -- a partial sort of n keys met
-  module _ (n : ℕ) (e : replaceWithPartialSort (opT (treeOf m h)) (strip (treeOf m h .kids)) ≡ becomes (partial n (opT (treeOf m h)))) (few : n ≤ 8) (c : code (opT (treeOf m h)) ≡ 7) where
+  module _ (n : ℕ) (e : replaceWithPartialSort (opT (treeOf m h)) (strip (treeOf m h .kids)) ≡ becomes (partial n (opT (treeOf m h)))) (few : n ≤ 8)
+      (c : code (opT (treeOf m h)) ≡ 7) where
     abbrev y : NodeRecord
     y = fromBytes (slot m (index h) .rec)
 
-    sorts : decode (slot m (index h) .rec) ≡ sortOp (fromBytes (slot m (index h) .rec) .preserve) (fromBytes (slot m (index h) .rec) .keys) (fromBytes (slot m (index h) .rec) .fetch)
+    sorts : decode (slot m (index h) .rec) ≡ sortOp (fromBytes (slot m (index h) .rec) .preserve) (fromBytes (slot m (index h) .rec) .keys)
+        (fromBytes (slot m (index h) .rec) .fetch)
     sorts = sort-op (slot m (index h) .rec) (own-proper m u h standing (slot m (index h) .rec) refl) (ap code (sym (ap opT (tree-is m u h standing))) ∙ c)
 
     only : length (slot m (index h) .kids) ≡ 1
-    only = one-kid m (slot m (index h) .rec) (slot m (index h) .kids) (own-over m u h standing) (sortOp (y .preserve) (y .keys) (y .fetch)) sorts (λ n. refl)
+    only = one-kid m (slot m (index h) .rec) (slot m (index h) .kids) (own-over m u h standing) (sortOp (y .preserve) (y .keys) (y .fetch)) sorts
+        (λ n. refl)
 
     pub partial-some : 0 < length (slot m (index h) .kids)
     partial-some = let l = only in omega arith
 
-    op-is : partial n (opT (treeOf m h)) ≡ partialSort (fromBytes (slot m (index h) .rec) .preserve) (fromBytes (slot m (index h) .rec) .keys) n (fromBytes (slot m (index h) .rec) .fetch)
+    op-is : partial n (opT (treeOf m h)) ≡ partialSort (fromBytes (slot m (index h) .rec) .preserve) (fromBytes (slot m (index h) .rec) .keys) n
+        (fromBytes (slot m (index h) .rec) .fetch)
     op-is = ap (partial n) (ap opT (tree-is m u h standing) ∙ sorts)
 
     ok-new : Ok (setNode 0 (partial n (opT (treeOf m h))) (planT (treeOf m h)))
@@ -312,7 +338,8 @@ module _ (m : List ℕ) (u h : ℕ) (p : Sorting m u h) where
     only-is (k ∷ []) z = refl
     only-is (k ∷ l ∷ ks) z = absurd (omega arith)
 
-    module _ (r : List ℕ) (hr : r ≡ slot m (index h) .rec) (k : ℕ) (hk : k ≡ getD (slot m (index h) .kids) 0 0) (pr : Bool) (hp : pr ≡ fromBytes r .preserve) (ks : Keys) (hks : Keyed (fromBytes r .keys) ks) (g : Fetch) (hg : g ≡ fromBytes r .fetch)
+    module _ (r : List ℕ) (hr : r ≡ slot m (index h) .rec) (k : ℕ) (hk : k ≡ getD (slot m (index h) .kids) 0 0) (pr : Bool)
+        (hp : pr ≡ fromBytes r .preserve) (ks : Keys) (hks : Keyed (fromBytes r .keys) ks) (g : Fetch) (hg : g ≡ fromBytes r .fetch)
         (x : List ℕ) (hy : x ≡ encode 1 (partialSort pr (keysOf ks) (n % 256) g)) where
       hx : x ≡ encode 1 (partialSort pr (keysOf ks) n g)
       hx = let q : n % 256 ≡ n = omega arith in hy ∙ ap (λ i. encode 1 (partialSort pr (keysOf ks) i g)) q
@@ -326,11 +353,13 @@ module _ (m : List ℕ) (u h : ℕ) (p : Sorting m u h) where
       kids-are = ap (forest m) (ap (λ i. i ∷ []) hk ∙ only-is (slot m (index h) .kids) only) ∙ ap (λ z. z .kids) (sym (tree-is m u h standing))
 
       decoded : decode x ≡ partial n (opT (treeOf m h))
-      decoded = ap decode (hx ∙ ap (encode 1) same-op) ∙ decode-encode 1 (partial n (opT t)) (counts-of (partial n (opT t)) (facts (strip (t .kids))) (ok-new .0) .fields)
+      decoded = ap decode (hx ∙ ap (encode 1) same-op) ∙ decode-encode 1 (partial n (opT t))
+          (counts-of (partial n (opT t)) (facts (strip (t .kids))) (ok-new .0) .fields)
 
       pub partial-puts : Puts m u x (k ∷ [])
       partial-puts =
-          let l = view m u h standing in let b = below-at (2 * index h) (slot m (index h) .kids) 0 (l .below) partial-some in let q = p .here in let z = p .room in let v = p .small in
+          let l = view m u h standing in let b = below-at (2 * index h) (slot m (index h) .kids) 0 (l .below) partial-some in let q = p .here in
+          let z = p .room in let v = p .small in
           let w = ap size kids-are in let i = ap (λ z. size (z .kids)) (tree-is m u h standing) in let s = l .small in
           record {
             arena = p .arena;
@@ -338,15 +367,27 @@ module _ (m : List ℕ) (u h : ℕ) (p : Sorting m u h) where
             small = omega arith;
             below = (omega arith, tt);
             canon = hx ∙ ap (encode 1) (same-op ∙ sym decoded);
-            ok = subst (λ o. OkT (node o false (forest m (k ∷ [])))) (sym decoded) (subst (λ d. OkT (node (partial n (opT t)) false d)) (sym kids-are) (ok-new .0, ok-new .1));
+            ok = subst (λ o. OkT (node o false (forest m (k ∷ [])))) (sym decoded)
+                (subst (λ d. OkT (node (partial n (opT t)) false d)) (sym kids-are) (ok-new .0, ok-new .1));
             few = omega arith;
           }
 
       pub partial-became : (m' : List ℕ) (a : At) → Grown m u m' a (node (decode x) false (forest m (k ∷ []))) (u + 1) → Became m u m' h 0 a
       partial-became m' a d =
-          let q : planT (treeOf m' (a .root)) ≡ setNode 0 (partial n (opT (treeOf m h))) (planT (treeOf m h)) = ap planT (d .tree) ∙ ap₂ (λ o b. tree o (strip b) none) decoded kids-are in
+          let q : planT (treeOf m' (a .root)) ≡ setNode 0 (partial n (opT (treeOf m h))) (planT (treeOf m h)) = ap planT (d .tree)
+          ∙ ap₂ (λ o b. tree o (strip b) none) decoded kids-are in
           let w = d .room in
-          record { op = partial n (opT t); here = ap found e; plan = q; is = answered-is 0 f _ (partial n (opT t)) (ap found e) q; arena = d .arena; old = d .old; more = d .more; low = d .here; room = omega arith }
+          record {
+            op = partial n (opT t);
+            here = ap found e;
+            plan = q;
+            is = answered-is 0 f _ (partial n (opT t)) (ap found e) q;
+            arena = d .arena;
+            old = d .old;
+            more = d .more;
+            low = d .here;
+            room = omega arith;
+          }
 
 -- ---- below a node
 
@@ -385,7 +426,8 @@ module _ (m : List ℕ) (u h : ℕ) (p : Sorting m u h) (n : ℕ) (q : Place) (w
 
     pub below-sorting : (sizeT (treeOf m k) < sizeT (treeOf m h)) × Sorting m u k
     below-sorting =
-        let a = sizes in let b = whole in let r = p .room in let s = p .small in let v = view m u h (standing m u h p) .below in let c = below-at (2 * index h) hs (q .child) v l in let d = p .here in
+        let a = sizes in let b = whole in let r = p .room in let s = p .small in let v = view m u h (standing m u h p) .below in
+        let c = below-at (2 * index h) hs (q .child) v l in let d = p .here in
         (omega arith, record { arena = p .arena; here = omega arith; room = omega arith; small = omega arith })
 
     below-low : n < size (strip (forest m (slot m (index h) .kids)))
@@ -395,7 +437,8 @@ module _ (m : List ℕ) (u h : ℕ) (p : Sorting m u h) (n : ℕ) (q : Place) (w
     pub found-below : outcome (fromNode (suc n) (planT (treeOf m h))) ≡ outcome (fromNode (q .left) (planT (treeOf m k)))
     found-below =
         ap (λ g. outcome (fromNode (suc n) g)) stripped ∙ out-root n (decode (slot m (index h) .rec)) (strip (forest m hs)) below-low
-        ∙ ap (λ i. outcome (fromNode i (strip (forest m hs)))) (w .is) ∙ out-at m hs (q .child) (q .left) l (w .inside l) ∙ ap (λ i. outcome (fromNode (q .left) (planT (treeOf m i)))) (sym hk)
+        ∙ ap (λ i. outcome (fromNode i (strip (forest m hs)))) (w .is) ∙ out-at m hs (q .child) (q .left) l (w .inside l)
+        ∙ ap (λ i. outcome (fromNode (q .left) (planT (treeOf m i)))) (sym hk)
 
     pub none-below : (m' : List ℕ) → Answers m u m' k (q .left) NoSuchNode → Answers m u m' h (suc n) NoSuchNode
     none-below m' a = answers-none m u m' h (suc n) (found-below ∙ a .1)
@@ -425,15 +468,19 @@ module _ (m : List ℕ) (u h : ℕ) (p : Sorting m u h) (n : ℕ) (q : Place) (w
       kids-new : strip (forest m' (set (slot m (index h) .kids) (q .child) (a .root))) ≡ setNode n (b .op) (strip (forest m (slot m (index h) .kids)))
       kids-new =
           set-at m' (b .op) hs (q .child) (q .left) (a .root) l inside-new child-plan
-          ∙ ap₂ (λ i g. setNode (i + q .left) (b .op) (strip g)) (take-old (q .child)) old-forest ∙ ap (λ i. setNode i (b .op) (strip (forest m hs))) (sym (w .is))
+          ∙ ap₂ (λ i g. setNode (i + q .left) (b .op) (strip g)) (take-old (q .child)) old-forest ∙ ap (λ i. setNode i (b .op) (strip (forest m hs)))
+          (sym (w .is))
         where
           take-old : (j : ℕ) → size (forest m' (take j (slot m (index h) .kids))) ≡ size (forest m (take j (slot m (index h) .kids)))
-          take-old j = let d = p .here in ap size (forest-same u m m' (b .old) (take j hs) (below-take (2 * u) j hs (below-more hs (omega arith) (view m u h (standing m u h p) .below))))
+          take-old j = let d = p .here in
+              ap size (forest-same u m m' (b .old) (take j hs)
+              (below-take (2 * u) j hs (below-more hs (omega arith) (view m u h (standing m u h p) .below))))
 
       here-is : outcome (fromNode (suc n) (planT (treeOf m h))) ≡ found (becomes (b .op))
       here-is = found-below ∙ b .here
 
-      plan-is : tree (decode (slot m (index h) .rec)) (strip (forest m' (set (slot m (index h) .kids) (q .child) (a .root)))) none ≡ setNode (suc n) (b .op) (planT (treeOf m h))
+      plan-is : tree (decode (slot m (index h) .rec)) (strip (forest m' (set (slot m (index h) .kids) (q .child) (a .root)))) none ≡ setNode (suc n) (b .op)
+          (planT (treeOf m h))
       plan-is =
           ap (λ c. tree (decode (slot m (index h) .rec)) c none) kids-new
           ∙ sym (ap (setNode (suc n) (b .op)) stripped ∙ set-root n (b .op) (decode (slot m (index h) .rec)) (strip (forest m hs)) below-low)
@@ -444,10 +491,13 @@ module _ (m : List ℕ) (u h : ℕ) (p : Sorting m u h) (n : ℕ) (q : Place) (w
       new-ok : Ok (tree (decode (slot m (index h) .rec)) (strip (forest m' (set (slot m (index h) .kids) (q .child) (a .root)))) none)
       new-ok = let o = ok m u h p in subst Ok (sym plan-is) (new-kept .ok (o .0, o .1, tt))
 
-      pub child-puts : (r : List ℕ) → r ≡ slot m (index h) .rec → Puts m' (a .used) r (set (slot m (index h) .kids) (q .child) (a .root)) × (index h < a .used)
+      pub child-puts : (r : List ℕ) → r ≡ slot m (index h) .rec → Puts m' (a .used) r (set (slot m (index h) .kids) (q .child) (a .root))
+          × (index h < a .used)
       child-puts r hr =
-          let v = view m u h (standing m u h p) in let d = p .here in let e = b .more in let f = b .room in let g = below-sorting .0 in let i = p .room in let j = p .small in
-          let z = ap size plan-is ∙ new-kept .long in let y = size-strip (forest m' (set (slot m (index h) .kids) (q .child) (a .root))) in let x = size-strip (treeOf m h .kids) in let s = v .small in let t = whole in (
+          let v = view m u h (standing m u h p) in let d = p .here in let e = b .more in let f = b .room in let g = below-sorting .0 in let i = p .room in
+          let j = p .small in
+          let z = ap size plan-is ∙ new-kept .long in let y = size-strip (forest m' (set (slot m (index h) .kids) (q .child) (a .root))) in
+          let x = size-strip (treeOf m h .kids) in let s = v .small in let t = whole in (
             subst (λ c. Puts m' (a .used) c (set (slot m (index h) .kids) (q .child) (a .root))) (sym hr) (record {
               arena = b .arena;
               room = omega arith;
@@ -460,9 +510,12 @@ module _ (m : List ℕ) (u h : ℕ) (p : Sorting m u h) (n : ℕ) (q : Place) (w
             omega arith,
           )
 
-      pub child-became : (r : List ℕ) → r ≡ slot m (index h) .rec → (m'' : List ℕ) (c : At) → Grown m' (a .used) m'' c (node (decode r) false (forest m' (set (slot m (index h) .kids) (q .child) (a .root)))) (a .used + 1) → Became m u m'' h (suc n) c
+      pub child-became : (r : List ℕ) → r ≡ slot m (index h) .rec → (m'' : List ℕ) (c : At)
+          → Grown m' (a .used) m'' c (node (decode r) false (forest m' (set (slot m (index h) .kids) (q .child) (a .root)))) (a .used + 1)
+          → Became m u m'' h (suc n) c
       child-became r hr m'' c g =
-          let e : planT (treeOf m'' (c .root)) ≡ setNode (suc n) (b .op) (planT (treeOf m h)) = ap planT (g .tree) ∙ ap (λ x. tree (decode x) (strip (forest m' (set (slot m (index h) .kids) (q .child) (a .root)))) none) hr ∙ plan-is in
+          let e : planT (treeOf m'' (c .root)) ≡ setNode (suc n) (b .op) (planT (treeOf m h)) = ap planT (g .tree)
+          ∙ ap (λ x. tree (decode x) (strip (forest m' (set (slot m (index h) .kids) (q .child) (a .root)))) none) hr ∙ plan-is in
           let x = b .more in let y = g .more in let z = g .room in let v = b .room in let s = below-sorting .0 in
           record {
             op = b .op;
@@ -478,7 +531,8 @@ module _ (m : List ℕ) (u h : ℕ) (p : Sorting m u h) (n : ℕ) (q : Place) (w
 
 -- ---- the handles as the code has them
 
-module _ (m : List ℕ) (u h : ℕ) (a : Standing m u h) (j k : ℕ) (p : Puts m u (slot m (index h) .rec) (set (slot m (index h) .kids) j k)) (c : ℕ) (hc : c ≡ length (slot m (index h) .kids))
+module _ (m : List ℕ) (u h : ℕ) (a : Standing m u h) (j k : ℕ) (p : Puts m u (slot m (index h) .rec) (set (slot m (index h) .kids) j k)) (c : ℕ)
+    (hc : c ≡ length (slot m (index h) .kids))
     (x : List ℕ) (w : length x ≡ 8) (e : take (length (slot m (index h) .kids)) x ≡ set (slot m (index h) .kids) j k) where
   pub taken : take c x ≡ set (slot m (index h) .kids) j k
   taken = ap (λ n. take n x) hc ∙ e
@@ -489,12 +543,14 @@ module _ (m : List ℕ) (u h : ℕ) (a : Standing m u h) (j k : ℕ) (p : Puts m
   pub taken-puts : (r : List ℕ) → r ≡ slot m (index h) .rec → Puts m u r (take c x) × (index h < u)
   taken-puts r hr = let l = a .here in (subst (λ z. Puts m u z (take c x)) (sym hr) (subst (Puts m u (slot m (index h) .rec)) (sym taken) p), omega arith)
 
-  pub taken-grown : (r : List ℕ) → r ≡ slot m (index h) .rec → (m' : List ℕ) (b : At) → Grown m u m' b (node (decode r) false (forest m (take c x))) (u + 1) → Grown m u m' b (node (decode (slot m (index h) .rec)) false (forest m (set (slot m (index h) .kids) j k))) (u + 1)
+  pub taken-grown : (r : List ℕ) → r ≡ slot m (index h) .rec → (m' : List ℕ) (b : At) → Grown m u m' b (node (decode r) false (forest m (take c x))) (u + 1)
+      → Grown m u m' b (node (decode (slot m (index h) .rec)) false (forest m (set (slot m (index h) .kids) j k))) (u + 1)
   taken-grown r hr m' b g = subst (λ t. Grown m u m' b t (u + 1)) (ap₂ (λ z l. node (decode z) false (forest m l)) hr taken) g
 
 -- ---- the recursion, as the code has it
 
-module _ (m : List ℕ) (u h : ℕ) (p : Sorting m u h) (n : ℕ) (z : n ≡ 0 → ⊥) (q : Place) (w : Located m h (n - 1) q) (c : ℕ) (hc : c ≡ children (slot m (index h) .rec)) where
+module _ (m : List ℕ) (u h : ℕ) (p : Sorting m u h) (n : ℕ) (z : n ≡ 0 → ⊥) (q : Place) (w : Located m h (n - 1) q) (c : ℕ)
+    (hc : c ≡ children (slot m (index h) .rec)) where
   back : suc (n - 1) ≡ n
   back = omega arith
 
@@ -514,10 +570,12 @@ module _ (m : List ℕ) (u h : ℕ) (p : Sorting m u h) (n : ℕ) (z : n ≡ 0 �
 
       module _ (m' : List ℕ) (r : Sorted) (g : Answers m u m' k (q .left) r) where
         pub step-missing : r ≡ NoSuchNode → Answers m u m' h n NoSuchNode
-        step-missing x = subst (λ i. Answers m u m' h i NoSuchNode) back (none-below m u h p (n - 1) q w step-low k hk m' (subst (Answers m u m' k (q .left)) x g))
+        step-missing x = subst (λ i. Answers m u m' h i NoSuchNode) back
+            (none-below m u h p (n - 1) q w step-low k hk m' (subst (Answers m u m' k (q .left)) x g))
 
         pub step-met : r ≡ AllKeysMet → Answers m u m' h n AllKeysMet
-        step-met x = subst (λ i. Answers m u m' h i AllKeysMet) back (met-below m u h p (n - 1) q w step-low k hk m' (subst (Answers m u m' k (q .left)) x g))
+        step-met x = subst (λ i. Answers m u m' h i AllKeysMet) back
+            (met-below m u h p (n - 1) q w step-low k hk m' (subst (Answers m u m' k (q .left)) x g))
 
         module _ (lm : length m' ≡ length m) (a : At) (x : r ≡ Becomes a) where
           below-became : Became m u m' k (q .left) a
@@ -526,15 +584,19 @@ module _ (m : List ℕ) (u h : ℕ) (p : Sorting m u h) (n : ℕ) (z : n ≡ 0 �
           slots : slot m' (index h) ≡ slot m (index h)
           slots = same-slot m u h p (n - 1) q w step-low k hk m' lm a below-became
 
-          pub step-puts : Standing m' (a .used) h × (q .child < length (slot m' (index h) .kids)) × Puts m' (a .used) (slot m' (index h) .rec) (set (slot m' (index h) .kids) (q .child) (a .root))
+          pub step-puts : Standing m' (a .used) h × (q .child < length (slot m' (index h) .kids)) × Puts m' (a .used) (slot m' (index h) .rec)
+              (set (slot m' (index h) .kids) (q .child) (a .root))
           step-puts =
               let d = p .here in let v = below-became .more in (
                 record { arena = below-became .arena; here = omega arith },
                 subst (λ y. q .child < length (y .kids)) (sym slots) step-low,
-                subst (λ y. Puts m' (a .used) (y .rec) (set (y .kids) (q .child) (a .root))) (sym slots) (child-puts m u h p (n - 1) q w step-low k hk m' lm a below-became (slot m (index h) .rec) refl .0),
+                subst (λ y. Puts m' (a .used) (y .rec) (set (y .kids) (q .child) (a .root))) (sym slots)
+                    (child-puts m u h p (n - 1) q w step-low k hk m' lm a below-became (slot m (index h) .rec) refl .0),
               )
 
-          pub step-became : (m'' : List ℕ) (b : At) → Grown m' (a .used) m'' b (node (decode (slot m' (index h) .rec)) false (forest m' (set (slot m' (index h) .kids) (q .child) (a .root)))) (a .used + 1) → Answers m u m'' h n (Becomes b)
+          pub step-became : (m'' : List ℕ) (b : At)
+              → Grown m' (a .used) m'' b (node (decode (slot m' (index h) .rec)) false (forest m' (set (slot m' (index h) .kids) (q .child) (a .root))))
+              (a .used + 1) → Answers m u m'' h n (Becomes b)
           step-became m'' b t =
               subst (λ i. Answers m u m'' h i (Becomes b)) back
               (child-became m u h p (n - 1) q w step-low k hk m' lm a below-became (slot m (index h) .rec) refl m'' b

@@ -61,7 +61,8 @@ Fitting o (Partial n) = (n ≤ 8) × (code o ≡ 7)
 
 -- ---- how many keys are met
 
-common : (F : Facts) (done ks : List Key) (r : ℕ) → r ≤ length ks → ((i : ℕ) → i < r → met F (done ++ take (suc i) ks) ≡ true) → (r < length ks → met F (done ++ take (suc r) ks) ≡ false) → commonPrefixLength F done ks ≡ r
+common : (F : Facts) (done ks : List Key) (r : ℕ) → r ≤ length ks → ((i : ℕ) → i < r → met F (done ++ take (suc i) ks) ≡ true)
+    → (r < length ks → met F (done ++ take (suc r) ks) ≡ false) → commonPrefixLength F done ks ≡ r
 common F done [] r l f s = omega arith
 common F done (k ∷ ks) zero l f s = ap (λ b. cond b (suc (commonPrefixLength F (done ++ (k ∷ [])) ks)) 0) (s (omega arith))
 common F done (k ∷ ks) (suc r) l f s =
@@ -94,7 +95,8 @@ or-none true = refl
 or-none false = refl
 
 -- the only child is unbounded, or not
-only-endless : (m ks : List ℕ) → length ks ≡ 1 → anyOf (endless (strip (forest m ks))) ≡ endlessOp (opT (treeOf m (getD ks 0 0))) (endless (strip (treeOf m (getD ks 0 0) .kids)))
+only-endless : (m ks : List ℕ) → length ks ≡ 1 → anyOf (endless (strip (forest m ks))) ≡ endlessOp (opT (treeOf m (getD ks 0 0)))
+    (endless (strip (treeOf m (getD ks 0 0) .kids)))
 unfolding forest
 only-endless m [] e = absurd (omega arith)
 only-endless m (k ∷ []) e = or-none (endlessOp (opT (treeOf m k)) (endless (strip (treeOf m k .kids))))
@@ -115,11 +117,14 @@ module _ (m : List ℕ) (u h : ℕ) (a : Standing m u h) (r : List ℕ) (hr : r 
     abbrev y : NodeRecord
     y = fromBytes r
 
-    sorts-here : decode (slot m (index h) .rec) ≡ sortOp (fromBytes (slot m (index h) .rec) .preserve) (fromBytes (slot m (index h) .rec) .keys) (fromBytes (slot m (index h) .rec) .fetch)
-    sorts-here = sort-op (slot m (index h) .rec) (own-proper m u h a (slot m (index h) .rec) refl) (ap (λ z. code (decode z)) (sym hr) ∙ is-code (decode r) 7 x hx e)
+    sorts-here : decode (slot m (index h) .rec) ≡ sortOp (fromBytes (slot m (index h) .rec) .preserve) (fromBytes (slot m (index h) .rec) .keys)
+        (fromBytes (slot m (index h) .rec) .fetch)
+    sorts-here = sort-op (slot m (index h) .rec) (own-proper m u h a (slot m (index h) .rec) refl)
+        (ap (λ z. code (decode z)) (sym hr) ∙ is-code (decode r) 7 x hx e)
 
     sorts : opT (treeOf m h) ≡ sortOp (fromBytes r .preserve) (fromBytes r .keys) (fromBytes r .fetch)
-    sorts = sym (op-is m u h a r hr) ∙ ap decode hr ∙ sorts-here ∙ ap (λ z. sortOp (fromBytes z .preserve) (fromBytes z .keys) (fromBytes z .fetch)) (sym hr)
+    sorts = sym (op-is m u h a r hr) ∙ ap decode hr ∙ sorts-here ∙ ap (λ z. sortOp (fromBytes z .preserve) (fromBytes z .keys) (fromBytes z .fetch))
+        (sym hr)
 
     only : length (slot m (index h) .kids) ≡ 1
     only = one-kid m (slot m (index h) .rec) (slot m (index h) .kids) (own-over m u h a) _ sorts-here (λ n. refl)
@@ -137,7 +142,9 @@ module _ (m : List ℕ) (u h : ℕ) (a : Standing m u h) (r : List ℕ) (hr : r 
       abbrev P : ℕ → Replaced
       P n = partialOf (y .preserve) (y .keys) (y .fetch) n
 
-      by-endless : replaceWithPartialSort (opT (treeOf m h)) (strip (treeOf m h .kids)) ≡ cond (s .endless) (partialOf (fromBytes r .preserve) (fromBytes r .keys) (fromBytes r .fetch) (commonPrefixLength (at0 (known (treeOf m h .kids))) [] (fromBytes r .keys))) (becomes (opT (treeOf m h)))
+      by-endless : replaceWithPartialSort (opT (treeOf m h)) (strip (treeOf m h .kids)) ≡ cond (s .endless)
+          (partialOf (fromBytes r .preserve) (fromBytes r .keys) (fromBytes r .fetch)
+          (commonPrefixLength (at0 (known (treeOf m h .kids))) [] (fromBytes r .keys))) (becomes (opT (treeOf m h)))
       by-endless =
           ap (λ o. replaceWithPartialSort o (strip (t .kids))) sorts
           ∙ ap₂ (λ b o. cond b (P (commonPrefixLength (at0 (known (t .kids))) [] (y .keys))) (becomes o)) endless-is (sym sorts)
@@ -145,23 +152,28 @@ module _ (m : List ℕ) (u h : ℕ) (a : Standing m u h) (r : List ℕ) (hr : r 
       pub bounded : s .endless ≡ false → replaceWithPartialSort (opT (treeOf m h)) (strip (treeOf m h .kids)) ≡ becomes (opT (treeOf m h))
       bounded z = by-endless ∙ ap (λ b. cond b (P (commonPrefixLength (at0 (known (t .kids))) [] (y .keys))) (becomes (opT t))) z
 
-      module _ (z : s .endless ≡ true) (row : List ℕ) (sh : Tells (treeOf m k) row) (ks : Keys) (hks : Keyed (fromBytes r .keys) ks) (n : ℕ) (hn : MetKeys (told row) (keysOf ks) n) where
+      module _ (z : s .endless ≡ true) (row : List ℕ) (sh : Tells (treeOf m k) row) (ks : Keys) (hks : Keyed (fromBytes r .keys) ks) (n : ℕ)
+          (hn : MetKeys (told row) (keysOf ks) n) where
         first : told row ≡ at0 (known (treeOf m h .kids))
-        first = sh .is ∙ ap (λ i. fact (treeOf m i)) hk ∙ sym (facts-at m (slot m (index h) .kids) 0 sort-some) ∙ ap (λ v. at0 (known (v .kids))) (sym (tree-is m u h a))
+        first = sh .is ∙ ap (λ i. fact (treeOf m i)) hk ∙ sym (facts-at m (slot m (index h) .kids) 0 sort-some) ∙ ap (λ v. at0 (known (v .kids)))
+            (sym (tree-is m u h a))
 
         met-is : commonPrefixLength (at0 (known (treeOf m h .kids))) [] (fromBytes r .keys) ≡ n
         met-is = ap₂ (λ F l. commonPrefixLength F [] l) (sym first) (sym (hks .is)) ∙ met-common (told row) (keysOf ks) n hn
 
-        by-keys : replaceWithPartialSort (opT (treeOf m h)) (strip (treeOf m h .kids)) ≡ cond (eqb n (ks .len)) pastTheEnd (becomes (ofPrefix (fromBytes r .preserve) (fromBytes r .keys) (fromBytes r .fetch) n))
+        by-keys : replaceWithPartialSort (opT (treeOf m h)) (strip (treeOf m h .kids)) ≡ cond (eqb n (ks .len)) pastTheEnd
+            (becomes (ofPrefix (fromBytes r .preserve) (fromBytes r .keys) (fromBytes r .fetch) n))
         by-keys =
             by-endless ∙ ap₂ (λ b i. cond b (P i) (becomes (opT t))) z met-is
-            ∙ ap (λ l. cond (eqb n l) pastTheEnd (becomes (ofPrefix (y .preserve) (y .keys) (y .fetch) n))) (ap length (sym (hks .is)) ∙ length-keys (ks .len) (ks .word))
+            ∙ ap (λ l. cond (eqb n l) pastTheEnd (becomes (ofPrefix (y .preserve) (y .keys) (y .fetch) n)))
+            (ap length (sym (hks .is)) ∙ length-keys (ks .len) (ks .word))
 
         pub all-met : n ≡ ks .len → replaceWithPartialSort (opT (treeOf m h)) (strip (treeOf m h .kids)) ≡ pastTheEnd
         all-met q = by-keys ∙ ap (λ b. cond b pastTheEnd (becomes (ofPrefix (y .preserve) (y .keys) (y .fetch) n))) (eq-eqb n (ks .len) q)
 
         module _ (q : n ≡ ks .len → ⊥) where
-          not-all : replaceWithPartialSort (opT (treeOf m h)) (strip (treeOf m h .kids)) ≡ becomes (ofPrefix (fromBytes r .preserve) (fromBytes r .keys) (fromBytes r .fetch) n)
+          not-all : replaceWithPartialSort (opT (treeOf m h)) (strip (treeOf m h .kids)) ≡ becomes
+              (ofPrefix (fromBytes r .preserve) (fromBytes r .keys) (fromBytes r .fetch) n)
           not-all = by-keys ∙ ap (λ b. cond b pastTheEnd (becomes (ofPrefix (y .preserve) (y .keys) (y .fetch) n))) (ne-eqb n (ks .len) q)
 
           pub none-met : n ≡ 0 → replaceWithPartialSort (opT (treeOf m h)) (strip (treeOf m h .kids)) ≡ becomes (opT (treeOf m h))

@@ -74,7 +74,8 @@ fn with_child(m: &[u8], u: usize, h: usize, j: usize, k: usize) -> [usize; 8]
 
 // The sort at h as a partial sort with n keys met.
 fn put_partial(m: &mut [u8], u: usize, h: usize, n: usize) -> At
-    requires { ⌜ Sorting (now m) u h × (replaced (opT (treeOf (now m) h)) (strip (treeOf (now m) h .kids)) ≡ becomes (partial n (opT (treeOf (now m) h)))) × (n ≤ 8) × (code (opT (treeOf (now m) h)) ≡ 7) ⌝ }
+    requires { ⌜ Sorting (now m) u h × (replaced (opT (treeOf (now m) h)) (strip (treeOf (now m) h .kids)) ≡ becomes (partial n (opT (treeOf (now m) h))))
+        × (n ≤ 8) × (code (opT (treeOf (now m) h)) ≡ 7) ⌝ }
     ensures { λ a. ⌜ Became (now (m .entry)) u (now (m .exit)) h 0 a ⌝ }
 {
     let r = read64(record_at(m, h / 2));
@@ -106,8 +107,10 @@ fn replace_node(m: &mut [u8], u: usize, h: usize) -> Sorted
 
 // The node at h with k in the place of its child j.
 fn put_child(m: &mut [u8], u: usize, h: usize, j: usize, k: usize) -> At
-    requires { ⌜ Standing (now m) u h × (j < length (slot (now m) (index h) .kids)) × Puts (now m) u (slot (now m) (index h) .rec) (set (slot (now m) (index h) .kids) j k) ⌝ }
-    ensures { λ a. ⌜ Grown (now (m .entry)) u (now (m .exit)) a (node (decode (slot (now (m .entry)) (index h) .rec)) false (forest (now (m .entry)) (set (slot (now (m .entry)) (index h) .kids) j k))) (u + 1) ⌝ }
+    requires { ⌜ Standing (now m) u h × (j < length (slot (now m) (index h) .kids)) × Puts (now m) u (slot (now m) (index h) .rec)
+        (set (slot (now m) (index h) .kids) j k) ⌝ }
+    ensures { λ a. ⌜ Grown (now (m .entry)) u (now (m .exit)) a
+        (node (decode (slot (now (m .entry)) (index h) .rec)) false (forest (now (m .entry)) (set (slot (now (m .entry)) (index h) .kids) j k))) (u + 1) ⌝ }
 {
     let i = h / 2;
     let r = read64(record_at(m, i));

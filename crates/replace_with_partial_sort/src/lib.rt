@@ -39,7 +39,8 @@ pub struct Place {
 // The node at h. A sort stays where its child is bounded or meets none of its keys.
 pub fn replace_with_partial_sort(m: &[u8], u: usize, h: usize) -> Replaced
     requires { ⌜ Standing (now m) u h ⌝ }
-    ensures { λ r. ⌜ (replaced (opT (treeOf (now (m .entry)) h)) (strip (treeOf (now (m .entry)) h .kids)) ≡ becoming (opT (treeOf (now (m .entry)) h)) r) × Fitting (opT (treeOf (now (m .entry)) h)) r ⌝ }
+    ensures { λ r. ⌜ (replaced (opT (treeOf (now (m .entry)) h)) (strip (treeOf (now (m .entry)) h .kids)) ≡ becoming (opT (treeOf (now (m .entry)) h)) r)
+        × Fitting (opT (treeOf (now (m .entry)) h)) r ⌝ }
 {
     let r = record_at(m, h / 2);
     if !is_sort(r) {

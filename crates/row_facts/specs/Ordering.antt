@@ -26,7 +26,8 @@ module _ (o W : List ℕ) (h : 48 ≤ length o) (l : length W ≡ 8) where
   placed = splice o 8 8 W
 
   front : (j : ℕ) → j < 8 → getD placed j 0 ≡ getD o j 0
-  front j m = sym (getD-take 8 placed j 0 m) ∙ ap (λ x. getD x j 0) (take-at (take 8 o) (W ++ drop 8 (drop 8 o)) 8 (length-take-le 8 o (omega arith))) ∙ getD-take 8 o j 0 m
+  front j m = sym (getD-take 8 placed j 0 m) ∙ ap (λ x. getD x j 0) (take-at (take 8 o) (W ++ drop 8 (drop 8 o)) 8 (length-take-le 8 o (omega arith)))
+      ∙ getD-take 8 o j 0 m
 
   middle : drop 8 placed ≡ W ++ drop 8 (drop 8 o)
   middle = drop-at (take 8 o) (W ++ drop 8 (drop 8 o)) 8 (length-take-le 8 o (omega arith))
@@ -36,19 +37,33 @@ module _ (o W : List ℕ) (h : 48 ≤ length o) (l : length W ≡ 8) where
 
 -- a record's row, its order and the order's length set
 set-order : (o : List ℕ) (w n : ℕ) → 48 ≤ length o → w < 2 ^ 64
-    → loaded (set (splice o 8 8 (lowBytes (wordBytes w))) 1 n) ≡ record { width = loaded o .width; streams = loaded o .streams; consts = loaded o .consts; low = loaded o .low; order = record { word = w; len = n } }
+    → loaded (set (splice o 8 8 (lowBytes (wordBytes w))) 1 n) ≡ record {
+      width = loaded o .width;
+      streams = loaded o .streams;
+      consts = loaded o .consts;
+      low = loaded o .low;
+      order = record { word = w; len = n };
+    }
 set-order o w n h l =
     let W : List ℕ = lowBytes (wordBytes w) in
     let p : List ℕ = splice o 8 8 W in
     let m : length p ≡ length o = splice-length o W 8 8 (omega arith) refl in
     let at-other : (j : ℕ) → (j ≡ 1 → ⊥) → getD (set p 1 n) j 0 ≡ getD p j 0 = λ j d. getD-set-other p 1 j n 0 d in
     let at-front : (j : ℕ) → (j ≡ 1 → ⊥) → j < 8 → getD (set p 1 n) j 0 ≡ getD o j 0 = λ j d k. at-other j d ∙ front o W h refl j k in
-    let a₀ = at-front 0 (λ z. omega arith) (omega arith) in let a₂ = at-front 2 (λ z. omega arith) (omega arith) in let a₃ = at-front 3 (λ z. omega arith) (omega arith) in
-    let a₄ = at-front 4 (λ z. omega arith) (omega arith) in let a₅ = at-front 5 (λ z. omega arith) (omega arith) in let a₆ = at-front 6 (λ z. omega arith) (omega arith) in let a₇ = at-front 7 (λ z. omega arith) (omega arith) in
+    let a₀ = at-front 0 (λ z. omega arith) (omega arith) in let a₂ = at-front 2 (λ z. omega arith) (omega arith) in
+    let a₃ = at-front 3 (λ z. omega arith) (omega arith) in
+    let a₄ = at-front 4 (λ z. omega arith) (omega arith) in let a₅ = at-front 5 (λ z. omega arith) (omega arith) in
+    let a₆ = at-front 6 (λ z. omega arith) (omega arith) in let a₇ = at-front 7 (λ z. omega arith) (omega arith) in
     let a₁ = getD-set-same p 1 n 0 (omega arith) in
     let x : le64 (set p 1 n) 8 ≡ w = word-read p n ∙ ap (λ d. le32 d 0 + le32 d 4 * 4294967296) (middle o W h refl) ∙ word-again w l in
     let q : part 16 32 (set p 1 n) ≡ part 16 32 o = ap (take 32) (drop-set-lt 16 p 1 n (omega arith)) ∙ back o W h refl in
-    λ i. record { width = a₀ i; streams = a₂ i + 256 * a₃ i; consts = a₄ i + 256 * a₅ i + 65536 * a₆ i + 16777216 * a₇ i; low = q i; order = record { word = x i; len = a₁ i } }
+    λ i. record {
+      width = a₀ i;
+      streams = a₂ i + 256 * a₃ i;
+      consts = a₄ i + 256 * a₅ i + 65536 * a₆ i + 16777216 * a₇ i;
+      low = q i;
+      order = record { word = x i; len = a₁ i };
+    }
   where
     word-read : (p : List ℕ) (n : ℕ) → le64 (set p 1 n) 8 ≡ le32 (drop 8 p) 0 + le32 (drop 8 p) 4 * 4294967296
     word-read p n = read-drop (set p 1 n) ∙ ap (λ d. le32 d 0 + le32 d 4 * 4294967296) (drop-set-lt 8 p 1 n (omega arith))
@@ -64,6 +79,19 @@ pub order-says : (b d : List ℕ) (keys order : Keys) (n : ℕ) → FactRow b �
 order-says b d keys order n r l k e =
     let h : 48 ≤ length (take 48 b ++ d) = (let x = length-append (take 48 b) d in let y = length-take-le 48 b (r .long) in omega arith) in
     let z = loaded-kept b d (r .long) in
-    let x : loaded (set (splice (take 48 b ++ d) 8 8 (lowBytes (wordBytes (order .word)))) 1 n) ≡ record { width = loaded b .width; streams = loaded b .streams; consts = loaded b .consts; low = loaded b .low; order = order } =
-    set-order (take 48 b ++ d) (order .word) n h l ∙ (λ i. record { width = z i .width; streams = z i .streams; consts = z i .consts; low = z i .low; order = record { word = order .word; len = e i } }) in
+    let x : loaded (set (splice (take 48 b ++ d) 8 8 (lowBytes (wordBytes (order .word)))) 1 n) ≡ record {
+      width = loaded b .width;
+      streams = loaded b .streams;
+      consts = loaded b .consts;
+      low = loaded b .low;
+      order = order;
+    } =
+    set-order (take 48 b ++ d) (order .word) n h l
+    ∙ (λ i. record {
+      width = z i .width;
+      streams = z i .streams;
+      consts = z i .consts;
+      low = z i .low;
+      order = record { word = order .word; len = e i };
+    }) in
     subst (Says _) (sym x) (says-ordered (loaded b) (loaded b .streams) order _ (r .fine) k)

@@ -102,7 +102,8 @@ fn reorder(own: &mut [u8], b: &[u8], keys: Keys)
 // Sorted by the keys of the record; a whole sort gives one stream.
 fn sort(own: &mut [u8], r: &[u8], b: &[u8], preserve: bool)
     requires { ⌜ (length (now own) ≡ 112) × (length (now r) ≡ 64) × (count (now r) ≤ 8) × FactRow (now b) ⌝ }
-    ensures { λ _. ⌜ Says (sem.ordered (told (now (b .entry))) (sem.sortStreams preserve (told (now (b .entry)))) (sem.nf (told (now (b .entry))) [] (map keyOf (lentKeys (now (r .entry)) (count (now (r .entry))))))) (loaded (now (own .exit))) ⌝ }
+    ensures { λ _. ⌜ Says (sem.ordered (told (now (b .entry))) (sem.sortStreams preserve (told (now (b .entry))))
+        (sem.nf (told (now (b .entry))) [] (map keyOf (lentKeys (now (r .entry)) (count (now (r .entry))))))) (loaded (now (own .exit))) ⌝ }
 {
     reorder(own, b, key_list(r));
     if preserve {
@@ -114,8 +115,10 @@ fn sort(own: &mut [u8], r: &[u8], b: &[u8], preserve: bool)
 
 // A projection to the columns of the record.
 fn project(own: &mut [u8], r: &[u8], b: &[u8])
-    requires { ⌜ (length (now own) ≡ 112) × (length (now r) ≡ 64) × (getD (now r) 13 0 ≤ 32) × (48 ≤ length (now b)) × Coherent (loaded (now b)) × (below (loaded (now b) .width) (lentColumns (now r) (getD (now r) 13 0)) ≡ true) × (loaded (now b) .streams < 65536) ⌝ }
-    ensures { λ _. ⌜ Says (sem.projFacts (known (loaded (now (b .entry)))) (lentColumns (now (r .entry)) (getD (now (r .entry)) 13 0))) (loaded (now (own .exit))) ⌝ }
+    requires { ⌜ (length (now own) ≡ 112) × (length (now r) ≡ 64) × (getD (now r) 13 0 ≤ 32) × (48 ≤ length (now b)) × Coherent (loaded (now b))
+        × (below (loaded (now b) .width) (lentColumns (now r) (getD (now r) 13 0)) ≡ true) × (loaded (now b) .streams < 65536) ⌝ }
+    ensures { λ _. ⌜ Says (sem.projFacts (known (loaded (now (b .entry)))) (lentColumns (now (r .entry)) (getD (now (r .entry)) 13 0)))
+        (loaded (now (own .exit))) ⌝ }
 {
     let f = load_row(b);
     let g = projected(r, f);
@@ -124,8 +127,12 @@ fn project(own: &mut [u8], r: &[u8], b: &[u8])
 
 // A sort-merge join by the type and the key pairs of the record.
 fn join_sorted(own: &mut [u8], r: &[u8], a: &[u8], b: &[u8])
-    requires { ⌜ (length (now own) ≡ 112) × (length (now r) ≡ 64) × (count (now r) ≤ 8) × (48 ≤ length (now a)) × (48 ≤ length (now b)) × Joinable (typeIn (now r)) (loaded (now a)) (loaded (now b)) (lentKeys (now r) (count (now r))) (lentColumns (now r) (count (now r))) × (loaded (now a) .streams < 65536) × (loaded (now b) .streams < 65536) ⌝ }
-    ensures { λ _. ⌜ Says (sem.joinFacts (typeIn (now (r .entry))) (sem.smjKept (typeIn (now (r .entry)))) (onIn (now (r .entry))) (known (loaded (now (a .entry)))) (known (loaded (now (b .entry)))) (cond (sem.byRight (typeIn (now (r .entry)))) (loaded (now (b .entry)) .streams) (loaded (now (a .entry)) .streams))) (loaded (now (own .exit))) ⌝ }
+    requires { ⌜ (length (now own) ≡ 112) × (length (now r) ≡ 64) × (count (now r) ≤ 8) × (48 ≤ length (now a)) × (48 ≤ length (now b))
+        × Joinable (typeIn (now r)) (loaded (now a)) (loaded (now b)) (lentKeys (now r) (count (now r))) (lentColumns (now r) (count (now r)))
+        × (loaded (now a) .streams < 65536) × (loaded (now b) .streams < 65536) ⌝ }
+    ensures { λ _. ⌜ Says (sem.joinFacts (typeIn (now (r .entry))) (sem.smjKept (typeIn (now (r .entry)))) (onIn (now (r .entry)))
+        (known (loaded (now (a .entry)))) (known (loaded (now (b .entry)))) (cond (sem.byRight (typeIn (now (r .entry)))) (loaded (now (b .entry)) .streams)
+        (loaded (now (a .entry)) .streams))) (loaded (now (own .exit))) ⌝ }
 {
     let f = load_row(a);
     let g = load_row(b);
@@ -135,8 +142,11 @@ fn join_sorted(own: &mut [u8], r: &[u8], a: &[u8], b: &[u8])
 
 // A hash join by the type and the key pairs of the record.
 fn join_hashed(own: &mut [u8], r: &[u8], a: &[u8], b: &[u8])
-    requires { ⌜ (length (now own) ≡ 112) × (length (now r) ≡ 64) × (count (now r) ≤ 8) × (48 ≤ length (now a)) × (48 ≤ length (now b)) × Joinable (typeIn (now r)) (loaded (now a)) (loaded (now b)) (lentKeys (now r) (count (now r))) (lentColumns (now r) (count (now r))) × (loaded (now b) .streams < 65536) ⌝ }
-    ensures { λ _. ⌜ Says (sem.joinFacts (typeIn (now (r .entry))) (sem.hashKept (typeIn (now (r .entry)))) (onIn (now (r .entry))) (known (loaded (now (a .entry)))) (known (loaded (now (b .entry)))) (loaded (now (b .entry)) .streams)) (loaded (now (own .exit))) ⌝ }
+    requires { ⌜ (length (now own) ≡ 112) × (length (now r) ≡ 64) × (count (now r) ≤ 8) × (48 ≤ length (now a)) × (48 ≤ length (now b))
+        × Joinable (typeIn (now r)) (loaded (now a)) (loaded (now b)) (lentKeys (now r) (count (now r))) (lentColumns (now r) (count (now r)))
+        × (loaded (now b) .streams < 65536) ⌝ }
+    ensures { λ _. ⌜ Says (sem.joinFacts (typeIn (now (r .entry))) (sem.hashKept (typeIn (now (r .entry)))) (onIn (now (r .entry)))
+        (known (loaded (now (a .entry)))) (known (loaded (now (b .entry)))) (loaded (now (b .entry)) .streams)) (loaded (now (own .exit))) ⌝ }
 {
     let f = load_row(a);
     let g = load_row(b);
@@ -147,7 +157,8 @@ fn join_hashed(own: &mut [u8], r: &[u8], a: &[u8], b: &[u8])
 // The facts of a node over its own bytes, from its record and its children's facts.
 pub fn node_into(own: &mut [u8], r: &[u8], first: &[u8], second: &[u8])
     requires { ⌜ Over (now own) (now r) (now first) (now second) ⌝ }
-    ensures { λ _. ⌜ Says (sem.factsOp (decode (now (r .entry))) (kidsOf (now (r .entry)) (loaded (now (first .entry))) (loaded (now (second .entry))))) (loaded (now (own .exit))) ⌝ }
+    ensures { λ _. ⌜ Says (sem.factsOp (decode (now (r .entry))) (kidsOf (now (r .entry)) (loaded (now (first .entry))) (loaded (now (second .entry)))))
+        (loaded (now (own .exit))) ⌝ }
 {
     let kind = kind_of(r[KIND]);
     match kind {

@@ -138,7 +138,8 @@ module _ {A : Type 0} where
   all-over f h all-nil = all-nil
   all-over f h (all-cons {x = x} p ps) = all-cons (h x p) (all-over f h ps)
 
-  pub pw-over : {B : Type 0} {P : A → Type 0} {R : A → A → Type 0} {S : B → B → Type 0} (f : A → B) → ((x y : A) → P x → P y → R x y → S (f x) (f y)) → {l : List A} → All P l → Pw R l → Pw S (map f l)
+  pub pw-over : {B : Type 0} {P : A → Type 0} {R : A → A → Type 0} {S : B → B → Type 0} (f : A → B) → ((x y : A) → P x → P y → R x y → S (f x) (f y))
+      → {l : List A} → All P l → Pw R l → Pw S (map f l)
   pw-over f h ps pw-nil = pw-nil
   pw-over f h ps (pw-cons {x = x} q qs) =
       pw-cons (all-over f (λ y pr. h x y (all-head ps) (pr .0) (pr .1)) (all-zip (all-tail ps) q)) (pw-over f h (all-tail ps) qs)
@@ -232,4 +233,9 @@ tab-true (suc n) f (suc c) e = let r = tab-true n (λ k. f (suc k)) c e in (omeg
 -- what holds of a table's entry, and of c itself, holds of what the table says at c
 pub tab-at : (P : ℕ → Type 0) (n : ℕ) (f : ℕ → ℕ) (c : ℕ) → (c < n → P (f c)) → P c → P (getD (tab n f) c c)
 tab-at P n f c h z =
-    (elim (ltb c n) as (λ b. ltb c n ≡ b → P (getD (tab n f) c c)) [ true ↦ λ e. subst P (sym (getD-tab n f c c (ltb-true c n e))) (h (ltb-true c n e)) | false ↦ λ e. subst P (sym (List·getD-eq-default (tab n f) c {n = c} (omega (arith, length-tab n f, ltb-false c n e)))) z ]) refl
+    (elim (ltb c n) as (λ b. ltb c n ≡ b → P (getD (tab n f) c c)) [
+      | true ↦ λ e. subst P (sym (getD-tab n f c c (ltb-true c n e)))
+          (h (ltb-true c n e))
+      | false ↦ λ e. subst P (sym (List·getD-eq-default (tab n f) c {n = c} (omega (arith, length-tab n f, ltb-false c n e)))) z
+    ])
+    refl

@@ -50,9 +50,11 @@ total-parts s zero = omega arith
 total-parts [] (suc h) = omega arith
 total-parts (x ∷ s) (suc h) = let z = total-parts s h in omega arith
 
-pub zeros-more : (s : List ℕ) (i : ℕ) (b : Bool) → i < length s → b && zeros (drop i s) ≡ zeros s → (b && eqb (getD s i 0) 0) && zeros (drop (i + 1) s) ≡ zeros s
+pub zeros-more : (s : List ℕ) (i : ℕ) (b : Bool) → i < length s → b && zeros (drop i s) ≡ zeros s → (b && eqb (getD s i 0) 0)
+    && zeros (drop (i + 1) s) ≡ zeros s
 zeros-more s i b h e =
-    let d : zeros (drop i s) ≡ eqb (getD s i 0) 0 && zeros (drop (i + 1) s) = ap zeros (drop-cons s i 0 h) ∙ ap (λ (n : ℕ). eqb (getD s i 0) 0 && zeros (drop n s)) (sym (add-one i)) in
+    let d : zeros (drop i s) ≡ eqb (getD s i 0) 0 && zeros (drop (i + 1) s) = ap zeros (drop-cons s i 0 h)
+    ∙ ap (λ (n : ℕ). eqb (getD s i 0) 0 && zeros (drop n s)) (sym (add-one i)) in
     and-assoc b (eqb (getD s i 0) 0) (zeros (drop (i + 1) s)) ∙ ap (λ z. b && z) (sym d) ∙ e
 
 pub zeros-end : (s : List ℕ) (i : ℕ) (b : Bool) → length s ≤ i → b && zeros (drop i s) ≡ zeros s → b ≡ zeros s

@@ -11,7 +11,8 @@ use Rattle.semantics.specs.Facts.{Facts, cl, isC}
 -- A key list in normal form: each key's column is its class's lowest, not constant, and not seen before
 pub data Normal (cs : ℕ → Bool) (low : ℕ → ℕ) : List ℕ → List Key → Type 0 where
   n-nil : {seen : List ℕ} → Normal cs low seen []
-  n-cons : {seen : List ℕ} {k : Key} {ks : List Key} → low (k .col) ≡ k .col → cs (k .col) ≡ false → member (k .col) seen ≡ false → Normal cs low (k .col ∷ seen) ks → Normal cs low seen (k ∷ ks)
+  n-cons : {seen : List ℕ} {k : Key} {ks : List Key} → low (k .col) ≡ k .col → cs (k .col) ≡ false → member (k .col) seen ≡ false
+      → Normal cs low (k .col ∷ seen) ks → Normal cs low seen (k ∷ ks)
 
 -- Both tables have an entry for each column. A class's lowest is no higher than the column, and is its own lowest.
 -- "A class that holds a constant is all constant."

@@ -1,4 +1,5 @@
-// The C exports, on numbers and byte slices. Each answers the number of its refusal, or 0; a refusal leaves what was lent alone, and bytes past the file that is written stay.
+// The C exports, on numbers and byte slices. Each answers the number of its refusal, or 0; a refusal leaves what was lent alone, and bytes past the file
+// that is written stay.
 pub mod memory;
 
 use crate::memory::call;
@@ -15,7 +16,8 @@ ghost use Rattle.plan_calls.specs.Answers.{checkAnswer, settingsIn, rewrites, r
 // In `passes` 1 where the plan passes the order check, 0 where it doesn't.
 #[no_mangle]
 pub extern "C" fn check_order(plan: &[u8], passes: &mut u32) -> u32
-    ensures { λ r. ⌜ (r ≡ numberOf (refusalOf (now (plan .entry)))) × (now (passes .exit) ≡ checkAnswer (reading (now (plan .entry))) (now (passes .entry))) ⌝ }
+    ensures { λ r. ⌜ (r ≡ numberOf (refusalOf (now (plan .entry)))) × (now (passes .exit) ≡ checkAnswer (reading (now (plan .entry))) (now (passes .entry)))
+        ⌝ }
 {
     let mut none = [0u8; 1];
     let a = call(Call::CheckOrder, plan, &mut none);
@@ -28,7 +30,8 @@ pub extern "C" fn check_order(plan: &[u8], passes: &mut u32) -> u32
 // A plan is read, and written to the output: the same bytes, since a plan has one file. For drivers that test and time both.
 #[no_mangle]
 pub extern "C" fn copy_plan(plan: &[u8], out: &mut [u8]) -> u32
-    ensures { λ r. ⌜ (r ≡ numberOf (refusalIn (rewrites answered (now (plan .entry))) (now (out .entry)))) × (now (out .exit) ≡ outputIn (rewrites answered (now (plan .entry))) (now (out .entry))) ⌝ }
+    ensures { λ r. ⌜ (r ≡ numberOf (refusalIn (rewrites answered (now (plan .entry))) (now (out .entry))))
+        × (now (out .exit) ≡ outputIn (rewrites answered (now (plan .entry))) (now (out .entry))) ⌝ }
 {
     call(Call::CopyPlan, plan, out).number
 }
@@ -36,7 +39,8 @@ pub extern "C" fn copy_plan(plan: &[u8], out: &mut [u8]) -> u32
 // The ensuring walk: sorts put where an order is wanted and not met, and taken away where nothing needs them.
 #[no_mangle]
 pub extern "C" fn ensure_sorting(plan: &[u8], out: &mut [u8]) -> u32
-    ensures { λ r. ⌜ (r ≡ numberOf (refusalIn (rewrites ensured (now (plan .entry))) (now (out .entry)))) × (now (out .exit) ≡ outputIn (rewrites ensured (now (plan .entry))) (now (out .entry))) ⌝ }
+    ensures { λ r. ⌜ (r ≡ numberOf (refusalIn (rewrites ensured (now (plan .entry))) (now (out .entry))))
+        × (now (out .exit) ≡ outputIn (rewrites ensured (now (plan .entry))) (now (out .entry))) ⌝ }
 {
     call(Call::TransformUp(Walk::Ensure), plan, out).number
 }
@@ -44,7 +48,8 @@ pub extern "C" fn ensure_sorting(plan: &[u8], out: &mut [u8]) -> u32
 // The parallelizing walk: sorts over coalesced streams made sorts of each stream under a merge.
 #[no_mangle]
 pub extern "C" fn parallelize_sorts(plan: &[u8], out: &mut [u8]) -> u32
-    ensures { λ r. ⌜ (r ≡ numberOf (refusalIn (rewrites parallelized (now (plan .entry))) (now (out .entry)))) × (now (out .exit) ≡ outputIn (rewrites parallelized (now (plan .entry))) (now (out .entry))) ⌝ }
+    ensures { λ r. ⌜ (r ≡ numberOf (refusalIn (rewrites parallelized (now (plan .entry))) (now (out .entry))))
+        × (now (out .exit) ≡ outputIn (rewrites parallelized (now (plan .entry))) (now (out .entry))) ⌝ }
 {
     call(Call::TransformUp(Walk::Parallelize), plan, out).number
 }
@@ -58,7 +63,9 @@ pub extern "C" fn replace_with_order_preserving_variants(
     prefer_existing: u8,
     out: &mut [u8],
 ) -> u32
-    ensures { λ r. ⌜ (r ≡ numberOf (refusalIn (rewrites (preserved (settingsIn «spr_better» «spm_better» «prefer_existing»)) (now (plan .entry))) (now (out .entry)))) × (now (out .exit) ≡ outputIn (rewrites (preserved (settingsIn «spr_better» «spm_better» «prefer_existing»)) (now (plan .entry))) (now (out .entry))) ⌝ }
+    ensures { λ r. ⌜ (r ≡ numberOf (refusalIn (rewrites (preserved (settingsIn «spr_better» «spm_better» «prefer_existing»)) (now (plan .entry)))
+        (now (out .entry)))) × (now (out .exit) ≡ outputIn (rewrites (preserved (settingsIn «spr_better» «spm_better» «prefer_existing»))
+        (now (plan .entry))) (now (out .entry))) ⌝ }
 {
     let s = Settings {
         spr: spr_better != 0,
@@ -71,7 +78,8 @@ pub extern "C" fn replace_with_order_preserving_variants(
 // The walk that pushes sorts down: parents before children.
 #[no_mangle]
 pub extern "C" fn pushdown_sorts(plan: &[u8], out: &mut [u8]) -> u32
-    ensures { λ r. ⌜ (r ≡ numberOf (refusalIn (rewrites pushed (now (plan .entry))) (now (out .entry)))) × (now (out .exit) ≡ outputIn (rewrites pushed (now (plan .entry))) (now (out .entry))) ⌝ }
+    ensures { λ r. ⌜ (r ≡ numberOf (refusalIn (rewrites pushed (now (plan .entry))) (now (out .entry))))
+        × (now (out .exit) ≡ outputIn (rewrites pushed (now (plan .entry))) (now (out .entry))) ⌝ }
 {
     call(Call::PushDown, plan, out).number
 }
@@ -79,7 +87,8 @@ pub extern "C" fn pushdown_sorts(plan: &[u8], out: &mut [u8]) -> u32
 // Partial sorting of the node with the number `node`: nothing else changes.
 #[no_mangle]
 pub extern "C" fn replace_with_partial_sort(plan: &[u8], node: u32, out: &mut [u8]) -> u32
-    ensures { λ r. ⌜ (r ≡ numberOf (refusalIn (rewrites (partiallySorted node) (now (plan .entry))) (now (out .entry)))) × (now (out .exit) ≡ outputIn (rewrites (partiallySorted node) (now (plan .entry))) (now (out .entry))) ⌝ }
+    ensures { λ r. ⌜ (r ≡ numberOf (refusalIn (rewrites (partiallySorted node) (now (plan .entry))) (now (out .entry))))
+        × (now (out .exit) ≡ outputIn (rewrites (partiallySorted node) (now (plan .entry))) (now (out .entry))) ⌝ }
 {
     call(Call::PartialSort(node), plan, out).number
 }

@@ -1,4 +1,5 @@
-// Working memory: one ladder of arenas under all calls. A call that finds its arena too small takes the next larger one; of the largest it is proved that this cannot be.
+// Working memory: one ladder of arenas under all calls. A call that finds its arena too small takes the next larger one; of the largest it is proved that
+// this cannot be.
 use arena::SLOT;
 use plan_calls::calls::Call;
 use plan_calls::calls::Called;

@@ -45,20 +45,25 @@ no-merge true = refl
 no-merge false = refl
 
 -- one sort of the new keys, or a merge over it
-module _ (F : Facts) (ks keys : List Key) (f : Fetch) (s : Order) (p : Bool) (e : keys ≡ freshKeys F [] ks) (o : Ordered keys s) (x : p ≡ ltb 1 (F .streams)) where
+module _ (F : Facts) (ks keys : List Key) (f : Fetch) (s : Order) (p : Bool) (e : keys ≡ freshKeys F [] ks) (o : Ordered keys s)
+    (x : p ≡ ltb 1 (F .streams)) where
   sort-is : orderOf s ≡ freshKeys F [] ks
   sort-is = o .is ∙ e
 
-  pub above-merge : (d : Distribution) → needsMerge F d ≡ true → Adds (sortAboveWithDistribution F ks f d) (record { merge = s; mfetch = f; sort = s; sfetch = f; preserve = p })
+  pub above-merge : (d : Distribution) → needsMerge F d ≡ true → Adds (sortAboveWithDistribution F ks f d)
+      (record { merge = s; mfetch = f; sort = s; sfetch = f; preserve = p })
   above-merge d n = record { is = rw (sort-is, x, n); merge = o .real; sort = o .real }
 
-  pub above-sort : (d : Distribution) → needsMerge F d ≡ false → Adds (sortAboveWithDistribution F ks f d) (record { merge = Unordered; mfetch = f; sort = s; sfetch = f; preserve = p })
+  pub above-sort : (d : Distribution) → needsMerge F d ≡ false → Adds (sortAboveWithDistribution F ks f d)
+      (record { merge = Unordered; mfetch = f; sort = s; sfetch = f; preserve = p })
   above-sort d n = record { is = rw (sort-is, x, n); merge = tt; sort = o .real }
 
-  pub merge-above : (ms : List Key) (m : Order) (g : Fetch) → Ordered ms m → Adds (newMerge ms g ++ sortAboveWithDistribution F ks f Unspecified) (record { merge = m; mfetch = g; sort = s; sfetch = f; preserve = p })
+  pub merge-above : (ms : List Key) (m : Order) (g : Fetch) → Ordered ms m → Adds (newMerge ms g ++ sortAboveWithDistribution F ks f Unspecified)
+      (record { merge = m; mfetch = g; sort = s; sfetch = f; preserve = p })
   merge-above ms m g h = record { is = rw (h .is, sort-is, x, no-merge (ltb 1 (F .streams))); merge = h .real; sort = o .real }
 
-pub merge-alone : (ms : List Key) (m : Order) (g : Fetch) → Ordered ms m → Adds (newMerge ms g) (record { merge = m; mfetch = g; sort = Unordered; sfetch = g; preserve = false })
+pub merge-alone : (ms : List Key) (m : Order) (g : Fetch) → Ordered ms m
+    → Adds (newMerge ms g) (record { merge = m; mfetch = g; sort = Unordered; sfetch = g; preserve = false })
 merge-alone ms m g h = record { is = append-nil (newMerge (orderOf m) g) ∙ ap (λ l. newMerge l g) (h .is); merge = h .real; sort = tt }
 
 -- ---- what the children are visited with: all but the first alike
@@ -100,24 +105,38 @@ module _ (o : Op) (a b : Order) (f : Fetch) (d₀ d₁ : Distribution) where
   abbrev both : Bool → ChildRequirements
   both x = record { first = record { order = a; fetch = f; distribution = d₀ }; rest = record { order = b; fetch = f; distribution = d₁ }; initial = x }
 
-  pub hand-asks : (d : Distribution) → d₀ ≡ strongerDistribution d (distOf o 0) → d₁ ≡ strongerDistribution d (distOf o 1) → (m : ℕ) (ts : List Fetch) (ks : ℕ → List Key) → Going m ks a b
-      → Asks m ts (λ i. walk.handDown ks f d o i .req) (record { first = record { order = a; fetch = f; distribution = d₀ }; rest = record { order = b; fetch = f; distribution = d₁ }; initial = false })
+  pub hand-asks : (d : Distribution) → d₀ ≡ strongerDistribution d (distOf o 0) → d₁ ≡ strongerDistribution d (distOf o 1) → (m : ℕ) (ts : List Fetch)
+      (ks : ℕ → List Key) → Going m ks a b
+      → Asks m ts (λ i. walk.handDown ks f d o i .req)
+      (record {
+        first = record { order = a; fetch = f; distribution = d₀ };
+        rest = record { order = b; fetch = f; distribution = d₁ };
+        initial = false;
+      })
   hand-asks d e₀ e₁ m ts ks h = record { is = at; first = h .first; rest = h .rest }
     where
       at : (i : ℕ) → i < m → reqFor (both false) ts i ≡ walk.handDown ks f d o i .req
       at zero l = let g = h .is zero l in λ j. record { order = g j; fetch = f; dist = e₀ j }
-      at (suc i) l = let e = e₁ ∙ ap (strongerDistribution d) (dist-rest o i) in let g = h .is (suc i) l in λ j. record { order = g j; fetch = f; dist = e j }
+      at (suc i) l = let e = e₁ ∙ ap (strongerDistribution d) (dist-rest o i) in let g = h .is (suc i) l in
+          λ j. record { order = g j; fetch = f; dist = e j }
 
   pub own-asks : d₀ ≡ distOf o 0 → d₁ ≡ distOf o 1 → orderOf a ≡ [] → orderOf b ≡ [] → Real a → Real b → f ≡ Unlimited → (m : ℕ) (ts : List Fetch)
-      → Asks m ts (λ i. walk.withOwnDistribution o i .req) (record { first = record { order = a; fetch = f; distribution = d₀ }; rest = record { order = b; fetch = f; distribution = d₁ }; initial = false })
+      → Asks m ts (λ i. walk.withOwnDistribution o i .req)
+      (record {
+        first = record { order = a; fetch = f; distribution = d₀ };
+        rest = record { order = b; fetch = f; distribution = d₁ };
+        initial = false;
+      })
   own-asks e₀ e₁ x y p q z m ts = record { is = at; first = p; rest = q }
     where
       at : (i : ℕ) → i < m → reqFor (both false) ts i ≡ walk.withOwnDistribution o i .req
       at zero l = λ j. record { order = x j; fetch = z j; dist = e₀ j }
       at (suc i) l = let e = e₁ ∙ dist-rest o i in λ j. record { order = y j; fetch = z j; dist = e j }
 
-  pub initial-asks : d₀ ≡ distOf o 0 → d₁ ≡ distOf o 1 → Ordered (wanted o 0) a → Ordered (wanted o 1) b → (c : Plan) → childrenOk o (walk.childCount c) ≡ true
-      → Asks (walk.childCount c) (fetches c) (λ i. walk.assignInitialRequirements o c i .req) (record { first = record { order = a; fetch = f; distribution = d₀ }; rest = record { order = b; fetch = f; distribution = d₁ }; initial = true })
+  pub initial-asks : d₀ ≡ distOf o 0 → d₁ ≡ distOf o 1 → Ordered (wanted o 0) a → Ordered (wanted o 1) b → (c : Plan)
+      → childrenOk o (walk.childCount c) ≡ true
+      → Asks (walk.childCount c) (fetches c) (λ i. walk.assignInitialRequirements o c i .req)
+      (record { first = record { order = a; fetch = f; distribution = d₀ }; rest = record { order = b; fetch = f; distribution = d₁ }; initial = true })
   initial-asks e₀ e₁ x y c v = record { is = at; first = x .real; rest = y .real }
     where
       at : (i : ℕ) → i < walk.childCount c → reqFor (both true) (fetches c) i ≡ walk.assignInitialRequirements o c i .req
@@ -143,10 +162,12 @@ other-child reqs (suc j) e = refl
 pub sort-cut : (o : Op) (p : Bool) (ks : List Key) (f g : Fetch) → o ≡ sortOp p ks f → g ≡ cuts o .fetch → g ≡ f
 sort-cut o p ks f g e h = h ∙ ap (λ x. cuts x .fetch) e
 
-pub sort-dist : (o : Op) (p : Bool) (ks : List Key) (f : Fetch) (root : Bool) (d : Distribution) → o ≡ sortOp p ks f → d ≡ cond root (distOf o 0) Unspecified → d ≡ cond root (sortDist p) Unspecified
+pub sort-dist : (o : Op) (p : Bool) (ks : List Key) (f : Fetch) (root : Bool) (d : Distribution) → o ≡ sortOp p ks f
+    → d ≡ cond root (distOf o 0) Unspecified → d ≡ cond root (sortDist p) Unspecified
 sort-dist o p ks f root d e h = h ∙ ap (λ x. cond root (distOf x 0) Unspecified) e
 
-pub gone-by : (p : Bool) (ks : List Key) (f : Fetch) (c : Plan) (us : List Op) (P : ParentRequirements) (b : Bool) (tops : NewNodes) (req : Coded) (r : Decision)
+pub gone-by : (p : Bool) (ks : List Key) (f : Fetch) (c : Plan) (us : List Op) (P : ParentRequirements) (b : Bool) (tops : NewNodes) (req : Coded)
+    (r : Decision)
     → r ≡ removedBy tops req b → Adds us tops → required req ≡ P → Real (req .order)
     → Decides (sortOp p ks f) c (record { tops = us; gone = true; op = sortOp p ks f; reqs = λ i. walk.belowSort P; peak = 0; quiet = b }) r
 gone-by p ks f c us P b tops req r x a d h =
@@ -162,13 +183,17 @@ pub parts : (ks : List Key) (f : Fetch) (d : Distribution) (x : List Key) (g : F
     → _≡_ {A = ParentRequirements} (record { order = x; fetch = g; dist = e }) (record { order = ks; fetch = f; dist = d })
 parts ks f d x g e p q s = λ i. record { order = p i; fetch = q i; dist = s i }
 
-pub stricter-own : (C : Facts) (own : Order) (k : Keys) (ps : List Key) → Keyed (orderOf own) k → (x : Bool) → x ≡ compatible C (keysOf k) ps → x ≡ true → Real own → Ordered (cond (compatible C (orderOf own) ps) (orderOf own) ps) own
+pub stricter-own : (C : Facts) (own : Order) (k : Keys) (ps : List Key) → Keyed (orderOf own) k → (x : Bool) → x ≡ compatible C (keysOf k) ps → x ≡ true
+    → Real own → Ordered (cond (compatible C (orderOf own) ps) (orderOf own) ps) own
 stricter-own C own k ps h x e t r = record { is = sym (ap (λ b. cond b (orderOf own) ps) (sym (e ∙ ap (λ l. compatible C l ps) (h .is)) ∙ t)); real = r }
 
-pub stricter-parent : (C : Facts) (own : Order) (k : Keys) (ps : List Key) → Keyed (orderOf own) k → (x : Bool) → x ≡ compatible C (keysOf k) ps → x ≡ false → (o : Order) → Ordered ps o → Ordered (cond (compatible C (orderOf own) ps) (orderOf own) ps) o
+pub stricter-parent : (C : Facts) (own : Order) (k : Keys) (ps : List Key) → Keyed (orderOf own) k → (x : Bool) → x ≡ compatible C (keysOf k) ps → x ≡ false
+    → (o : Order) → Ordered ps o → Ordered (cond (compatible C (orderOf own) ps) (orderOf own) ps) o
 stricter-parent C own k ps h x e t o r = subst⁻¹ (λ b. Ordered (cond b (orderOf own) ps) o) (sym (e ∙ ap (λ l. compatible C l ps) (h .is)) ∙ t) r
 
-pub stricter-is : (C : Facts) (x own : Order) (p : Keys) (ks ls : List Key) → Ordered (cond (compatible C (orderOf own) (keysOf p)) (orderOf own) (keysOf p)) x → orderOf own ≡ ks → keysOf p ≡ ls → orderOf x ≡ cond (compatible C ks ls) ks ls
+pub stricter-is : (C : Facts) (x own : Order) (p : Keys) (ks ls : List Key)
+    → Ordered (cond (compatible C (orderOf own) (keysOf p)) (orderOf own) (keysOf p)) x → orderOf own ≡ ks → keysOf p ≡ ls
+    → orderOf x ≡ cond (compatible C ks ls) ks ls
 stricter-is C x own p ks ls h e d = h .is ∙ ap₂ (λ o l. cond (compatible C o l) o l) e d
 
 -- ---- tests
@@ -196,7 +221,8 @@ requirement-none o e = ap (λ x. isNil (orderOf x)) e
 
 -- ---- a node that stays
 
-pub stay-by : (o : Op) (c : Plan) (us : List Op) (p : Op) (g : ℕ → ParentRequirements) (j : ℕ) (b x : Bool) (tops : NewNodes) (reqs : ChildRequirements) (r : Decision)
+pub stay-by : (o : Op) (c : Plan) (us : List Op) (p : Op) (g : ℕ → ParentRequirements) (j : ℕ) (b x : Bool) (tops : NewNodes) (reqs : ChildRequirements)
+    (r : Decision)
     → r ≡ staysBy b tops reqs x → Adds us tops → cond b (rebuilt o (facts c)) o ≡ p → one x ≡ j → Asks (walk.childCount c) (fetches c) g reqs
     → Decides o c (record { tops = us; gone = false; op = p; reqs = λ i. walk.asked (g i); peak = j; quiet = false }) r
 stay-by o c us p g j b x tops reqs r e a d k h =
@@ -217,14 +243,29 @@ module _ (n o : Op) (fs : List Facts) (m : ℕ) (F L R : Facts) (s : Seen n o fs
   pub wanted-like : (i : ℕ) → wanted n i ≡ wanted o i
   wanted-like i = sym (like (λ x. wanted x i) (λ p q k h ks. refl))
 
-  pub handed-like : (ts : List Fetch) (ks : ℕ → List Key) (f : Fetch) (d : Distribution) (q : ChildRequirements) → Asks m ts (λ i. walk.handDown ks f d n i .req) q → Asks m ts (λ i. walk.handDown ks f d o i .req) q
-  handed-like ts ks f d q h = record { is = λ i l. h .is i l ∙ sym (like (λ x. walk.handDown ks f d x i .req) (λ p q k h ks. refl)); first = h .first; rest = h .rest }
+  pub handed-like : (ts : List Fetch) (ks : ℕ → List Key) (f : Fetch) (d : Distribution) (q : ChildRequirements)
+      → Asks m ts (λ i. walk.handDown ks f d n i .req) q → Asks m ts (λ i. walk.handDown ks f d o i .req) q
+  handed-like ts ks f d q h = record {
+    is = λ i l. h .is i l ∙ sym (like (λ x. walk.handDown ks f d x i .req) (λ p q k h ks. refl));
+    first = h .first;
+    rest = h .rest;
+  }
 
-  pub own-like : (ts : List Fetch) (q : ChildRequirements) → Asks m ts (λ i. walk.withOwnDistribution n i .req) q → Asks m ts (λ i. walk.withOwnDistribution o i .req) q
-  own-like ts q h = record { is = λ i l. h .is i l ∙ sym (like (λ x. walk.withOwnDistribution x i .req) (λ p q k h ks. refl)); first = h .first; rest = h .rest }
+  pub own-like : (ts : List Fetch) (q : ChildRequirements) → Asks m ts (λ i. walk.withOwnDistribution n i .req) q
+      → Asks m ts (λ i. walk.withOwnDistribution o i .req) q
+  own-like ts q h = record {
+    is = λ i l. h .is i l ∙ sym (like (λ x. walk.withOwnDistribution x i .req) (λ p q k h ks. refl));
+    first = h .first;
+    rest = h .rest;
+  }
 
-  pub initial-like : (c : Plan) (q : ChildRequirements) → Asks m (fetches c) (λ i. walk.assignInitialRequirements n c i .req) q → Asks m (fetches c) (λ i. walk.assignInitialRequirements o c i .req) q
-  initial-like c q h = record { is = λ i l. h .is i l ∙ sym (like (λ x. walk.assignInitialRequirements x c i .req) (λ p q k h ks. refl)); first = h .first; rest = h .rest }
+  pub initial-like : (c : Plan) (q : ChildRequirements) → Asks m (fetches c) (λ i. walk.assignInitialRequirements n c i .req) q
+      → Asks m (fetches c) (λ i. walk.assignInitialRequirements o c i .req) q
+  initial-like c q h = record {
+    is = λ i l. h .is i l ∙ sym (like (λ x. walk.assignInitialRequirements x c i .req) (λ p q k h ks. refl));
+    first = h .first;
+    rest = h .rest;
+  }
 
 -- ---- steps
 
@@ -280,10 +321,13 @@ module _ (a q p : Bool) (n : ℕ) where
   step-goes e d = sym (ap (λ x. stepBy x q p n) e ∙ ap (λ x. cond x (Refused TooManyNodes) (On n)) d)
 
 -- the visit of child number j
-pub child-is : (d : Decision) (j : ℕ) (own : Fetch) (ts : List Fetch) (req : Coded) (g : Fetch) → req ≡ ofChild (d .reqs) j → g ≡ cond (d .reqs .initial) own (req .fetch) → own ≡ getD ts j Unlimited
-    → _≡_ {A = walk.Visit} (record { req = record { order = orderOf (req .order); fetch = g; dist = req .distribution }; touch = d .gone; root = false }) (visitFor d ts j)
+pub child-is : (d : Decision) (j : ℕ) (own : Fetch) (ts : List Fetch) (req : Coded) (g : Fetch) → req ≡ ofChild (d .reqs) j
+    → g ≡ cond (d .reqs .initial) own (req .fetch) → own ≡ getD ts j Unlimited
+    → _≡_ {A = walk.Visit} (record { req = record { order = orderOf (req .order); fetch = g; dist = req .distribution }; touch = d .gone; root = false })
+    (visitFor d ts j)
 child-is d j own ts req g x y z =
-    let w : g ≡ cond (d .reqs .initial) (getD ts j Unlimited) (ofChild (d .reqs) j .fetch) = y ∙ ap₂ (λ a (q : Coded). cond (d .reqs .initial) a (q .fetch)) z x in
+    let w : g ≡ cond (d .reqs .initial) (getD ts j Unlimited) (ofChild (d .reqs) j .fetch) =
+    y ∙ ap₂ (λ a (q : Coded). cond (d .reqs .initial) a (q .fetch)) z x in
     λ i. record { req = record { order = orderOf (x i .order); fetch = w i; dist = x i .distribution }; touch = d .gone; root = false }
 
 pub not-not : (b : Bool) → not (not b) ≡ b

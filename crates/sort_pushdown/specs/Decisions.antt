@@ -98,16 +98,22 @@ rebuiltBy d = record { tops = d .tops; gone = d .gone; rebuilt = true; reqs = d 
 -- ---- the definitions of walks at a sort, over its facts F and its child's C in the place of the child: equal by computation
 
 abbrev pub unaskedOn : Bool → List Key → Fetch → walk.Visit → Facts → walk.Decision
-unaskedOn p ks f q F = walk.removed (sortOp p ks f) (walk.belowSort (record { order = knownOrder F; fetch = minFetch f (q .req .fetch); dist = cond (q .root) (sortDist p) Unspecified }))
+unaskedOn p ks f q F = walk.removed (sortOp p ks f)
+    (walk.belowSort (record { order = knownOrder F; fetch = minFetch f (q .req .fetch); dist = cond (q .root) (sortDist p) Unspecified }))
 
 abbrev pub unnecessaryOn : Bool → List Key → Fetch → walk.Visit → Facts → Facts → walk.Decision
 unnecessaryOn p ks f q F C =
     walk.removed (sortOp p ks f)
-    (walk.belowSort (record { order = cond (compatible C (knownOrder F) (q .req .order)) (knownOrder F) (q .req .order); fetch = minFetch f (q .req .fetch); dist = Unspecified }))
+    (walk.belowSort (record {
+      order = cond (compatible C (knownOrder F) (q .req .order)) (knownOrder F) (q .req .order);
+      fetch = minFetch f (q .req .fetch);
+      dist = Unspecified;
+    }))
 
 abbrev pub replacedOn : Bool → List Key → Fetch → walk.Visit → Facts → Facts → walk.Decision
 replacedOn p ks f q F C =
-    walk.replaced (sortAboveWithDistribution C (q .req .order) (q .req .fetch) (q .req .dist)) (sortOp p ks f) (walk.belowSort (record { order = knownOrder F; fetch = f; dist = Unspecified }))
+    walk.replaced (sortAboveWithDistribution C (q .req .order) (q .req .fetch) (q .req .dist)) (sortOp p ks f)
+    (walk.belowSort (record { order = knownOrder F; fetch = f; dist = Unspecified }))
 
 abbrev pub twiceOn : Bool → List Key → Fetch → walk.Visit → Facts → Facts → walk.Decision
 twiceOn p ks f q F C =

@@ -45,23 +45,31 @@ module _ (o p : Op) (c : Plan) (r : Decision) (q : walk.Visit) where
   m = walk.childCount c
 
   pub try-goes : (P : Pushed) (a b : Order) → Pushes (walk.childCount c) P (Goes a b)
-      → ((ks : ℕ → List Key) → Going (walk.childCount c) ks a b → Decides o c (walk.stays p (walk.handDown ks (minFetch (fetchOp p (fetches c)) (q .req .fetch)) (walk.effectiveDist (factsOp p (facts c)) (q .req .dist)) p)) r)
+      → ((ks : ℕ → List Key) → Going (walk.childCount c) ks a b
+      → Decides o c (walk.stays p (walk.handDown ks (minFetch (fetchOp p (fetches c)) (q .req .fetch))
+      (walk.effectiveDist (factsOp p (facts c)) (q .req .dist)) p)) r)
       → Decides o c (walk.afterTry P q p c) r
   try-goes (goes ks) a b h k = k ks h
   try-goes stop a b h k = absurd h
 
-  pub try-stop : (P : Pushed) → Pushes (walk.childCount c) P Stop → Decides o c (cond (needsMerge (factsOp p (facts c)) (q .req .dist)) (walk.mergeAdded q p c) (walk.sortAdded q p c)) r → Decides o c (walk.afterTry P q p c) r
+  pub try-stop : (P : Pushed) → Pushes (walk.childCount c) P Stop
+      → Decides o c (cond (needsMerge (factsOp p (facts c)) (q .req .dist)) (walk.mergeAdded q p c) (walk.sortAdded q p c)) r
+      → Decides o c (walk.afterTry P q p c) r
   try-stop (goes ks) h k = absurd h
   try-stop stop h k = k
 
   after-goes : (P : Pushed) (a b : Order) → Pushes m P (Goes a b)
-      → ((ks : ℕ → List Key) → Going m ks a b → Decides o c (walk.covered (newMerge (freshKeys (factsOp p (facts c)) [] (q .req .order)) (q .req .fetch)) 1 p (walk.handDown ks (minFetch (fetchOp p (fetches c)) (q .req .fetch)) Unspecified p)) r)
+      → ((ks : ℕ → List Key) → Going m ks a b
+      → Decides o c (walk.covered (newMerge (freshKeys (factsOp p (facts c)) [] (q .req .order)) (q .req .fetch)) 1 p
+      (walk.handDown ks (minFetch (fetchOp p (fetches c)) (q .req .fetch)) Unspecified p)) r)
       → Decides o c (walk.afterMerge P q p c) r
   after-goes (goes ks) a b h k = k ks h
   after-goes stop a b h k = absurd h
 
   after-stop : (P : Pushed) → Pushes m P Stop
-      → Decides o c (let F : Facts = factsOp p (facts c) in let new : List Key = freshKeys F [] (q .req .order) in walk.covered (newMerge new (q .req .fetch) ++ sortAboveWithDistribution F (nf F [] new) (q .req .fetch) Unspecified) 0 p (walk.withOwnDistribution p)) r
+      → Decides o c (let F : Facts = factsOp p (facts c) in let new : List Key = freshKeys F [] (q .req .order) in
+      walk.covered (newMerge new (q .req .fetch) ++ sortAboveWithDistribution F (nf F [] new) (q .req .fetch) Unspecified) 0 p
+      (walk.withOwnDistribution p)) r
       → Decides o c (walk.afterMerge P q p c) r
   after-stop (goes ks) h k = absurd h
   after-stop stop h k = k
@@ -75,10 +83,12 @@ fresh-keep P false k ls ms h a b = all-cons h b
 fresh-all : {P : Key → Type 0} (F : Facts) (seen : List ℕ) (ks : List Key) → All P ks → All P (freshKeys F seen ks)
 fresh-all F seen [] all-nil = all-nil
 fresh-all {P} F seen (k ∷ ks) (all-cons h hs) =
-    fresh-keep P (isC F (k .col) || member (k .col) seen) k (freshKeys F seen ks) (freshKeys F (k .col ∷ seen) ks) h (fresh-all F seen ks hs) (fresh-all F (k .col ∷ seen) ks hs)
+    fresh-keep P (isC F (k .col) || member (k .col) seen) k (freshKeys F seen ks) (freshKeys F (k .col ∷ seen) ks) h (fresh-all F seen ks hs)
+    (fresh-all F (k .col ∷ seen) ks hs)
 
 -- the second try's order stays inside the width
-pub asked-again : (r own a b : List ℕ) (order new again : Keys) → Asked r own a b order → Keyed (freshKeys (told own) [] (keysOf order)) new → Keyed (nf (told own) [] (keysOf new)) again → Asked r own a b again
+pub asked-again : (r own a b : List ℕ) (order new again : Keys) → Asked r own a b order → Keyed (freshKeys (told own) [] (keysOf order)) new
+    → Keyed (nf (told own) [] (keysOf new)) again → Asked r own a b again
 asked-again r own a b order new again h x y =
     record {
       proper = h .proper;
@@ -88,7 +98,8 @@ asked-again r own a b order new again h x y =
       few = y .few;
       inside =
           subst⁻¹ (All (λ k. k .col < told own .width)) (y .is ∙ ap (nf (told own) []) (x .is))
-          (nf-all (isC (told own)) (cl (told own)) (λ k l. let d = h .here .fine .down (k .col) in let e = classes (loaded own) (h .here .fine) (k .col) in omega arith) [] (fresh-all (told own) [] (keysOf order) (h .inside)));
+          (nf-all (isC (told own)) (cl (told own)) (λ k l. let d = h .here .fine .down (k .col) in let e = classes (loaded own) (h .here .fine) (k .col) in
+          omega arith) [] (fresh-all (told own) [] (keysOf order) (h .inside)));
       merged = h .merged;
       hashed = h .hashed;
     }
@@ -147,8 +158,10 @@ seen-again n o fs m F L R s =
     }
 
 -- ---- where a merge comes too
-module _ (c : Plan) (n o : Op) (q : walk.Visit) (F L R : Facts) (s : Seen n o (facts c) (walk.childCount c) F L R) (limit fetch : Fetch) (order new again : Keys)
-    (e : limit ≡ fetchOp o (fetches c)) (eo : keysOf order ≡ q .req .order) (ef : fetch ≡ q .req .fetch) (kn : Keyed (freshKeys F [] (keysOf order)) new) (ka : Keyed (nf F [] (keysOf new)) again) where
+module _ (c : Plan) (n o : Op) (q : walk.Visit) (F L R : Facts) (s : Seen n o (facts c) (walk.childCount c) F L R) (limit fetch : Fetch)
+    (order new again : Keys)
+    (e : limit ≡ fetchOp o (fetches c)) (eo : keysOf order ≡ q .req .order) (ef : fetch ≡ q .req .fetch) (kn : Keyed (freshKeys F [] (keysOf order)) new)
+    (ka : Keyed (nf F [] (keysOf new)) again) where
   abbrev p : Op
   p = rebuilt o (facts c)
 
@@ -165,18 +178,22 @@ module _ (c : Plan) (n o : Op) (q : walk.Visit) (F L R : Facts) (s : Seen n o (f
   new₁ = kn .is ∙ ap₂ (λ G l. freshKeys G [] l) facts₁ eo
 
   again₁ : keysOf again ≡ nf (factsOp o (facts c)) [] (freshKeys (factsOp o (facts c)) [] (q .req .order))
-  again₁ = ka .is ∙ ap₂ (λ G l. nf G [] l) (facts-like n o (facts c) (walk.childCount c) F L R s) (kn .is ∙ ap₂ (λ G l. freshKeys G [] l) (facts-like n o (facts c) (walk.childCount c) F L R s) eo)
+  again₁ = ka .is ∙ ap₂ (λ G l. nf G [] l) (facts-like n o (facts c) (walk.childCount c) F L R s)
+      (kn .is ∙ ap₂ (λ G l. freshKeys G [] l) (facts-like n o (facts c) (walk.childCount c) F L R s) eo)
 
-  tried : (x : Answered) → Pushes (walk.childCount c) (pushdownRequirementToChildren p limit (walk.childCount c) (facts c) (keysOf again) fetch) x → Pushes (walk.childCount c) (walk.triedAgain q o c) x
+  tried : (x : Answered) → Pushes (walk.childCount c) (pushdownRequirementToChildren p limit (walk.childCount c) (facts c) (keysOf again) fetch) x
+      → Pushes (walk.childCount c) (walk.triedAgain q o c) x
   tried x h =
       subst (λ P. Pushes (walk.childCount c) P x)
       (ap₂ (λ (l : Fetch) (f : Fetch). pushdownRequirementToChildren p l (walk.childCount c) (facts c) (keysOf again) f) limit₁ ef
       ∙ ap (λ (l : List Key). pushdownRequirementToChildren p (fetchOp p (fetches c)) (walk.childCount c) (facts c) l (q .req .fetch)) again₁) h
 
   module _ (tops : NewNodes) (reqs : ChildRequirements) (r : Decision) where
-    pub merge-goes : (a b : Order) → Pushes (walk.childCount c) (pushdownRequirementToChildren (rebuilt o (facts c)) limit (walk.childCount c) (facts c) (keysOf again) fetch) (Goes a b) → (f : Fetch) → f ≡ minFetch limit fetch
+    pub merge-goes : (a b : Order) → Pushes (walk.childCount c) (pushdownRequirementToChildren (rebuilt o (facts c)) limit (walk.childCount c) (facts c)
+        (keysOf again) fetch) (Goes a b) → (f : Fetch) → f ≡ minFetch limit fetch
         → r ≡ staysBy true tops reqs true → Adds (newMerge (keysOf new) fetch) tops
-        → ((ks : ℕ → List Key) → Going (walk.childCount c) ks a b → Asks (walk.childCount c) (fetches c) (λ i. walk.handDown ks f Unspecified n i .req) reqs)
+        → ((ks : ℕ → List Key) → Going (walk.childCount c) ks a b → Asks (walk.childCount c) (fetches c) (λ i. walk.handDown ks f Unspecified n i .req)
+        reqs)
         → Decides o c (walk.mergeAdded q o c) r
     merge-goes a b h f g w t asks =
         after-goes o p c r q (walk.triedAgain q o c) a b (tried (Goes a b) h)
@@ -186,17 +203,21 @@ module _ (c : Plan) (n o : Op) (q : walk.Visit) (F L R : Facts) (s : Seen n o (f
         (subst (λ l. Asks (walk.childCount c) (fetches c) (λ i. walk.handDown ks l Unspecified p i .req) reqs) (g ∙ ap₂ minFetch limit₁ ef)
         (handed-like n p (facts c) (walk.childCount c) F L R seen₁ (fetches c) ks f Unspecified reqs (asks ks k))))
 
-    pub merge-stop : Pushes (walk.childCount c) (pushdownRequirementToChildren (rebuilt o (facts c)) limit (walk.childCount c) (facts c) (keysOf again) fetch) Stop
+    pub merge-stop : Pushes (walk.childCount c) (pushdownRequirementToChildren (rebuilt o (facts c)) limit (walk.childCount c) (facts c)
+        (keysOf again) fetch) Stop
         → r ≡ staysBy true tops reqs false → Adds (newMerge (keysOf new) fetch ++ sortAboveWithDistribution F (keysOf again) fetch Unspecified) tops
         → Asks (walk.childCount c) (fetches c) (λ i. walk.withOwnDistribution n i .req) reqs
         → Decides o c (walk.mergeAdded q o c) r
     merge-stop h w t asks =
         let G : Facts = factsOp p (facts c) in
-        let x : newMerge (keysOf new) fetch ++ sortAboveWithDistribution F (keysOf again) fetch Unspecified ≡ newMerge (freshKeys G [] (q .req .order)) (q .req .fetch) ++ sortAboveWithDistribution G (nf G [] (freshKeys G [] (q .req .order))) (q .req .fetch) Unspecified =
+        let x : newMerge (keysOf new) fetch ++ sortAboveWithDistribution F (keysOf again) fetch Unspecified ≡ newMerge (freshKeys G [] (q .req .order))
+        (q .req .fetch) ++ sortAboveWithDistribution G (nf G [] (freshKeys G [] (q .req .order))) (q .req .fetch) Unspecified =
         ap₂ (λ (l : List Key) (f : Fetch). newMerge l f ++ sortAboveWithDistribution F (keysOf again) f Unspecified) new₁ ef
-        ∙ ap₂ (λ (H : Facts) (l : List Key). newMerge (freshKeys G [] (q .req .order)) (q .req .fetch) ++ sortAboveWithDistribution H l (q .req .fetch) Unspecified) facts₁ (ka .is ∙ ap₂ (λ H l. nf H [] l) facts₁ new₁) in
+        ∙ ap₂ (λ (H : Facts) (l : List Key). newMerge (freshKeys G [] (q .req .order)) (q .req .fetch) ++ sortAboveWithDistribution H l
+        (q .req .fetch) Unspecified) facts₁ (ka .is ∙ ap₂ (λ H l. nf H [] l) facts₁ new₁) in
         after-stop o p c r q (walk.triedAgain q o c) (tried Stop h)
-        (stay-by o c _ p (λ i. walk.withOwnDistribution p i .req) 0 true false tops reqs r w (subst (λ l. Adds l tops) x t) refl refl (own-like n p (facts c) (walk.childCount c) F L R seen₁ (fetches c) reqs asks))
+        (stay-by o c _ p (λ i. walk.withOwnDistribution p i .req) 0 true false tops reqs r w (subst (λ l. Adds l tops) x t) refl refl
+        (own-like n p (facts c) (walk.childCount c) F L R seen₁ (fetches c) reqs asks))
 
 -- ---- the helper
 
@@ -219,11 +240,21 @@ no-sort (partialSort p ks n f) q x c e = refl
 
 module _ (o : Op) (q : walk.Visit) (c : Plan) (r : Decision) where
   -- the node is rebuilt before it is looked at: rebuilt once more it is the same
-  pub helper-touched : eqb (code o) 7 ≡ false → q .touch ≡ true → (d : Decision) → r ≡ rebuiltBy d → Decides (rebuilt o (facts c)) c (walk.decideNode q (rebuilt o (facts c)) c) d → Decides o c (walk.pushdownSortsHelper q o c) r
+  pub helper-touched : eqb (code o) 7 ≡ false → q .touch ≡ true → (d : Decision) → r ≡ rebuiltBy d → Decides (rebuilt o (facts c)) c
+      (walk.decideNode q (rebuilt o (facts c)) c) d → Decides o c (walk.pushdownSortsHelper q o c) r
   helper-touched e t d w h =
       subst (λ D. Decides o c D r) (no-sort o q (rebuilt o (facts c)) c e ∙ ap (λ b. walk.decideBy (shape o) q (cond b (rebuilt o (facts c)) o) c) (sym t))
       (subst⁻¹ (Decides o c (walk.decideNode q (rebuilt o (facts c)) c)) w
-      (record { tops = h .tops; gone = h .gone; op = once (d .rebuilt) ∙ h .op; reqs = h .reqs; first = h .first; rest = h .rest; peak = h .peak; quiet = h .quiet }))
+      (record {
+        tops = h .tops;
+        gone = h .gone;
+        op = once (d .rebuilt) ∙ h .op;
+        reqs = h .reqs;
+        first = h .first;
+        rest = h .rest;
+        peak = h .peak;
+        quiet = h .quiet;
+      }))
     where
       once : (b : Bool) → rebuilt o (facts c) ≡ cond b (rebuilt (rebuilt o (facts c)) (facts c)) (rebuilt o (facts c))
       once true = sym (rebuilt-twice o (facts c))
@@ -232,27 +263,34 @@ module _ (o : Op) (q : walk.Visit) (c : Plan) (r : Decision) where
   pub helper-node : eqb (code o) 7 ≡ false → q .touch ≡ false → Decides o c (walk.decideNode q o c) r → Decides o c (walk.pushdownSortsHelper q o c) r
   helper-node e t h = subst (λ D. Decides o c D r) (no-sort o q o c e ∙ ap (λ b. walk.decideBy (shape o) q (cond b (rebuilt o (facts c)) o) c) (sym t)) h
 
-  pub helper-sort : (p : Bool) (ks : List Key) (f : Fetch) → o ≡ sortOp p ks f → (F C : Facts) → F ≡ factsOp o (facts c) → C ≡ at0 (facts c) → Decides (sortOp p ks f) c (sortOn p ks f q F C) r → Decides o c (walk.pushdownSortsHelper q o c) r
+  pub helper-sort : (p : Bool) (ks : List Key) (f : Fetch) → o ≡ sortOp p ks f → (F C : Facts) → F ≡ factsOp o (facts c) → C ≡ at0 (facts c)
+      → Decides (sortOp p ks f) c (sortOn p ks f q F C) r → Decides o c (walk.pushdownSortsHelper q o c) r
   helper-sort p ks f e F C x y h =
-      subst⁻¹ (λ n. Decides n c (walk.pushdownSortsHelper q n c) r) e (subst (λ D. Decides (sortOp p ks f) c D r) (ap₂ (sortOn p ks f q) (x ∙ ap (λ n. factsOp n (facts c)) e) y) h)
+      subst⁻¹ (λ n. Decides n c (walk.pushdownSortsHelper q n c) r) e
+      (subst (λ D. Decides (sortOp p ks f) c D r) (ap₂ (sortOn p ks f q) (x ∙ ap (λ n. factsOp n (facts c)) e) y) h)
 
 pub sort-one : (o : Op) (p : Bool) (ks : List Key) (f : Fetch) (m : ℕ) → o ≡ sortOp p ks f → childrenOk o m ≡ true → 0 < m
 sort-one o p ks f m e h = let x = eqb-true m 1 (sym (ap (λ n. childrenOk n m) e) ∙ h) in omega arith
 
 -- ---- at another node that an order is required of
-module _ (c : Plan) (n o : Op) (q : walk.Visit) (F L R : Facts) (s : Seen n o (facts c) (walk.childCount c) F L R) (limit : Fetch) (e : limit ≡ fetchOp o (fetches c)) (k : Keys) (eo : keysOf k ≡ q .req .order) where
+module _ (c : Plan) (n o : Op) (q : walk.Visit) (F L R : Facts) (s : Seen n o (facts c) (walk.childCount c) F L R) (limit : Fetch)
+    (e : limit ≡ fetchOp o (fetches c)) (k : Keys) (eo : keysOf k ≡ q .req .order) where
   met-is : met F (keysOf k) ≡ met (factsOp o (facts c)) (q .req .order)
   met-is = ap₂ met (facts-like n o (facts c) (walk.childCount c) F L R s) eo
 
-  pub pushed-down : (p : Answered) → Pushes (walk.childCount c) (pushdownRequirementToChildren o limit (walk.childCount c) (facts c) (keysOf k) (q .req .fetch)) p → Pushes (walk.childCount c) (walk.pushDown (q .req .order) q o c) p
-  pushed-down p h = subst (λ P. Pushes (walk.childCount c) P p) (ap₂ (λ (l : Fetch) (ks : List Key). pushdownRequirementToChildren o l (walk.childCount c) (facts c) ks (q .req .fetch)) e eo) h
+  pub pushed-down : (p : Answered) → Pushes (walk.childCount c) (pushdownRequirementToChildren o limit (walk.childCount c) (facts c) (keysOf k)
+      (q .req .fetch)) p → Pushes (walk.childCount c) (walk.pushDown (q .req .order) q o c) p
+  pushed-down p h = subst (λ P. Pushes (walk.childCount c) P p)
+      (ap₂ (λ (l : Fetch) (ks : List Key). pushdownRequirementToChildren o l (walk.childCount c) (facts c) ks (q .req .fetch)) e eo) h
 
   module _ (some : isNil (q .req .order) ≡ false) (r : Decision) (x : Bool) (h : x ≡ met F (keysOf k)) where
     pub node-met : x ≡ true → Decides o c (walk.satisfied q o c) r → Decides o c (walk.decideNode q o c) r
-    node-met t d = if-not o c (walk.unasked q o c) (walk.nodeAsked q o c) (isNil (q .req .order)) r some (if-so o c (walk.satisfied q o c) (walk.unsatisfied q o c) _ r (sym (h ∙ met-is) ∙ t) d)
+    node-met t d = if-not o c (walk.unasked q o c) (walk.nodeAsked q o c) (isNil (q .req .order)) r some
+        (if-so o c (walk.satisfied q o c) (walk.unsatisfied q o c) _ r (sym (h ∙ met-is) ∙ t) d)
 
     pub node-tried : x ≡ false → Decides o c (walk.afterTry (walk.pushDown (q .req .order) q o c) q o c) r → Decides o c (walk.decideNode q o c) r
-    node-tried t d = if-not o c (walk.unasked q o c) (walk.nodeAsked q o c) (isNil (q .req .order)) r some (if-not o c (walk.satisfied q o c) (walk.unsatisfied q o c) _ r (sym (h ∙ met-is) ∙ t) d)
+    node-tried t d = if-not o c (walk.unasked q o c) (walk.nodeAsked q o c) (isNil (q .req .order)) r some
+        (if-not o c (walk.satisfied q o c) (walk.unsatisfied q o c) _ r (sym (h ∙ met-is) ∙ t) d)
 
 pub limit-again : (o : Op) (c : Plan) (limit : Fetch) → limit ≡ fetchOp o (fetches c) → limit ≡ fetchOp (rebuilt o (facts c)) (fetches c)
 limit-again o c limit e = e ∙ sym (remark-same (λ x. fetchOp x (fetches c)) (λ b. counts b (at0 (facts c))) (λ p q m h ks. refl) o)

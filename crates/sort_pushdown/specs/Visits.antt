@@ -28,10 +28,12 @@ visits-below q p n (tree o c r) h =
     step v right =
         cond (constantSort o c) (stopped ConstantSort)
         (cond (overflows (pushdownSortsHelper v o c) n) (stopped TooManyNodes)
-        (bind (countDown (pushdownSortsHelper v o c .reqs) (afterwards (pushdownSortsHelper v o c) n) c) (λ d m. bind (right m) (λ s l. counted (plant (carryOut (pushdownSortsHelper v o c) d) s) l))))
+        (bind (countDown (pushdownSortsHelper v o c .reqs) (afterwards (pushdownSortsHelper v o c) n) c)
+        (λ d m. bind (right m) (λ s l. counted (plant (carryOut (pushdownSortsHelper v o c) d) s) l))))
 
 -- so a decision in code answers for the children as the definition's does
-pub children-visited : (q : Visit) (o : Op) (c : Plan) (r : Decision) (n : ℕ) → Decides o c (pushdownSortsHelper q o c) r → countDown (visitFor r (fetches c)) n c ≡ countDown (pushdownSortsHelper q o c .reqs) n c
+pub children-visited : (q : Visit) (o : Op) (c : Plan) (r : Decision) (n : ℕ) → Decides o c (pushdownSortsHelper q o c) r
+    → countDown (visitFor r (fetches c)) n c ≡ countDown (pushdownSortsHelper q o c .reqs) n c
 children-visited q o c r n h = visits-below (visitFor r (fetches c)) (pushdownSortsHelper q o c .reqs) n c (h .reqs)
 
 module _ (o : Op) (q : Visit) (c : Plan) (F : Facts) (r : Decision) (d : Decides o c (pushdownSortsHelper q o c) r) (f : F ≡ factsOp o (facts c)) where

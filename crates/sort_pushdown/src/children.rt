@@ -35,7 +35,8 @@ pub fn hand_down(
     d: Distribution,
 ) -> ChildRequirements
     requires { ⌜ Proper (now r) ⌝ }
-    ensures { λ q. ⌜ ((m : ℕ) (ts : List Fetches) (ks : ℕ → List Key) → Going m ks first rest → Asks m ts (λ i. walk.handDown ks fetch d (decode (now (r .entry))) i .req) q) ⌝ }
+    ensures { λ q. ⌜ ((m : ℕ) (ts : List Fetches) (ks : ℕ → List Key) → Going m ks first rest
+        → Asks m ts (λ i. walk.handDown ks fetch d (decode (now (r .entry))) i .req) q) ⌝ }
 {
     let d0 = stronger_distribution(d, wanted_distribution(r, 0));
     let d1 = stronger_distribution(d, wanted_distribution(r, 1));
@@ -84,7 +85,8 @@ pub fn with_own_distribution(r: &[u8]) -> ChildRequirements
 // Each child's own order, fetch and distribution.
 pub fn assign_initial_requirements(r: &[u8]) -> ChildRequirements
     requires { ⌜ Proper (now r) ⌝ }
-    ensures { λ q. ⌜ ((c : Plan) → childrenOk (decode (now (r .entry))) (walk.childCount c) ≡ true → Asks (walk.childCount c) (fetches c) (λ i. walk.assignInitialRequirements (decode (now (r .entry))) c i .req) q) ⌝ }
+    ensures { λ q. ⌜ ((c : Plan) → childrenOk (decode (now (r .entry))) (walk.childCount c) ≡ true → Asks (walk.childCount c) (fetches c)
+        (λ i. walk.assignInitialRequirements (decode (now (r .entry))) c i .req) q) ⌝ }
 {
     let fetch = Fetch::Unlimited;
     let a = ParentRequirements {

@@ -1,4 +1,5 @@
-// pushdown_sorts_helper: what a visit decides at a node with the record r and the facts own, over children of which the first two have the facts a and b; limit: its
+// pushdown_sorts_helper: what a visit decides at a node with the record r and the facts own, over children of which the first two have the facts a and b;
+// limit: its
 // own fetch.
 use crate::ChildRequirements;
 use crate::Decision;
@@ -60,7 +61,8 @@ fn stays(rebuilt: bool, tops: NewNodes, reqs: ChildRequirements, peak: bool) -> 
 // No order is required: each child is handed its own distribution; the root's children their initial requirements.
 fn unasked(root: bool, r: &[u8]) -> Decision
     requires { ⌜ Proper (now r) ⌝ }
-    ensures { λ d. ⌜ ((c : Plan) (o : Op) (F L R : sem.Facts) → Seen (decode (now (r .entry))) o (sem.facts c) (walk.childCount c) F L R → Decides o c (walk.stays o (cond root (walk.assignInitialRequirements o c) (walk.withOwnDistribution o))) d) ⌝ }
+    ensures { λ d. ⌜ ((c : Plan) (o : Op) (F L R : sem.Facts) → Seen (decode (now (r .entry))) o (sem.facts c) (walk.childCount c) F L R
+        → Decides o c (walk.stays o (cond root (walk.assignInitialRequirements o c) (walk.withOwnDistribution o))) d) ⌝ }
 {
     if root {
         return stays(false, no_nodes(), assign_initial_requirements(r), false);
@@ -78,7 +80,9 @@ fn handed_on(
     d: Distribution,
 ) -> Decision
     requires { ⌜ Proper (now r) × FactRow (now own) ⌝ }
-    ensures { λ x. ⌜ ((c : Plan) (o : Op) (L R : sem.Facts) (ks : ℕ → List Key) → Seen (decode (now (r .entry))) o (sem.facts c) (walk.childCount c) (told (now (own .entry))) L R → Going (walk.childCount c) ks first rest → Decides o c (walk.stays o (walk.handDown ks fetch (walk.effectiveDist (sem.factsOp o (sem.facts c)) d) o)) x) ⌝ }
+    ensures { λ x. ⌜ ((c : Plan) (o : Op) (L R : sem.Facts) (ks : ℕ → List Key) → Seen (decode (now (r .entry))) o (sem.facts c) (walk.childCount c)
+        (told (now (own .entry))) L R → Going (walk.childCount c) ks first rest
+        → Decides o c (walk.stays o (walk.handDown ks fetch (walk.effectiveDist (sem.factsOp o (sem.facts c)) d) o)) x) ⌝ }
 {
     let e = effective_distribution(own, d);
     let reqs = hand_down(r, first, rest, fetch, e);
@@ -88,7 +92,9 @@ fn handed_on(
 // The order cannot be pushed down: a new sort.
 fn sort_added(r: &[u8], own: &[u8], order: Keys, fetch: Fetch, d: Distribution) -> Decision
     requires { ⌜ Proper (now r) × FactRow (now own) × (order .len ≤ 8) ⌝ }
-    ensures { λ x. ⌜ ((c : Plan) (o : Op) (L R : sem.Facts) → Seen (decode (now (r .entry))) o (sem.facts c) (walk.childCount c) (told (now (own .entry))) L R → Decides o c (walk.covered (sortAboveWithDistribution (sem.factsOp o (sem.facts c)) (keysOf order) fetch d) 0 o (walk.withOwnDistribution o)) x) ⌝ }
+    ensures { λ x. ⌜ ((c : Plan) (o : Op) (L R : sem.Facts) → Seen (decode (now (r .entry))) o (sem.facts c) (walk.childCount c)
+        (told (now (own .entry))) L R → Decides o c (walk.covered (sortAboveWithDistribution (sem.factsOp o (sem.facts c)) (keysOf order) fetch d) 0 o
+        (walk.withOwnDistribution o)) x) ⌝ }
 {
     let tops = sort_above_with_distribution(own, order, fetch, d);
     stays(false, tops, with_own_distribution(r), false)
@@ -105,7 +111,9 @@ fn merge_added(
     fetch: Fetch,
 ) -> Decision
     requires { ⌜ Asked (now r) (now own) (now a) (now b) order ⌝ }
-    ensures { λ x. ⌜ ((c : Plan) (o : Op) (q : walk.Visit) → Seen (decode (now (r .entry))) o (sem.facts c) (walk.childCount c) (told (now (own .entry))) (told (now (a .entry))) (told (now (b .entry))) → limit ≡ fetchOp o (fetches c) → keysOf order ≡ q .req .order → fetch ≡ q .req .fetch → Decides o c (walk.mergeAdded q o c) x) ⌝ }
+    ensures { λ x. ⌜ ((c : Plan) (o : Op) (q : walk.Visit) → Seen (decode (now (r .entry))) o (sem.facts c) (walk.childCount c) (told (now (own .entry)))
+        (told (now (a .entry))) (told (now (b .entry))) → limit ≡ fetchOp o (fetches c) → keysOf order ≡ q .req .order → fetch ≡ q .req .fetch
+        → Decides o c (walk.mergeAdded q o c) x) ⌝ }
 {
     let new = fresh_keys(own, order);
     let again = normal_form(own, new);
@@ -126,7 +134,8 @@ fn merge_added(
 
 fn decide_node(v: Visit, r: &[u8], own: &[u8], a: &[u8], b: &[u8], limit: Fetch) -> Decision
     requires { ⌜ Visited (now r) (now own) (now a) (now b) (v .req .order) ⌝ }
-    ensures { λ x. ⌜ ((c : Plan) (o : Op) → Seen (decode (now (r .entry))) o (sem.facts c) (walk.childCount c) (told (now (own .entry))) (told (now (a .entry))) (told (now (b .entry))) → limit ≡ fetchOp o (fetches c) → Decides o c (walk.decideNode (visitOf v) o c) x) ⌝ }
+    ensures { λ x. ⌜ ((c : Plan) (o : Op) → Seen (decode (now (r .entry))) o (sem.facts c) (walk.childCount c) (told (now (own .entry)))
+        (told (now (a .entry))) (told (now (b .entry))) → limit ≡ fetchOp o (fetches c) → Decides o c (walk.decideNode (visitOf v) o c) x) ⌝ }
 {
     let req = v.req;
     let requirement = req.order;
@@ -173,7 +182,9 @@ pub fn pushdown_sorts_helper(
     limit: Fetch,
 ) -> Decision
     requires { ⌜ Visited (now r) (now own) (now a) (now b) (v .req .order) ⌝ }
-    ensures { λ x. ⌜ ((c : Plan) → Seen (decode (now (r .entry))) (decode (now (r .entry))) (sem.facts c) (walk.childCount c) (told (now (own .entry))) (told (now (a .entry))) (told (now (b .entry))) → limit ≡ fetchOp (decode (now (r .entry))) (fetches c) → Decides (decode (now (r .entry))) c (walk.pushdownSortsHelper (visitOf v) (decode (now (r .entry))) c) x) ⌝ }
+    ensures { λ x. ⌜ ((c : Plan) → Seen (decode (now (r .entry))) (decode (now (r .entry))) (sem.facts c) (walk.childCount c) (told (now (own .entry)))
+        (told (now (a .entry))) (told (now (b .entry))) → limit ≡ fetchOp (decode (now (r .entry))) (fetches c) → Decides (decode (now (r .entry))) c
+        (walk.pushdownSortsHelper (visitOf v) (decode (now (r .entry))) c) x) ⌝ }
 {
     if is_sort(r) {
         return decide_sort(v, r, own, a);

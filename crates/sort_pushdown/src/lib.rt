@@ -51,7 +51,8 @@ pub struct ChildRequirements {
     pub initial: bool,
 }
 
-// tops: the new nodes. gone: the node, a sort, goes, and its child is rebuilt before it is looked at. rebuilt: the node, if it stays, is rebuilt over its children as
+// tops: the new nodes. gone: the node, a sort, goes, and its child is rebuilt before it is looked at. rebuilt: the node, if it stays, is rebuilt over its
+// children as
 // they are. peak: the steps reach one node more on the way. quiet: no step ends here.
 pub struct Decision {
     pub tops: NewNodes,

@@ -80,7 +80,8 @@ pub fn merge_only(keys: Keys, fetch: Fetch) -> NewNodes
 // A merge of the keys over a sort of the order.
 pub fn merge_and_sort(own: &[u8], keys: Keys, fetch: Fetch, order: Keys, sfetch: Fetch) -> NewNodes
     requires { ⌜ FactRow (now own) × (keys .len ≤ 8) × (order .len ≤ 8) ⌝ }
-    ensures { λ t. ⌜ Adds (newMerge (keysOf keys) fetch ++ sortAboveWithDistribution (told (now (own .entry))) (keysOf order) sfetch distribution.Unspecified) t ⌝ }
+    ensures { λ t. ⌜ Adds (newMerge (keysOf keys) fetch ++ sortAboveWithDistribution (told (now (own .entry)))
+        (keysOf order) sfetch distribution.Unspecified) t ⌝ }
 {
     let merge = order_of(keys);
     let sort = order_of(fresh_keys(own, order));

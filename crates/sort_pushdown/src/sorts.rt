@@ -70,7 +70,8 @@ fn root_distribution(root: bool, r: &[u8]) -> Distribution
 // No order is required: the sort goes, and its order and the stricter fetch go on.
 fn sort_unasked(v: Visit, r: &[u8], own: &[u8]) -> Decision
     requires { ⌜ Proper (now r) × FactRow (now own) ⌝ }
-    ensures { λ d. ⌜ ((p : Bool) (ks : List Key) (f : Fetches) (c : Plan) → decode (now (r .entry)) ≡ sortOp p ks f → Decides (sortOp p ks f) c (unaskedOn p ks f (visitOf v) (told (now (own .entry)))) d) ⌝ }
+    ensures { λ d. ⌜ ((p : Bool) (ks : List Key) (f : Fetches) (c : Plan) → decode (now (r .entry)) ≡ sortOp p ks f → Decides (sortOp p ks f) c
+        (unaskedOn p ks f (visitOf v) (told (now (own .entry)))) d) ⌝ }
 {
     let req = v.req;
     let f = node_properties::fetch(r);
@@ -97,7 +98,8 @@ fn stricter(a: &[u8], own: Order, parent: Keys) -> Order
 // The sort was unnecessary: the stricter order and fetch go on.
 fn sort_unnecessary(v: Visit, r: &[u8], own: &[u8], a: &[u8], parent: Keys) -> Decision
     requires { ⌜ Proper (now r) × FactRow (now own) × FactRow (now a) × (parent .len ≤ 8) × (keysOf parent ≡ orderOf (v .req .order)) ⌝ }
-    ensures { λ d. ⌜ ((p : Bool) (ks : List Key) (f : Fetches) (c : Plan) → decode (now (r .entry)) ≡ sortOp p ks f → Decides (sortOp p ks f) c (unnecessaryOn p ks f (visitOf v) (told (now (own .entry))) (told (now (a .entry)))) d) ⌝ }
+    ensures { λ d. ⌜ ((p : Bool) (ks : List Key) (f : Fetches) (c : Plan) → decode (now (r .entry)) ≡ sortOp p ks f → Decides (sortOp p ks f) c
+        (unnecessaryOn p ks f (visitOf v) (told (now (own .entry))) (told (now (a .entry)))) d) ⌝ }
 {
     let req = v.req;
     let f = node_properties::fetch(r);
@@ -113,7 +115,8 @@ fn sort_unnecessary(v: Visit, r: &[u8], own: &[u8], a: &[u8], parent: Keys) -> D
 // The sort was imposing a different order: a sort of the required one in its place, and the old order goes on.
 fn sort_replaced(v: Visit, r: &[u8], own: &[u8], a: &[u8], parent: Keys) -> Decision
     requires { ⌜ Proper (now r) × FactRow (now own) × FactRow (now a) × (parent .len ≤ 8) × (keysOf parent ≡ orderOf (v .req .order)) ⌝ }
-    ensures { λ d. ⌜ ((p : Bool) (ks : List Key) (f : Fetches) (c : Plan) → decode (now (r .entry)) ≡ sortOp p ks f → Decides (sortOp p ks f) c (replacedOn p ks f (visitOf v) (told (now (own .entry))) (told (now (a .entry)))) d) ⌝ }
+    ensures { λ d. ⌜ ((p : Bool) (ks : List Key) (f : Fetches) (c : Plan) → decode (now (r .entry)) ≡ sortOp p ks f → Decides (sortOp p ks f) c
+        (replacedOn p ks f (visitOf v) (told (now (own .entry))) (told (now (a .entry)))) d) ⌝ }
 {
     let req = v.req;
     let below = ParentRequirements {
@@ -130,7 +133,8 @@ fn sort_replaced(v: Visit, r: &[u8], own: &[u8], a: &[u8], parent: Keys) -> Deci
 // The same where a merge comes too: the new sort is replaced in its turn.
 fn sort_replaced_twice(v: Visit, r: &[u8], own: &[u8], a: &[u8], parent: Keys) -> Decision
     requires { ⌜ Proper (now r) × FactRow (now own) × FactRow (now a) × (parent .len ≤ 8) × (keysOf parent ≡ orderOf (v .req .order)) ⌝ }
-    ensures { λ d. ⌜ ((p : Bool) (ks : List Key) (f : Fetches) (c : Plan) → decode (now (r .entry)) ≡ sortOp p ks f → Decides (sortOp p ks f) c (twiceOn p ks f (visitOf v) (told (now (own .entry))) (told (now (a .entry)))) d) ⌝ }
+    ensures { λ d. ⌜ ((p : Bool) (ks : List Key) (f : Fetches) (c : Plan) → decode (now (r .entry)) ≡ sortOp p ks f → Decides (sortOp p ks f) c
+        (twiceOn p ks f (visitOf v) (told (now (own .entry))) (told (now (a .entry)))) d) ⌝ }
 {
     let req = v.req;
     let g = req.fetch;
@@ -148,14 +152,16 @@ fn sort_replaced_twice(v: Visit, r: &[u8], own: &[u8], a: &[u8], parent: Keys) -
 // Whether the parent's order is satisfied, or the parent is stricter.
 fn unnecessary(own: &[u8], parent: Keys) -> bool
     requires { ⌜ FactRow (now own) × (parent .len ≤ 8) ⌝ }
-    ensures { λ b. ⌜ b ≡ (sem.met (told (now (own .entry))) (keysOf parent) || sem.compatible (told (now (own .entry))) (keysOf parent) (sem.knownOrder (told (now (own .entry))))) ⌝ }
+    ensures { λ b. ⌜ b ≡ (sem.met (told (now (own .entry))) (keysOf parent) || sem.compatible (told (now (own .entry))) (keysOf parent)
+        (sem.knownOrder (told (now (own .entry))))) ⌝ }
 {
     meets(own, parent) | compatible(own, parent, keys_in(known_order(own)))
 }
 
 pub fn decide_sort(v: Visit, r: &[u8], own: &[u8], a: &[u8]) -> Decision
     requires { ⌜ Proper (now r) × FactRow (now own) × FactRow (now a) × Real (v .req .order) ⌝ }
-    ensures { λ d. ⌜ ((p : Bool) (ks : List Key) (f : Fetches) (c : Plan) → decode (now (r .entry)) ≡ sortOp p ks f → Decides (sortOp p ks f) c (sortOn p ks f (visitOf v) (told (now (own .entry))) (told (now (a .entry)))) d) ⌝ }
+    ensures { λ d. ⌜ ((p : Bool) (ks : List Key) (f : Fetches) (c : Plan) → decode (now (r .entry)) ≡ sortOp p ks f → Decides (sortOp p ks f) c
+        (sortOn p ks f (visitOf v) (told (now (own .entry))) (told (now (a .entry)))) d) ⌝ }
 {
     let req = v.req;
     let requirement = req.order;

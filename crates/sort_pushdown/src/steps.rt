@@ -72,7 +72,8 @@ fn one_if(b: bool) -> usize
 // 25 before 23.
 pub fn step_at(r: &[u8], own: &[u8], d: Decision, count: usize) -> Step
     requires { ⌜ Proper (now r) × FactRow (now own) × Real (d .tops .merge) × Real (d .tops .sort) × (1 ≤ count) × (count ≤ 1000) ⌝ }
-    ensures { λ s. ⌜ s ≡ stepBy (isSort (decode (now (r .entry))) && sem.isNil (sem.knownOrder (told (now (own .entry))))) (d .quiet) (d .peak) (afterBy d count) ⌝ }
+    ensures { λ s. ⌜ s ≡ stepBy (isSort (decode (now (r .entry))) && sem.isNil (sem.knownOrder (told (now (own .entry))))) (d .quiet) (d .peak)
+        (afterBy d count) ⌝ }
 {
     if constant_sort(r, own) {
         return Step::Refused(Refusal::ConstantSort);

@@ -52,7 +52,8 @@ asked-some t j o w k e =
     let v : Ordered (wanted (opT t) j) (By k) = subst (Ordered (wanted (opT t) j)) e w in
     none-of (maintains (opT t) (known (t .kids)) j) (isNil (wanted (opT t) j)) (ap isNil (sym (v .is)) ∙ some-key (k .len) (k .word) (v .real .0))
 
-pub asked-none : (t : Tree) (j : ℕ) (o : Order) → Ordered (wanted (opT t) j) o → o ≡ Unordered → (b : Bool) → b ≡ maintains (opT t) (known (t .kids)) j → b ≡ maintainsUnasked t j
+pub asked-none : (t : Tree) (j : ℕ) (o : Order) → Ordered (wanted (opT t) j) o → o ≡ Unordered → (b : Bool) → b ≡ maintains (opT t) (known (t .kids)) j
+    → b ≡ maintainsUnasked t j
 asked-none t j o w e b q = q ∙ true-right (maintains (opT t) (known (t .kids)) j) (isNil (wanted (opT t) j)) (ap isNil (sym (w .is) ∙ ap orderOf e))
 
 -- ---- some number below n
@@ -101,12 +102,14 @@ module _ (m : List ℕ) (u h : ℕ) (a : Standing m u h) where
   hs = slot m (index h) .kids
 
   free-is : anyMaintainsUnasked (treeOf m h) ≡ anyBelow (length (slot m (index h) .kids)) (maintainsUnasked (treeOf m h))
-  free-is = ap (λ t. anyBelow (length (roots (t .kids))) (maintainsUnasked (treeOf m h))) (tree-is m u h a) ∙ ap (λ k. anyBelow k (maintainsUnasked (treeOf m h))) (count-roots m hs)
+  free-is = ap (λ t. anyBelow (length (roots (t .kids))) (maintainsUnasked (treeOf m h))) (tree-is m u h a)
+      ∙ ap (λ k. anyBelow k (maintainsUnasked (treeOf m h))) (count-roots m hs)
 
   pub free-found : (j : ℕ) → j < length (slot m (index h) .kids) → maintainsUnasked (treeOf m h) j ≡ true → true ≡ anyMaintainsUnasked (treeOf m h)
   free-found j l e = sym (free-is ∙ any-at (length hs) (maintainsUnasked (treeOf m h)) j l e)
 
-  pub free-none : (j : ℕ) → j ≡ length (slot m (index h) .kids) → anyBelow j (maintainsUnasked (treeOf m h)) ≡ false → false ≡ anyMaintainsUnasked (treeOf m h)
+  pub free-none : (j : ℕ) → j ≡ length (slot m (index h) .kids) → anyBelow j (maintainsUnasked (treeOf m h)) ≡ false → false ≡ anyMaintainsUnasked
+      (treeOf m h)
   free-none j l b = sym (free-is ∙ ap (λ k. anyBelow k (maintainsUnasked (treeOf m h))) (sym l) ∙ b)
 
   mark-is : anyMark (treeOf m h .kids) ≡ anyBelow (length (slot m (index h) .kids)) (λ i. marked (getD (slot m (index h) .kids) i 0))
@@ -115,7 +118,8 @@ module _ (m : List ℕ) (u h : ℕ) (a : Standing m u h) where
   pub mark-found : (j : ℕ) → j < length (slot m (index h) .kids) → marked (getD (slot m (index h) .kids) j 0) ≡ true → true ≡ anyMark (treeOf m h .kids)
   mark-found j l e = sym (mark-is ∙ any-at (length hs) (λ i. marked (getD hs i 0)) j l e)
 
-  pub mark-none : (j : ℕ) → j ≡ length (slot m (index h) .kids) → anyBelow j (λ i. marked (getD (slot m (index h) .kids) i 0)) ≡ false → false ≡ anyMark (treeOf m h .kids)
+  pub mark-none : (j : ℕ) → j ≡ length (slot m (index h) .kids) → anyBelow j (λ i. marked (getD (slot m (index h) .kids) i 0)) ≡ false
+      → false ≡ anyMark (treeOf m h .kids)
   mark-none j l b = sym (mark-is ∙ ap (λ k. anyBelow k (λ i. marked (getD hs i 0))) (sym l) ∙ b)
 
 -- ---- connected
@@ -136,7 +140,8 @@ module _ (t : Tree) where
     of-limit l = sym (ap₂ (λ b d. cond b true (cond d false (anyMark (t .kids) && any))) e l)
 
     module _ (l : isLimit (opT t) ≡ false) where
-      other : connected (opT t) (t .kids) ≡ anyMark (t .kids) && anyBelow (length (roots (t .kids))) (λ i. maintainsUnasked t i || isSortPreservingMerge (opT t))
+      other : connected (opT t) (t .kids) ≡ anyMark (t .kids) && anyBelow (length (roots (t .kids)))
+          (λ i. maintainsUnasked t i || isSortPreservingMerge (opT t))
       other = ap₂ (λ b d. cond b true (cond d false (anyMark (t .kids) && any))) e l
 
       pub of-unmarked : anyMark (t .kids) ≡ false → false ≡ connected (opT t) (t .kids)
@@ -146,11 +151,13 @@ module _ (t : Tree) where
         pub of-merge : isSortPreservingMerge (opT t) ≡ true → true ≡ connected (opT t) (t .kids)
         of-merge y =
             sym (other ∙ ap (λ x. x && any) z
-            ∙ any-at (length (roots (t .kids))) (λ i. maintainsUnasked t i || isSortPreservingMerge (opT t)) 0 (some-root (t .kids) z) (ap (λ x. maintainsUnasked t 0 || x) y ∙ or-true (maintainsUnasked t 0)))
+            ∙ any-at (length (roots (t .kids))) (λ i. maintainsUnasked t i || isSortPreservingMerge (opT t)) 0 (some-root (t .kids) z)
+            (ap (λ x. maintainsUnasked t 0 || x) y ∙ or-true (maintainsUnasked t 0)))
 
         pub of-other : isSortPreservingMerge (opT t) ≡ false → (f : Bool) → f ≡ anyMaintainsUnasked t → f ≡ connected (opT t) (t .kids)
         of-other y f w =
-            w ∙ any-same (length (roots (t .kids))) (maintainsUnasked t) (λ i. maintainsUnasked t i || isSortPreservingMerge (opT t)) (λ i. sym (ap (λ x. maintainsUnasked t i || x) y ∙ or-none (maintainsUnasked t i)))
+            w ∙ any-same (length (roots (t .kids))) (maintainsUnasked t) (λ i. maintainsUnasked t i || isSortPreservingMerge (opT t))
+            (λ i. sym (ap (λ x. maintainsUnasked t i || x) y ∙ or-none (maintainsUnasked t i)))
             ∙ sym (other ∙ ap (λ x. x && any) z)
 
 -- ---- marks put right
@@ -215,4 +222,8 @@ pub connecting-all : (m : List ℕ) (u : ℕ) (ks₀ : List ℕ) (j : ℕ) (ks :
 unfolding forest
 connecting-all m u ks₀ j ks h p =
     let d : drop j ks ≡ [] = drop-of-length-le ks {i = j} h in
-    record { is = sym (plus-none (forest m ks)) ∙ ap₂ (λ a c. forest m a ⊕ connectedEach (forest m c)) (sym (take-all ks j h)) (sym d) ∙ p .is; below = p .below; count = p .count }
+    record {
+      is = sym (plus-none (forest m ks)) ∙ ap₂ (λ a c. forest m a ⊕ connectedEach (forest m c)) (sym (take-all ks j h)) (sym d) ∙ p .is;
+      below = p .below;
+      count = p .count;
+    }

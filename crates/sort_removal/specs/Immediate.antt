@@ -57,7 +57,8 @@ pub unmarking-none : (b : List ℕ) (w : ℕ) (hs kids : List ℕ) → length ki
 unfolding forest
 unmarking-none b w hs kids l = record { wide = l; below = tt; is = refl }
 
-unmark-snoc : (b ks hs : List ℕ) (y h : ℕ) → forest b ks ≡ unmark (forest b hs) → treeOf b y ≡ setMark false (treeOf b h) → forest b (ks ++ (y ∷ [])) ≡ unmark (forest b (hs ++ (h ∷ [])))
+unmark-snoc : (b ks hs : List ℕ) (y h : ℕ) → forest b ks ≡ unmark (forest b hs) → treeOf b y ≡ setMark false (treeOf b h)
+    → forest b (ks ++ (y ∷ [])) ≡ unmark (forest b (hs ++ (h ∷ [])))
 unfolding forest
 unmark-snoc b ks hs y h e t = both b ks y ∙ ap₂ (λ f g. glue f (plant g none)) e t ∙ sym (split hs)
   where
@@ -90,16 +91,19 @@ module _ (b : List ℕ) (w h : ℕ) (p : Unmarks b w h) where
   pub view : Seen b (index h)
   view = shown b w h unmark-standing
 
-  pub unmark-more : (j : ℕ) (kids : List ℕ) → Unmarking b w (slot b (index h) .kids) j kids → j < length (slot b (index h) .kids) → (k : ℕ) → k ≡ getD (slot b (index h) .kids) j 0 → (y : ℕ) → Marks k false y → Unmarking b w (slot b (index h) .kids) (j + 1) (set kids j y)
+  pub unmark-more : (j : ℕ) (kids : List ℕ) → Unmarking b w (slot b (index h) .kids) j kids → j < length (slot b (index h) .kids) → (k : ℕ)
+      → k ≡ getD (slot b (index h) .kids) j 0 → (y : ℕ) → Marks k false y → Unmarking b w (slot b (index h) .kids) (j + 1) (set kids j y)
   unmark-more j kids q l k e y m =
       let f = view .few in let wd = q .wide in let s = m .slot in let z = kid-standing b w h unmark-standing j l k e .here in
       rw (add-one j) (record {
         wide = length-set kids j y ∙ q .wide;
         below = subst (Below (2 * w)) (sym (take-suc-set kids j y (omega arith))) (below-snoc (2 * w) (take j kids) y (q .below) (omega arith));
-        is = ap (forest b) (take-suc-set kids j y (omega arith)) ∙ unmark-snoc b (take j kids) (take j hs) y (getD hs j 0) (q .is) (m .tree b ∙ ap (λ i. setMark false (treeOf b i)) e) ∙ ap (λ l. unmark (forest b l)) (sym (take-suc hs j 0 l));
+        is = ap (forest b) (take-suc-set kids j y (omega arith)) ∙ unmark-snoc b (take j kids) (take j hs) y (getD hs j 0) (q .is)
+            (m .tree b ∙ ap (λ i. setMark false (treeOf b i)) e) ∙ ap (λ l. unmark (forest b l)) (sym (take-suc hs j 0 l));
       })
 
-  module _ (j n : ℕ) (kids : List ℕ) (q : Unmarking b w (slot b (index h) .kids) j kids) (e : n ≡ j) (c : n ≡ length (slot b (index h) .kids)) (r : List ℕ) (hr : r ≡ slot b (index h) .rec) where
+  module _ (j n : ℕ) (kids : List ℕ) (q : Unmarking b w (slot b (index h) .kids) j kids) (e : n ≡ j) (c : n ≡ length (slot b (index h) .kids)) (r : List ℕ)
+      (hr : r ≡ slot b (index h) .rec) where
     all-kids : forest b (take n kids) ≡ unmark (forest b (slot b (index h) .kids))
     all-kids = ap (λ i. forest b (take i kids)) e ∙ q .is ∙ ap (λ l. unmark (forest b l)) (take-all hs j (omega arith))
 
@@ -115,20 +119,24 @@ module _ (b : List ℕ) (w h : ℕ) (p : Unmarks b w h) where
             small = p .small;
             below = subst (λ i. Below (2 * w) (take i kids)) (sym e) (q .below);
             canon = hr ∙ view .canon ∙ ap₂ (λ n k. encode n (decode k)) (sym counted) (sym hr);
-            ok = subst (λ k. OkT (node (decode k) false (forest b (take n kids)))) (sym hr) (subst (λ g. (nodeOk o (map (λ F. F .width) (facts g)) ≡ true) × Ok g) (sym (ap strip all-kids ∙ strip-unmark (forest b hs))) (view .ok));
+            ok = subst (λ k. OkT (node (decode k) false (forest b (take n kids)))) (sym hr)
+                (subst (λ g. (nodeOk o (map (λ F. F .width) (facts g)) ≡ true) × Ok g) (sym (ap strip all-kids ∙ strip-unmark (forest b hs))) (view .ok));
             few = omega arith;
           },
           omega arith,
         )
 
-    pub unmark-grown : (b' : List ℕ) (a : At) → Grown b w b' a (node (decode r) false (forest b (take n kids))) (w + 1) → Grown b w b' a (node (opT (treeOf b h)) false (unmark (treeOf b h .kids))) (w + 1)
+    pub unmark-grown : (b' : List ℕ) (a : At) → Grown b w b' a (node (decode r) false (forest b (take n kids))) (w + 1)
+        → Grown b w b' a (node (opT (treeOf b h)) false (unmark (treeOf b h .kids))) (w + 1)
     unmark-grown b' a g =
-        subst (λ t. Grown b w b' a t (w + 1)) (ap₂ (λ k f. node (decode k) false f) hr all-kids ∙ sym (ap (λ t. node (opT t) false (unmark (t .kids))) (view .tree))) g
+        subst (λ t. Grown b w b' a t (w + 1)) (ap₂ (λ k f. node (decode k) false f) hr all-kids
+        ∙ sym (ap (λ t. node (opT t) false (unmark (t .kids))) (view .tree))) g
 
 -- ---- the sort's place
 
 abbrev pub immediateAt : List ℕ → ℕ → Tree
-immediateAt b h = analyzeImmediateSortRemoval (fromBytes (slot b (index h) .rec) .preserve) (fromBytes (slot b (index h) .rec) .keys) (fromBytes (slot b (index h) .rec) .fetch) (treeOf b h) (kid0 (treeOf b h) (treeOf b h .kids))
+immediateAt b h = analyzeImmediateSortRemoval (fromBytes (slot b (index h) .rec) .preserve) (fromBytes (slot b (index h) .rec) .keys)
+    (fromBytes (slot b (index h) .rec) .fetch) (treeOf b h) (kid0 (treeOf b h) (treeOf b h .kids))
 
 pub record Immediates (b : List ℕ) (w h : ℕ) : Type 0 where
   pub arena : Arena b w
@@ -138,7 +146,8 @@ pub record Immediates (b : List ℕ) (w h : ℕ) : Type 0 where
   pub sort : code (decode (slot b (index h) .rec)) ≡ 7
   pub ok : OkT (immediateAt b h)
 
-limited-some : (f : Fetch) (t c : Tree) → someFetch f ≡ true → limited f t c ≡ over (cond (eqb (fact t .streams) 1) (globalLimit 0 f (limitNote t)) (localLimit f (limitNote t))) false (setMark false c)
+limited-some : (f : Fetch) (t c : Tree) → someFetch f ≡ true
+    → limited f t c ≡ over (cond (eqb (fact t .streams) 1) (globalLimit 0 f (limitNote t)) (localLimit f (limitNote t))) false (setMark false c)
 limited-some Unlimited t c e = no-bool e
 limited-some (AtMost n) t c e = refl
 
@@ -146,10 +155,12 @@ limited-none : (f : Fetch) (t c : Tree) → someFetch f ≡ false → limited f 
 limited-none Unlimited t c e = refl
 limited-none (AtMost n) t c e = no-bool (sym e)
 
-pub limit-global : (s : Bool) (f : Fetch) (note : Keys) (x : List ℕ) → s ≡ true → x ≡ encode 1 (globalLimit 0 f (keysOf note)) → x ≡ encode 1 (cond s (globalLimit 0 f (keysOf note)) (localLimit f (keysOf note)))
+pub limit-global : (s : Bool) (f : Fetch) (note : Keys) (x : List ℕ) → s ≡ true → x ≡ encode 1 (globalLimit 0 f (keysOf note))
+    → x ≡ encode 1 (cond s (globalLimit 0 f (keysOf note)) (localLimit f (keysOf note)))
 limit-global s f note x e q = q ∙ ap (λ b. encode 1 (cond b (globalLimit 0 f (keysOf note)) (localLimit f (keysOf note)))) (sym e)
 
-pub limit-local : (s : Bool) (f : Fetch) (note : Keys) (x : List ℕ) → s ≡ false → x ≡ encode 1 (localLimit f (keysOf note)) → x ≡ encode 1 (cond s (globalLimit 0 f (keysOf note)) (localLimit f (keysOf note)))
+pub limit-local : (s : Bool) (f : Fetch) (note : Keys) (x : List ℕ) → s ≡ false → x ≡ encode 1 (localLimit f (keysOf note))
+    → x ≡ encode 1 (cond s (globalLimit 0 f (keysOf note)) (localLimit f (keysOf note)))
 limit-local s f note x e q = q ∙ ap (λ b. encode 1 (cond b (globalLimit 0 f (keysOf note)) (localLimit f (keysOf note)))) (sym e)
 
 only-size : (m ks : List ℕ) → length ks ≡ 1 → size (forest m ks) ≡ sizeT (treeOf m (getD ks 0 0))
@@ -171,7 +182,8 @@ module _ (b : List ℕ) (w h : ℕ) (p : Immediates b w h) where
   own : Proper (slot b (index h) .rec)
   own = own-proper b w h standing (slot b (index h) .rec) refl
 
-  sorts : decode (slot b (index h) .rec) ≡ sortOp (fromBytes (slot b (index h) .rec) .preserve) (fromBytes (slot b (index h) .rec) .keys) (fromBytes (slot b (index h) .rec) .fetch)
+  sorts : decode (slot b (index h) .rec) ≡ sortOp (fromBytes (slot b (index h) .rec) .preserve) (fromBytes (slot b (index h) .rec) .keys)
+      (fromBytes (slot b (index h) .rec) .fetch)
   sorts = sort-op (slot b (index h) .rec) own (p .sort)
 
   only : length (slot b (index h) .kids) ≡ 1
@@ -181,7 +193,8 @@ module _ (b : List ℕ) (w h : ℕ) (p : Immediates b w h) where
   sort-some = let l = only in omega arith
 
   module _ (k : ℕ) (hk : k ≡ getD (slot b (index h) .kids) 0 0) where
-    at-kid : immediateAt b h ≡ analyzeImmediateSortRemoval (fromBytes (slot b (index h) .rec) .preserve) (fromBytes (slot b (index h) .rec) .keys) (fromBytes (slot b (index h) .rec) .fetch) (treeOf b h) (treeOf b k)
+    at-kid : immediateAt b h ≡ analyzeImmediateSortRemoval (fromBytes (slot b (index h) .rec) .preserve) (fromBytes (slot b (index h) .rec) .keys)
+        (fromBytes (slot b (index h) .rec) .fetch) (treeOf b h) (treeOf b k)
     at-kid = ap (analyzeImmediateSortRemoval (x .preserve) (x .keys) (x .fetch) t) (sym (first-kid b h (is-here b w h standing) sort-some k hk))
 
     pub sort-kid : Standing b w k
@@ -191,10 +204,12 @@ module _ (b : List ℕ) (w h : ℕ) (p : Immediates b w h) where
     sort-small = let l = sort-kid .here in let s = p .small in omega arith
 
     -- a new node in its place, over the child without its mark
-    module _ (op : Op) (e : immediateAt b h ≡ over op false (setMark false (treeOf b k))) (k' : ℕ) (m : Marks k false k') (y : List ℕ) (hy : y ≡ encode 1 op) where
+    module _ (op : Op) (e : immediateAt b h ≡ over op false (setMark false (treeOf b k))) (k' : ℕ) (m : Marks k false k') (y : List ℕ)
+        (hy : y ≡ encode 1 op) where
       under : Under b w k' 1
       under =
-          let l = sort-kid .here in let s = m .slot in let n = ap sizeT (m .tree b) in let z = only-size b (slot b (index h) .kids) only in let q = shown b w h standing .small in let i = ap (λ j. sizeT (treeOf b j)) hk in let r = p .small in
+          let l = sort-kid .here in let s = m .slot in let n = ap sizeT (m .tree b) in let z = only-size b (slot b (index h) .kids) only in
+          let q = shown b w h standing .small in let i = ap (λ j. sizeT (treeOf b j)) hk in let r = p .small in
           record { arena = p .arena; here = omega arith; room = p .room; small = omega arith; few = omega arith }
 
       fits : nodeOk op (fact (treeOf b k') .width ∷ []) ≡ true
@@ -203,10 +218,13 @@ module _ (b : List ℕ) (w h : ℕ) (p : Immediates b w h) where
       pub place-puts : Puts b w y (k' ∷ [])
       place-puts = cover-puts b w k' under op fits y hy (ok-of b w k' (p .arena) (under .here))
 
-      pub place-grown : (b' : List ℕ) (a : At) → Grown b w b' a (node (decode y) false (forest b (k' ∷ []))) (w + 1) → Grown b w b' a (immediateAt b h) (w + 1)
-      place-grown b' a g = subst (λ z. Grown b w b' a z (w + 1)) (ap (over op false) (m .tree b) ∙ sym e) (cover-grown b w k' under op fits y hy b' a (w + 1) g)
+      pub place-grown : (b' : List ℕ) (a : At) → Grown b w b' a (node (decode y) false (forest b (k' ∷ []))) (w + 1) → Grown b w b' a (immediateAt b h)
+          (w + 1)
+      place-grown b' a g = subst (λ z. Grown b w b' a z (w + 1)) (ap (over op false) (m .tree b) ∙ sym e)
+          (cover-grown b w k' under op fits y hy b' a (w + 1) g)
 
-    module _ (row : List ℕ) (sh : Tells (treeOf b k) row) (several : Bool) (hv : several ≡ ltb 1 (told row .streams)) (r : List ℕ) (hr : r ≡ slot b (index h) .rec) (pr : Bool) (hp : pr ≡ fromBytes r .preserve) (f : Fetch) (hf : f ≡ fromBytes r .fetch)
+    module _ (row : List ℕ) (sh : Tells (treeOf b k) row) (several : Bool) (hv : several ≡ ltb 1 (told row .streams)) (r : List ℕ)
+        (hr : r ≡ slot b (index h) .rec) (pr : Bool) (hp : pr ≡ fromBytes r .preserve) (f : Fetch) (hf : f ≡ fromBytes r .fetch)
         (ks : Keys) (hks : Keyed (fromBytes r .keys) ks) where
       preserve-is : pr ≡ fromBytes (slot b (index h) .rec) .preserve
       preserve-is = hp ∙ ap (λ z. fromBytes z .preserve) hr
@@ -217,11 +235,14 @@ module _ (b : List ℕ) (w h : ℕ) (p : Immediates b w h) where
       keys-are : keysOf ks ≡ fromBytes (slot b (index h) .rec) .keys
       keys-are = hks .is ∙ ap (λ z. fromBytes z .keys) hr
 
-      by-test : immediateAt b h ≡ cond (not pr && several) (over (mergeOp (keysOf ks) f) false (setMark false (treeOf b k))) (limited f (treeOf b h) (treeOf b k))
+      by-test : immediateAt b h ≡ cond (not pr && several) (over (mergeOp (keysOf ks) f) false (setMark false (treeOf b k)))
+          (limited f (treeOf b h) (treeOf b k))
       by-test =
           at-kid
-          ∙ ap₂ (λ q n. cond (not q && n) (over (mergeOp (x .keys) (x .fetch)) false (setMark false (treeOf b k))) (limited (x .fetch) t (treeOf b k))) (sym preserve-is) (sym (hv ∙ ap (λ G. ltb 1 (G .streams)) (sh .is)))
-          ∙ ap₂ (λ l g. cond (not pr && several) (over (mergeOp l g) false (setMark false (treeOf b k))) (limited g t (treeOf b k))) (sym keys-are) (sym fetch-is)
+          ∙ ap₂ (λ q n. cond (not q && n) (over (mergeOp (x .keys) (x .fetch)) false (setMark false (treeOf b k))) (limited (x .fetch) t (treeOf b k)))
+          (sym preserve-is) (sym (hv ∙ ap (λ G. ltb 1 (G .streams)) (sh .is)))
+          ∙ ap₂ (λ l g. cond (not pr && several) (over (mergeOp l g) false (setMark false (treeOf b k))) (limited g t (treeOf b k))) (sym keys-are)
+          (sym fetch-is)
 
       -- a merge
       pub merge-is : (not pr && several) ≡ true → immediateAt b h ≡ over (mergeOp (keysOf ks) f) false (setMark false (treeOf b k))
@@ -235,17 +256,22 @@ module _ (b : List ℕ) (w h : ℕ) (p : Immediates b w h) where
         pub goes-asks : Unmarks b w k
         goes-asks = record { arena = p .arena; here = sort-kid .here; room = p .room; small = p .small }
 
-        pub goes-grown : someFetch f ≡ false → (b' : List ℕ) (a : At) → Grown b w b' a (node (opT (treeOf b k)) false (unmark (treeOf b k .kids))) (w + 1) → Grown b w b' a (immediateAt b h) (w + 1)
+        pub goes-grown : someFetch f ≡ false → (b' : List ℕ) (a : At) → Grown b w b' a (node (opT (treeOf b k)) false (unmark (treeOf b k .kids))) (w + 1)
+            → Grown b w b' a (immediateAt b h) (w + 1)
         goes-grown z b' a g = subst (λ v. Grown b w b' a v (w + 1)) (sym (limited-is ∙ limited-none f t (treeOf b k) z)) g
 
         -- a limit
-        module _ (z : someFetch f ≡ true) (own-row : List ℕ) (so : Tells (treeOf b h) own-row) (single : Bool) (hs : single ≡ eqb (told own-row .streams) 1) (note : Keys) (hn : Keyed (nf (told row) [] (keysOf ks)) note) where
+        module _ (z : someFetch f ≡ true) (own-row : List ℕ) (so : Tells (treeOf b h) own-row) (single : Bool) (hs : single ≡ eqb (told own-row .streams) 1)
+            (note : Keys) (hn : Keyed (nf (told row) [] (keysOf ks)) note) where
           note-is : keysOf note ≡ limitNote (treeOf b h)
           note-is =
               hn .is ∙ ap₂ (λ G l. nf G [] l) (sh .is ∙ ap (λ i. fact (treeOf b i)) hk ∙ sym (facts-at b (slot b (index h) .kids) 0 sort-some)) keys-are
-              ∙ sym (ap (λ y. knownOrder (fact y)) (tree-is b w h standing) ∙ ap (λ op. knownOrder (factsOp op (known (forest b (slot b (index h) .kids))))) sorts)
+              ∙ sym (ap (λ y. knownOrder (fact y)) (tree-is b w h standing) ∙ ap (λ op. knownOrder (factsOp op (known (forest b (slot b (index h) .kids)))))
+              sorts)
 
-          pub limit-is : immediateAt b h ≡ over (cond single (globalLimit 0 f (keysOf note)) (localLimit f (keysOf note))) false (setMark false (treeOf b k))
+          pub limit-is : immediateAt b h ≡ over (cond single (globalLimit 0 f (keysOf note)) (localLimit f (keysOf note))) false
+              (setMark false (treeOf b k))
           limit-is =
               limited-is ∙ limited-some f t (treeOf b k) z
-              ∙ ap₂ (λ i l. over (cond i (globalLimit 0 f l) (localLimit f l)) false (setMark false (treeOf b k))) (sym (hs ∙ ap (λ G. eqb (G .streams) 1) (so .is))) (sym note-is)
+              ∙ ap₂ (λ i l. over (cond i (globalLimit 0 f l) (localLimit f l)) false (setMark false (treeOf b k)))
+              (sym (hs ∙ ap (λ G. eqb (G .streams) 1) (so .is))) (sym note-is)

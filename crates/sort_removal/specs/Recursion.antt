@@ -45,7 +45,8 @@ pub record Removes (b : List ℕ) (u h : ℕ) : Type 0 where
 -- The first j children are done
 pub record Going (b₀ : List ℕ) (u h j w : ℕ) (kids b : List ℕ) : Type 0 where
   pub made : Kids b₀ u j w kids b
-  pub is : forest b (take j kids) ⊕ removeKids (from (singles (decode (slot b₀ (index h) .rec))) j) (forest b₀ (drop j (slot b₀ (index h) .kids))) ≡ removeKids (singles (decode (slot b₀ (index h) .rec))) (forest b₀ (slot b₀ (index h) .kids))
+  pub is : forest b (take j kids) ⊕ removeKids (from (singles (decode (slot b₀ (index h) .rec))) j) (forest b₀ (drop j (slot b₀ (index h) .kids)))
+      ≡ removeKids (singles (decode (slot b₀ (index h) .rec))) (forest b₀ (slot b₀ (index h) .kids))
   pub left : w + 2 * size (forest b₀ (drop j (slot b₀ (index h) .kids))) ≤ u + 2 * size (forest b₀ (slot b₀ (index h) .kids))
 
 drop-some : (f : Fetch) (t : Tree) → someFetch f ≡ true → dropSort f t ≡ t
@@ -99,28 +100,49 @@ module _ (b₀ : List ℕ) (u h : ℕ) (p : Removes b₀ u h) where
     new-ok = subst OkT now (one-ok s (treeOf b₀ h) (p .arena .all (index h) (half (p .arena) (p .here)) .proper .ok))
 
     -- a tree in its place, and one stream of it
-    pub place-asks : (b : List ℕ) (w k : ℕ) → Arena b w → k < 2 * w → length b ≡ length b₀ → w < u + 2 * sizeT (treeOf b₀ h) → treeOf b k ≡ Removed b₀ h → AsksSingleStream b w k s
+    pub place-asks : (b : List ℕ) (w k : ℕ) → Arena b w → k < 2 * w → length b ≡ length b₀ → w < u + 2 * sizeT (treeOf b₀ h) → treeOf b k ≡ Removed b₀ h
+        → AsksSingleStream b w k s
     place-asks b w k a l e f q =
-        let r = p .room in let m = p .small in let n = p .few in let t = sized in let y = ap sizeT q in let x = by-size (shape o) (record { op = o; mark = true }) c₀ (removeKids (singles o) c₀) (kids-size (singles o) c₀) in
-        record { arena = a; here = l; room = omega arith; small = omega arith; ok = subst (λ t. OkT (withSingleStream s t)) (sym q) new-ok; few = omega arith }
+        let r = p .room in let m = p .small in let n = p .few in let t = sized in let y = ap sizeT q in
+        let x = by-size (shape o) (record { op = o; mark = true }) c₀ (removeKids (singles o) c₀) (kids-size (singles o) c₀) in
+        record {
+          arena = a;
+          here = l;
+          room = omega arith;
+          small = omega arith;
+          ok = subst (λ t. OkT (withSingleStream s t)) (sym q) new-ok;
+          few = omega arith;
+        }
 
-    pub place-grown : (b : List ℕ) (w k : ℕ) → Same u b₀ b → u ≤ w → w < u + 2 * sizeT (treeOf b₀ h) → treeOf b k ≡ Removed b₀ h → (b' : List ℕ) (a : At) → Grown b w b' a (withSingleStream s (treeOf b k)) (w + 1) → Grown b₀ u b' a (removeOne s (treeOf b₀ h)) (u + 2 * sizeT (treeOf b₀ h))
+    pub place-grown : (b : List ℕ) (w k : ℕ) → Same u b₀ b → u ≤ w → w < u + 2 * sizeT (treeOf b₀ h) → treeOf b k ≡ Removed b₀ h → (b' : List ℕ) (a : At)
+        → Grown b w b' a (withSingleStream s (treeOf b k)) (w + 1) → Grown b₀ u b' a (removeOne s (treeOf b₀ h)) (u + 2 * sizeT (treeOf b₀ h))
     place-grown b w k e l f q b' a g =
         let x = g .more in let y = g .room in
-        record { arena = g .arena; old = same-trans u w b₀ b b' l e (g .old); more = omega arith; here = g .here; tree = g .tree ∙ ap (withSingleStream s) q ∙ sym now; room = omega arith }
+        record {
+          arena = g .arena;
+          old = same-trans u w b₀ b b' l e (g .old);
+          more = omega arith;
+          here = g .here;
+          tree = g .tree ∙ ap (withSingleStream s) q
+              ∙ sym now;
+          room = omega arith;
+        }
 
     -- a sort
     module _ (e : code (decode (slot b₀ (index h) .rec)) ≡ 7) where
       abbrev x : NodeRecord
       x = fromBytes (slot b₀ (index h) .rec)
 
-      sorts : decode (slot b₀ (index h) .rec) ≡ sortOp (fromBytes (slot b₀ (index h) .rec) .preserve) (fromBytes (slot b₀ (index h) .rec) .keys) (fromBytes (slot b₀ (index h) .rec) .fetch)
+      sorts : decode (slot b₀ (index h) .rec) ≡ sortOp (fromBytes (slot b₀ (index h) .rec) .preserve) (fromBytes (slot b₀ (index h) .rec) .keys)
+          (fromBytes (slot b₀ (index h) .rec) .fetch)
       sorts = sort-op (slot b₀ (index h) .rec) (own-proper b₀ u h standing (slot b₀ (index h) .rec) refl) e
 
       only : length (slot b₀ (index h) .kids) ≡ 1
-      only = one-kid b₀ (slot b₀ (index h) .rec) (slot b₀ (index h) .kids) (own-over b₀ u h standing) (sortOp (x .preserve) (x .keys) (x .fetch)) sorts (λ n. refl)
+      only = one-kid b₀ (slot b₀ (index h) .rec) (slot b₀ (index h) .kids) (own-over b₀ u h standing) (sortOp (x .preserve) (x .keys) (x .fetch)) sorts
+          (λ n. refl)
 
-      dropped : Removed b₀ h ≡ dropSort (fromBytes (slot b₀ (index h) .rec) .fetch) (node (decode (slot b₀ (index h) .rec)) true (forest b₀ (slot b₀ (index h) .kids)))
+      dropped : Removed b₀ h ≡ dropSort (fromBytes (slot b₀ (index h) .rec) .fetch)
+          (node (decode (slot b₀ (index h) .rec)) true (forest b₀ (slot b₀ (index h) .kids)))
       dropped = ap (λ k. removeBy (shape k) (record { op = o; mark = true }) c₀ (removeKids (singles o) c₀)) sorts
 
       -- it stays
@@ -131,7 +153,8 @@ module _ (b₀ : List ℕ) (u h : ℕ) (p : Removes b₀ u h) where
         pub stays-asks : AsksSingleStream b₀ u h s
         stays-asks = let t = sized in place-asks b₀ u h (p .arena) (p .here) refl (omega arith) stays
 
-        pub stays-grown : (b' : List ℕ) (a : At) → Grown b₀ u b' a (withSingleStream s (treeOf b₀ h)) (u + 1) → Grown b₀ u b' a (removeOne s (treeOf b₀ h)) (u + 2 * sizeT (treeOf b₀ h))
+        pub stays-grown : (b' : List ℕ) (a : At) → Grown b₀ u b' a (withSingleStream s (treeOf b₀ h)) (u + 1) → Grown b₀ u b' a (removeOne s (treeOf b₀ h))
+            (u + 2 * sizeT (treeOf b₀ h))
         stays-grown b' a g = let t = sized in place-grown b₀ u h refl (omega arith) (omega arith) stays b' a g
 
       -- it goes
@@ -143,9 +166,11 @@ module _ (b₀ : List ℕ) (u h : ℕ) (p : Removes b₀ u h) where
         goes = ap (treeOf b₀) hk ∙ kid-is b₀ hs (node o true c₀) sort-some ∙ sym (dropped ∙ drop-none (x .fetch) (node o true c₀) f)
 
         pub goes-asks : AsksSingleStream b₀ u k s
-        goes-asks = let t = sized in let y = below-at (2 * index h) hs 0 (seen .below) sort-some in let v = p .here in place-asks b₀ u k (p .arena) (omega arith) refl (omega arith) goes
+        goes-asks = let t = sized in let y = below-at (2 * index h) hs 0 (seen .below) sort-some in let v = p .here in
+            place-asks b₀ u k (p .arena) (omega arith) refl (omega arith) goes
 
-        pub goes-grown : (b' : List ℕ) (a : At) → Grown b₀ u b' a (withSingleStream s (treeOf b₀ k)) (u + 1) → Grown b₀ u b' a (removeOne s (treeOf b₀ h)) (u + 2 * sizeT (treeOf b₀ h))
+        pub goes-grown : (b' : List ℕ) (a : At) → Grown b₀ u b' a (withSingleStream s (treeOf b₀ k)) (u + 1) → Grown b₀ u b' a (removeOne s (treeOf b₀ h))
+            (u + 2 * sizeT (treeOf b₀ h))
         goes-grown b' a g = let t = sized in place-grown b₀ u k refl (omega arith) (omega arith) goes b' a g
 
   pub going-none : (kids : List ℕ) → length kids ≡ 8 → Going b₀ u h 0 u kids b₀
@@ -159,7 +184,8 @@ module _ (b₀ : List ℕ) (u h : ℕ) (p : Removes b₀ u h) where
 
       pub going-next : (sizeT (treeOf b k) < sizeT (treeOf b₀ h)) × Removes b w k
       going-next =
-          let s = ap size next-split in let t = sized in let v = q .left in let o = q .made .long in let r = p .room in let m = p .small in let x = q .made .more in let y = kid-below (p .arena) (p .here) (q .made) l e in let n = p .few in
+          let s = ap size next-split in let t = sized in let v = q .left in let o = q .made .long in let r = p .room in let m = p .small in
+          let x = q .made .more in let y = kid-below (p .arena) (p .here) (q .made) l e in let n = p .few in
           let d = drop-size b₀ hs j in
           (omega arith, record { arena = q .made .arena; here = omega arith; room = omega arith; small = omega arith; few = omega arith })
 
@@ -167,15 +193,19 @@ module _ (b₀ : List ℕ) (u h : ℕ) (p : Removes b₀ u h) where
         first-one : one ≡ from (singles (decode (slot b₀ (index h) .rec))) j 0
         first-one = ho ∙ sym (from-first (singles o) j)
 
-        step : removeKids (from (singles (decode (slot b₀ (index h) .rec))) j) (plant (treeOf b k) (forest b₀ (drop (suc j) (slot b₀ (index h) .kids)))) ≡ plant (removeOne one (treeOf b k)) (removeKids (from (singles (decode (slot b₀ (index h) .rec))) (suc j)) (forest b₀ (drop (suc j) (slot b₀ (index h) .kids))))
+        step : removeKids (from (singles (decode (slot b₀ (index h) .rec))) j) (plant (treeOf b k) (forest b₀ (drop (suc j) (slot b₀ (index h) .kids))))
+            ≡ plant (removeOne one (treeOf b k))
+            (removeKids (from (singles (decode (slot b₀ (index h) .rec))) (suc j)) (forest b₀ (drop (suc j) (slot b₀ (index h) .kids))))
         step = ap₂ (λ s q. plant (removeOne s (treeOf b k)) (removeKids q (forest b₀ (drop (suc j) hs)))) (sym first-one) (from-next (singles o) j)
 
-        pub going-more : (b' : List ℕ) → length b' ≡ length b → (r : At) → Grown b w b' r (removeOne one (treeOf b k)) (w + 2 * sizeT (treeOf b k)) → Going b₀ u h (j + 1) (r .used) (set kids j (r .root)) b'
+        pub going-more : (b' : List ℕ) → length b' ≡ length b → (r : At) → Grown b w b' r (removeOne one (treeOf b k)) (w + 2 * sizeT (treeOf b k))
+            → Going b₀ u h (j + 1) (r .used) (set kids j (r .root)) b'
         going-more b' lb r g =
             let y = seen .few in let s = ap size next-split in let v = q .left in let top = g .room in
             record {
               made = kids-more b₀ u j w kids b (q .made) (omega arith) b' lb r (removeOne one (treeOf b k)) (w + 2 * sizeT (treeOf b k)) g;
-              is = kids-forest b₀ u j w kids b (q .made) (omega arith) b' lb r (removeOne one (treeOf b k)) (w + 2 * sizeT (treeOf b k)) g (removeKids (from (singles o) (j + 1)) (forest b₀ (drop (j + 1) hs)))
+              is = kids-forest b₀ u j w kids b (q .made) (omega arith) b' lb r (removeOne one (treeOf b k)) (w + 2 * sizeT (treeOf b k)) g
+                  (removeKids (from (singles o) (j + 1)) (forest b₀ (drop (j + 1) hs)))
                   ∙ rw (add-one j) (ap (λ x. forest b (take j kids) ⊕ x) (sym (ap (removeKids (from (singles o) j)) next-split ∙ step))) ∙ q .is;
               left = rw (add-one j) (omega arith);
             }
@@ -193,7 +223,8 @@ module _ (b₀ : List ℕ) (u h : ℕ) (p : Removes b₀ u h) where
 
       pub going-rems : Rems b w h (take n kids)
       going-rems =
-          let v = q .left in let t = sized in let l = q .made .long in let r = p .room in let m = p .small in let x = q .made .more in let y = half (p .arena) (p .here) in let f = p .few in let z = ap size olds in
+          let v = q .left in let t = sized in let l = q .made .long in let r = p .room in let m = p .small in let x = q .made .more in
+          let y = half (p .arena) (p .here) in let f = p .few in let z = ap size olds in
           record {
             arena = q .made .arena;
             here = omega arith;
@@ -206,13 +237,17 @@ module _ (b₀ : List ℕ) (u h : ℕ) (p : Removes b₀ u h) where
           }
 
       same-removed : Removed b h ≡ Removed b₀ h
-      same-removed = ap₂ (λ k f. removeBy (shape (decode (k .rec))) (record { op = decode (k .rec); mark = true }) f (removeKids (singles (decode (k .rec))) f)) same olds
+      same-removed = ap₂ (λ k f. removeBy (shape (decode (k .rec))) (record { op = decode (k .rec); mark = true }) f
+          (removeKids (singles (decode (k .rec))) f)) same olds
 
       module _ (s : Bool) (z : marked h ≡ true) (b' : List ℕ) (lb : length b' ≡ length b) (a : At) (g : Grown b w b' a (Removed b h) (w + 1)) where
         pub end-asks : AsksSingleStream b' (a .used) (a .root) s
-        end-asks = let v = q .left in let t = sized in let y = g .room in place-asks s z b' (a .used) (a .root) (g .arena) (g .here) (lb ∙ q .made .long) (omega arith) (g .tree ∙ same-removed)
+        end-asks = let v = q .left in let t = sized in let y = g .room in
+            place-asks s z b' (a .used) (a .root) (g .arena) (g .here) (lb ∙ q .made .long) (omega arith) (g .tree ∙ same-removed)
 
-        pub going-end : (b'' : List ℕ) (r : At) → Grown b' (a .used) b'' r (withSingleStream s (treeOf b' (a .root))) (a .used + 1) → Grown b₀ u b'' r (removeOne s (treeOf b₀ h)) (u + 2 * sizeT (treeOf b₀ h))
+        pub going-end : (b'' : List ℕ) (r : At) → Grown b' (a .used) b'' r (withSingleStream s (treeOf b' (a .root))) (a .used + 1)
+            → Grown b₀ u b'' r (removeOne s (treeOf b₀ h)) (u + 2 * sizeT (treeOf b₀ h))
         going-end b'' r k =
             let v = q .left in let t = sized in let x = q .made .more in let y = g .room in let m = g .more in
-            place-grown s z b' (a .used) (a .root) (same-trans u w b₀ b b' x (q .made .old) (g .old)) (omega arith) (omega arith) (g .tree ∙ same-removed) b'' r k
+            place-grown s z b' (a .used) (a .root) (same-trans u w b₀ b b' x (q .made .old) (g .old)) (omega arith) (omega arith)
+            (g .tree ∙ same-removed) b'' r k

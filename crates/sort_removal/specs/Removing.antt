@@ -63,7 +63,8 @@ updated-by-size : (x : Bool) (d : Forest Marked) → size (updatedBy x d) ≡ si
 updated-by-size true d = connected-size d
 updated-by-size false d = refl
 
-updated-is : (o : Op) (c d : Forest Marked) → updatedAfterRemoval (record { op = o; mark = true }) c d ≡ node (rebuilt o (known d)) (not (needs c)) (updatedBy (needs c) d)
+updated-is : (o : Op) (c d : Forest Marked) → updatedAfterRemoval (record { op = o; mark = true }) c d ≡ node (rebuilt o (known d)) (not (needs c))
+    (updatedBy (needs c) d)
 updated-is o c d = go (needs c)
   where
     go : (x : Bool) → cond x (updateSortCtxChildrenData false (rebuild o true d)) (rebuild o true d) ≡ node (rebuilt o (known d)) (not x) (updatedBy x d)
@@ -98,13 +99,16 @@ module _ (c d : Forest Marked) where
   again : (o : Op) → updatedAfterRemoval (record { op = o; mark = true }) c d ≡ rebuild o (not (needs c)) (updatedBy (needs c) d)
   again o = updated-is o c d ∙ ap (λ fs. node (rebuilt o fs) (not (needs c)) e) (sym known-is)
 
-  by-merge : (ks : List Key) (f : Fetch) → removeBy (shape (mergeOp ks f)) (record { op = mergeOp ks f; mark = true }) c d ≡ setMark (not (needs c)) (kid0 (rebuild (mergeOp ks f) (not (needs c)) (updatedBy (needs c) d)) (updatedBy (needs c) d))
+  by-merge : (ks : List Key) (f : Fetch) → removeBy (shape (mergeOp ks f)) (record { op = mergeOp ks f; mark = true }) c d ≡ setMark (not (needs c))
+      (kid0 (rebuild (mergeOp ks f) (not (needs c)) (updatedBy (needs c) d)) (updatedBy (needs c) d))
   by-merge ks f = ap (loosen (aMerge ks f)) (again (mergeOp ks f))
 
-  by-repartition : (p : Bool) (n : ℕ) (q : Bool) (ks : List Key) → removeBy (shape (repartition p n q ks)) (record { op = repartition p n q ks; mark = true }) c d ≡ node (remark (λ z. false) (repartition p n q ks)) (not (needs c)) (updatedBy (needs c) d)
+  by-repartition : (p : Bool) (n : ℕ) (q : Bool) (ks : List Key) → removeBy (shape (repartition p n q ks))
+      (record { op = repartition p n q ks; mark = true }) c d ≡ node (remark (λ z. false) (repartition p n q ks)) (not (needs c)) (updatedBy (needs c) d)
   by-repartition p n q ks = ap (loosen (aRepartition p n q ks)) (again (repartition p n q ks))
 
-  by-other : (o : Op) → (code o ≡ 5 → ⊥) → (code o ≡ 7 → ⊥) → (code o ≡ 8 → ⊥) → removeBy (shape o) (record { op = o; mark = true }) c d ≡ rebuild o (not (needs c)) (updatedBy (needs c) d)
+  by-other : (o : Op) → (code o ≡ 5 → ⊥) → (code o ≡ 7 → ⊥) → (code o ≡ 8 → ⊥) → removeBy (shape o) (record { op = o; mark = true }) c d ≡ rebuild o
+      (not (needs c)) (updatedBy (needs c) d)
   by-other (source s) x y z = again (source s)
   by-other filter x y z = again filter
   by-other (projection cols) x y z = again (projection cols)
@@ -140,14 +144,16 @@ pub record Overs (b : List ℕ) (w h : ℕ) (ks : List ℕ) (q : Bool) : Type 0 
   pub room : (w + 1) * slotSize ≤ length b
   pub small : w < mostSlots
   pub below : Below (2 * w) ks
-  pub is : forest b ks ≡ updatedBy (needs (forest b (slot b (index h) .kids))) (removeKids (singles (decode (slot b (index h) .rec))) (forest b (slot b (index h) .kids)))
+  pub is : forest b ks ≡ updatedBy (needs (forest b (slot b (index h) .kids)))
+      (removeKids (singles (decode (slot b (index h) .rec))) (forest b (slot b (index h) .kids)))
   pub asked : q ≡ needs (forest b (slot b (index h) .kids))
   pub count : length ks ≡ length (slot b (index h) .kids)
   pub few : 2 * suc (size (forest b (slot b (index h) .kids))) ≤ mostNodes
 
 -- what it becomes
 abbrev pub Removed : List ℕ → ℕ → Tree
-Removed b h = removeBy (shape (decode (slot b (index h) .rec))) (record { op = decode (slot b (index h) .rec); mark = true }) (forest b (slot b (index h) .kids)) (removeKids (singles (decode (slot b (index h) .rec))) (forest b (slot b (index h) .kids)))
+Removed b h = removeBy (shape (decode (slot b (index h) .rec))) (record { op = decode (slot b (index h) .rec); mark = true })
+    (forest b (slot b (index h) .kids)) (removeKids (singles (decode (slot b (index h) .rec))) (forest b (slot b (index h) .kids)))
 
 pub roots-none : (m hs : List ℕ) → isNil (roots (forest m hs)) ≡ eqb (length hs) 0
 unfolding forest
@@ -162,7 +168,8 @@ module _ (b : List ℕ) (w h : ℕ) (ks : List ℕ) (p : Rems b w h ks) where
   rems-at = record { arena = p .arena; here = p .here }
 
   pub asks : (x : Bool) → x ≡ anyMark (treeOf b h .kids) → (n : ℕ) → n ≡ length ks → (x || eqb n 0) ≡ needs (forest b (slot b (index h) .kids))
-  asks x e n l = ap₂ _||_ (e ∙ ap (λ t. anyMark (t .kids)) (tree-is b w h rems-at)) (ap (λ k. eqb k 0) (l ∙ p .count) ∙ sym (roots-none b (slot b (index h) .kids)))
+  asks x e n l = ap₂ _||_ (e ∙ ap (λ t. anyMark (t .kids)) (tree-is b w h rems-at))
+      (ap (λ k. eqb k 0) (l ∙ p .count) ∙ sym (roots-none b (slot b (index h) .kids)))
 
   pub update-none : (x : Bool) → x ≡ needs (forest b (slot b (index h) .kids)) → x ≡ false → Overs b w h ks false
   update-none x e z =
@@ -193,7 +200,8 @@ module _ (b : List ℕ) (w h : ℕ) (ks : List ℕ) (p : Rems b w h ks) where
       }
 
 -- a handle with another mark
-pub marked-grown : (b : List ℕ) (w : ℕ) (b' : List ℕ) (a : At) (t : Tree) (top : ℕ) → Grown b w b' a t top → (y : Bool) (r : ℕ) → Marks (a .root) y r → Grown b w b' (record { used = a .used; root = r }) (setMark y t) top
+pub marked-grown : (b : List ℕ) (w : ℕ) (b' : List ℕ) (a : At) (t : Tree) (top : ℕ) → Grown b w b' a t top → (y : Bool) (r : ℕ) → Marks (a .root) y r
+    → Grown b w b' (record { used = a .used; root = r }) (setMark y t) top
 marked-grown b w b' a t top g y r m =
     let h = g .here in let s = m .slot in
     record { arena = g .arena; old = g .old; more = g .more; here = omega arith; tree = m .tree b' ∙ ap (setMark y) (g .tree); room = g .room }
@@ -222,7 +230,8 @@ module _ (b : List ℕ) (w h : ℕ) (ks : List ℕ) (q : Bool) (p : Overs b w h 
 
   open-ok : OkT (node (decode (slot b (index h) .rec)) false (forest b ks))
   open-ok =
-      let k : OkT (node o false d) = kept-node {a = true} {b = true} {h = true} o o false false c d (like-refl o) (fit .0) (removeKids-kept (singles o) c (fit .1)) .ok refl (shown .ok) in
+      let k : OkT (node o false d) = kept-node {a = true} {b = true} {h = true} o o false false c d (like-refl o) (fit .0)
+      (removeKids-kept (singles o) c (fit .1)) .ok refl (shown .ok) in
       subst (λ g. (nodeOk o (map (λ F. F .width) (facts g)) ≡ true) × Ok g) (sym same-strip) k
 
   sized : size (forest b ks) ≤ 2 * size (forest b (slot b (index h) .kids))
@@ -236,17 +245,29 @@ module _ (b : List ℕ) (w h : ℕ) (ks : List ℕ) (q : Bool) (p : Overs b w h 
 
   pub overs-puts : (r : List ℕ) → r ≡ slot b (index h) .rec → Puts b w r ks × (index h < w)
   overs-puts r e =
-      let x = sized in let y = p .few in
-      (subst (λ z. Puts b w z ks) (sym e) (record { arena = p .arena; room = p .room; small = p .small; below = p .below; canon = canon; ok = open-ok; few = omega arith }), half)
+      let x = sized in let y = p .few in (
+        subst (λ z. Puts b w z ks) (sym e) (record {
+          arena = p .arena;
+          room = p .room;
+          small = p .small;
+          below = p .below;
+          canon = canon;
+          ok = open-ok;
+          few = omega arith;
+        }),
+        half,
+      )
 
   -- any other kind
-  pub other-grown : (code (decode (slot b (index h) .rec)) ≡ 5 → ⊥) → (code (decode (slot b (index h) .rec)) ≡ 7 → ⊥) → (code (decode (slot b (index h) .rec)) ≡ 8 → ⊥)
+  pub other-grown : (code (decode (slot b (index h) .rec)) ≡ 5 → ⊥) → (code (decode (slot b (index h) .rec)) ≡ 7 → ⊥)
+      → (code (decode (slot b (index h) .rec)) ≡ 8 → ⊥)
       → (r : List ℕ) → r ≡ slot b (index h) .rec → (b' : List ℕ) (a : At) → Grown b w b' a (rebuild (decode r) false (forest b ks)) (w + 1)
       → (y : Bool) → y ≡ not q → (k : ℕ) → Marks (a .root) y k → Grown b w b' (record { used = a .used; root = k }) (Removed b h) (w + 1)
   other-grown x v z r f b' a g y e k m =
       subst (λ t. Grown b w b' (record { used = a .used; root = k }) t (w + 1))
       (ap₂ (λ k f. rebuild o k f) (e ∙ ap not (p .asked)) (p .is) ∙ sym (by-other c d o x v z))
-      (marked-grown b w b' a (rebuild o false (forest b ks)) (w + 1) (subst (λ s. Grown b w b' a (rebuild (decode s) false (forest b ks)) (w + 1)) f g) y k m)
+      (marked-grown b w b' a (rebuild o false (forest b ks)) (w + 1) (subst (λ s. Grown b w b' a (rebuild (decode s) false (forest b ks)) (w + 1)) f g) y k
+      m)
 
   -- a merge
   module _ (e : code (decode (slot b (index h) .rec)) ≡ 8) where
@@ -257,7 +278,8 @@ module _ (b : List ℕ) (w h : ℕ) (ks : List ℕ) (q : Bool) (p : Overs b w h 
     merges = merge-op (slot b (index h) .rec) (own-proper b w h overs-at (slot b (index h) .rec) refl) e
 
     pub merge-some : 0 < length ks
-    merge-some = let l = one-kid b (slot b (index h) .rec) (slot b (index h) .kids) (own-over b w h overs-at) (mergeOp (x .keys) (x .fetch)) merges (λ n. refl) in let n = p .count in omega arith
+    merge-some = let l = one-kid b (slot b (index h) .rec) (slot b (index h) .kids) (own-over b w h overs-at) (mergeOp (x .keys) (x .fetch)) merges
+        (λ n. refl) in let n = p .count in omega arith
 
     pub merge-small : getD ks 0 0 < 65536
     merge-small = let y = below-at (2 * w) ks 0 (p .below) merge-some in let s = p .small in omega arith
@@ -271,17 +293,20 @@ module _ (b : List ℕ) (w h : ℕ) (ks : List ℕ) (q : Bool) (p : Overs b w h 
           more = omega arith;
           here = omega arith;
           tree = m .tree b
-              ∙ ap₂ setMark (z ∙ ap not (p .asked)) (kid-is b ks (rebuild (mergeOp (x .keys) (x .fetch)) (not (needs c)) (updatedBy (needs c) d)) merge-some ∙ ap (kid0 (rebuild (mergeOp (x .keys) (x .fetch)) (not (needs c)) (updatedBy (needs c) d))) (p .is))
+              ∙ ap₂ setMark (z ∙ ap not (p .asked)) (kid-is b ks (rebuild (mergeOp (x .keys) (x .fetch)) (not (needs c)) (updatedBy (needs c) d)) merge-some
+              ∙ ap (kid0 (rebuild (mergeOp (x .keys) (x .fetch)) (not (needs c)) (updatedBy (needs c) d))) (p .is))
               ∙ sym (ap (λ k. removeBy (shape k) (record { op = k; mark = true }) c d) merges ∙ by-merge c d (x .keys) (x .fetch));
           room = omega arith;
         }
 
   -- a repartition: x is its record without the mark
-  module _ (e : code (decode (slot b (index h) .rec)) ≡ 5) (r : List ℕ) (f : r ≡ slot b (index h) .rec) (x : List ℕ) (hx : (n : ℕ) → r ≡ encode n (decode r) → x ≡ encode n (remark (λ z. false) (decode r))) where
+  module _ (e : code (decode (slot b (index h) .rec)) ≡ 5) (r : List ℕ) (f : r ≡ slot b (index h) .rec) (x : List ℕ)
+      (hx : (n : ℕ) → r ≡ encode n (decode r) → x ≡ encode n (remark (λ z. false) (decode r))) where
     abbrev v : NodeRecord
     v = fromBytes (slot b (index h) .rec)
 
-    parts : decode (slot b (index h) .rec) ≡ repartition (fromBytes (slot b (index h) .rec) .preserve) (fromBytes (slot b (index h) .rec) .streams) (fromBytes (slot b (index h) .rec) .hash) (fromBytes (slot b (index h) .rec) .keys)
+    parts : decode (slot b (index h) .rec) ≡ repartition (fromBytes (slot b (index h) .rec) .preserve) (fromBytes (slot b (index h) .rec) .streams)
+        (fromBytes (slot b (index h) .rec) .hash) (fromBytes (slot b (index h) .rec) .keys)
     parts = part-op (slot b (index h) .rec) (own-proper b w h overs-at (slot b (index h) .rec) refl) e
 
     bytes : x ≡ encode (length ks) (remark (λ z. false) (decode (slot b (index h) .rec)))
@@ -308,7 +333,8 @@ module _ (b : List ℕ) (w h : ℕ) (ks : List ℕ) (q : Bool) (p : Overs b w h 
           half,
         )
 
-    pub part-grown : (b' : List ℕ) (a : At) → Grown b w b' a (node (decode x) false (forest b ks)) (w + 1) → (y : Bool) → y ≡ not q → (k : ℕ) → Marks (a .root) y k → Grown b w b' (record { used = a .used; root = k }) (Removed b h) (w + 1)
+    pub part-grown : (b' : List ℕ) (a : At) → Grown b w b' a (node (decode x) false (forest b ks)) (w + 1) → (y : Bool) → y ≡ not q → (k : ℕ)
+        → Marks (a .root) y k → Grown b w b' (record { used = a .used; root = k }) (Removed b h) (w + 1)
     part-grown b' a g y z k m =
         subst (λ t. Grown b w b' (record { used = a .used; root = k }) t (w + 1))
         (ap (λ t. node t y (forest b ks)) decoded ∙ ap₂ (λ k f. node (remark (λ z. false) o) k f) (z ∙ ap not (p .asked)) (p .is)

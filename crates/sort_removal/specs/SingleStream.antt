@@ -44,10 +44,12 @@ some-keys : (n w : ℕ) (f : Fetch) → 0 < n → mergeOp (keysIn n w) f ≡ sin
 some-keys zero w f h = absurd (omega arith)
 some-keys (suc n) w f h = refl
 
-pub single-stream-none : (o : Order) (f : Fetch) (x : List ℕ) → o ≡ Unordered → x ≡ encode 1 (coalesce Unlimited) → x ≡ encode 1 (singleStreamOp (orderOf o) f)
+pub single-stream-none : (o : Order) (f : Fetch) (x : List ℕ) → o ≡ Unordered → x ≡ encode 1 (coalesce Unlimited)
+    → x ≡ encode 1 (singleStreamOp (orderOf o) f)
 single-stream-none o f x e q = q ∙ ap (λ z. encode 1 (singleStreamOp (orderOf z) f)) (sym e)
 
-pub single-stream-some : (o : Order) → Real o → (k : Keys) → o ≡ By k → (f : Fetch) (x : List ℕ) → x ≡ encode 1 (mergeOp (keysOf k) f) → x ≡ encode 1 (singleStreamOp (orderOf o) f)
+pub single-stream-some : (o : Order) → Real o → (k : Keys) → o ≡ By k → (f : Fetch) (x : List ℕ) → x ≡ encode 1 (mergeOp (keysOf k) f)
+    → x ≡ encode 1 (singleStreamOp (orderOf o) f)
 single-stream-some o r k e f x q =
     q ∙ ap (encode 1) (some-keys (k .len) (k .word) f (subst Real e r .0)) ∙ ap (λ z. encode 1 (singleStreamOp (orderOf z) f)) (sym e)
 
@@ -90,7 +92,8 @@ module _ (b : List ℕ) (w h : ℕ) (s : Bool) (p : AsksSingleStream b w h s) wh
     pub one-stream : v ≡ false → Grown b w b (record { used = w; root = h }) (withSingleStream s (treeOf b h)) (w + 1)
     one-stream l = stays (ap₂ _&&_ z (several ∙ l))
 
-    module _ (l : v ≡ true) (o : Order) (ho : Ordered (knownOrder (told row)) o) (f : Fetch) (hf : f ≡ fetchT (treeOf b h)) (x : List ℕ) (hx : x ≡ encode 1 (singleStreamOp (orderOf o) f))
+    module _ (l : v ≡ true) (o : Order) (ho : Ordered (knownOrder (told row)) o) (f : Fetch) (hf : f ≡ fetchT (treeOf b h)) (x : List ℕ)
+        (hx : x ≡ encode 1 (singleStreamOp (orderOf o) f))
         (c : Bool) (hc : c ≡ connected (opT (treeOf b h)) (treeOf b h .kids)) (k : ℕ) (hk : Marks h c k) where
       op-is : singleStreamOp (orderOf o) f ≡ singleStreamOp (knownOrder (fact (treeOf b h))) (fetchT (treeOf b h))
       op-is = ap₂ singleStreamOp (ho .is ∙ ap knownOrder (sh .is)) hf
@@ -102,13 +105,15 @@ module _ (b : List ℕ) (w h : ℕ) (s : Bool) (p : AsksSingleStream b w h s) wh
       single : node (singleStreamOp (orderOf o) f) false (forest b (k ∷ [])) ≡ withSingleStream s (treeOf b h)
       single =
           ap₂ (λ q y. node q false y) op-is below-is
-          ∙ sym (ap (λ y. cond y (over (singleStreamOp (knownOrder (fact t)) (fetchT t)) false (setMark (connected (opT t) (t .kids)) t)) t) (ap₂ _&&_ z (several ∙ l)))
+          ∙ sym (ap (λ y. cond y (over (singleStreamOp (knownOrder (fact t)) (fetchT t)) false (setMark (connected (opT t) (t .kids)) t)) t)
+          (ap₂ _&&_ z (several ∙ l)))
 
       ok-new : OkT (node (singleStreamOp (orderOf o) f) false (forest b (k ∷ [])))
       ok-new = subst OkT (sym single) (p .ok)
 
       decoded : decode x ≡ singleStreamOp (orderOf o) f
-      decoded = ap decode hx ∙ decode-encode 1 (singleStreamOp (orderOf o) f) (counts-of (singleStreamOp (orderOf o) f) (known (forest b (k ∷ []))) (ok-new .0) .fields)
+      decoded = ap decode hx ∙ decode-encode 1 (singleStreamOp (orderOf o) f)
+          (counts-of (singleStreamOp (orderOf o) f) (known (forest b (k ∷ []))) (ok-new .0) .fields)
 
       pub with-single-stream-puts : Puts b w x (k ∷ [])
       with-single-stream-puts =
@@ -123,5 +128,6 @@ module _ (b : List ℕ) (w h : ℕ) (s : Bool) (p : AsksSingleStream b w h s) wh
             few = omega arith;
           }
 
-      pub with-single-stream-grown : (b' : List ℕ) (a : At) → Grown b w b' a (node (decode x) false (forest b (k ∷ []))) (w + 1) → Grown b w b' a (withSingleStream s (treeOf b h)) (w + 1)
+      pub with-single-stream-grown : (b' : List ℕ) (a : At) → Grown b w b' a (node (decode x) false (forest b (k ∷ []))) (w + 1)
+          → Grown b w b' a (withSingleStream s (treeOf b h)) (w + 1)
       with-single-stream-grown b' a gr = subst (λ y. Grown b w b' a y (w + 1)) (ap (λ q. node q false (forest b (k ∷ []))) decoded ∙ single) gr

@@ -21,7 +21,8 @@ connected-size none = refl
 connected-size (tree m c r) = let y = connected-size r in omega arith
 
 pub single-stream-size : (s : Bool) (t : Tree) → sizeT (withSingleStream s t) ≤ suc (sizeT t)
-single-stream-size s t = cond-le (suc (sizeT t)) (s && ltb 1 (fact t .streams)) (updateSortCtxChildrenData false (over (singleStreamOp (knownOrder (fact t)) (fetchT t)) false t)) t (omega arith) (omega arith)
+single-stream-size s t = cond-le (suc (sizeT t)) (s && ltb 1 (fact t .streams))
+    (updateSortCtxChildrenData false (over (singleStreamOp (knownOrder (fact t)) (fetchT t)) false t)) t (omega arith) (omega arith)
 
 kid-size : (t : Tree) (c : Forest Marked) → size c ≤ size (t .kids) → sizeT (kid0 t c) ≤ sizeT t
 kid-size t none h = omega arith
@@ -30,7 +31,8 @@ kid-size t (tree m c r) h = omega arith
 updated-size : (m : Marked) (c d : Forest Marked) → sizeT (updatedAfterRemoval m c d) ≤ suc (size d)
 updated-size m c d =
     let x = connected-size d in
-    cond-le (suc (size d)) (anyMark c || isNil (roots c)) (updateSortCtxChildrenData false (rebuild (m .op) (m .mark) d)) (rebuild (m .op) (m .mark) d) (omega arith) (omega arith)
+    cond-le (suc (size d)) (anyMark c || isNil (roots c)) (updateSortCtxChildrenData false (rebuild (m .op) (m .mark) d)) (rebuild (m .op) (m .mark) d)
+    (omega arith) (omega arith)
 
 drop-size : (f : Fetch) (t : Tree) → sizeT (dropSort f t) ≤ sizeT t
 drop-size Unlimited t = kid-size t (t .kids) (omega arith)
@@ -38,7 +40,8 @@ drop-size (AtMost n) t = omega arith
 
 pub by-size : (s : Shape) (m : Marked) (c d : Forest Marked) → size d ≤ 2 * size c → sizeT (removeBy s m c d) ≤ suc (2 * size c)
 by-size (aSort p ks f) m c d h = let x = drop-size f (at m c) in omega arith
-by-size (aMerge ks f) m c d h = let x = updated-size m c d in let t = updatedAfterRemoval m c d in let y = kid-size (updatedAfterRemoval m c d) (updatedAfterRemoval m c d .kids) (omega arith) in omega arith
+by-size (aMerge ks f) m c d h = let x = updated-size m c d in let t = updatedAfterRemoval m c d in
+    let y = kid-size (updatedAfterRemoval m c d) (updatedAfterRemoval m c d .kids) (omega arith) in omega arith
 by-size (aRepartition p n q ks) m c d h = let x = updated-size m c d in omega arith
 by-size (aCoalesce f) m c d h = let x = updated-size m c d in omega arith
 by-size another m c d h = let x = updated-size m c d in omega arith

@@ -88,23 +88,31 @@ module _ (m : List ℕ) (u h : ℕ) (a : Standing m u h) where
   pub own-over : Over m (slot m (index h) .rec) (slot m (index h) .kids)
   own-over =
       let v = view in let l = a .here in
-      record { there = theres m u (slot m (index h) .kids) (a .arena) (below-more (slot m (index h) .kids) (omega arith) (v .below)); canon = v .canon; ok = v .ok; few = v .small }
+      record {
+        there = theres m u (slot m (index h) .kids) (a .arena) (below-more (slot m (index h) .kids) (omega arith) (v .below));
+        canon = v .canon;
+        ok = v .ok;
+        few = v .small;
+      }
 
   pub own-proper : (r : List ℕ) → r ≡ slot m (index h) .rec → Proper r
   own-proper r e = rw e (over-proper m (slot m (index h) .rec) (slot m (index h) .kids) own-over)
 
   -- the children by number
-  pub kid-asks : (j : ℕ) → j < length (slot m (index h) .kids) → ((index h + 1) * slotSize ≤ length m) × (j < children (slot m (index h) .rec)) × (children (slot m (index h) .rec) ≤ 8)
+  pub kid-asks : (j : ℕ) → j < length (slot m (index h) .kids) → ((index h + 1) * slotSize ≤ length m) × (j < children (slot m (index h) .rec))
+      × (children (slot m (index h) .rec) ≤ 8)
   kid-asks j l = let f = view .few in let c = view .count in (slot-room, omega arith, omega arith)
 
   module _ (j : ℕ) (l : j < length (slot m (index h) .kids)) (k : ℕ) (q : k ≡ getD (slot m (index h) .kids) j 0) where
     pub kid-standing : Standing m u k
-    kid-standing = let z = below-at (2 * index h) (slot m (index h) .kids) j (view .below) l in let y = a .here in record { arena = a .arena; here = omega arith }
+    kid-standing = let z = below-at (2 * index h) (slot m (index h) .kids) j (view .below) l in let y = a .here in
+        record { arena = a .arena; here = omega arith }
 
     pub kid-small : k < 65536
     kid-small = let x = kid-standing .here in let y = a .arena .small in omega arith
 
-    pub among : (own child : List ℕ) → Tells (treeOf m h) own → Tells (treeOf m k) child → Among (decode (slot m (index h) .rec)) (known (forest m (slot m (index h) .kids))) j (told own) (told child)
+    pub among : (own child : List ℕ) → Tells (treeOf m h) own → Tells (treeOf m k) child → Among (decode (slot m (index h) .rec))
+        (known (forest m (slot m (index h) .kids))) j (told own) (told child)
     among own child s t =
         let n = length-facts m (slot m (index h) .kids) in
         record {
@@ -115,8 +123,10 @@ module _ (m : List ℕ) (u h : ℕ) (a : Standing m u h) where
         }
 
     pub maintained : (r : List ℕ) → r ≡ slot m (index h) .rec → (own child : List ℕ) → Tells (treeOf m h) own → Tells (treeOf m k) child
-        → (b : Bool) → ((fs : List Facts) → Among (decode r) fs j (told own) (told child) → b ≡ maintains (decode r) fs j) → b ≡ maintains (opT (treeOf m h)) (known (treeOf m h .kids)) j
+        → (b : Bool) → ((fs : List Facts) → Among (decode r) fs j (told own) (told child) → b ≡ maintains (decode r) fs j)
+        → b ≡ maintains (opT (treeOf m h)) (known (treeOf m h .kids)) j
     maintained r e own child s t b f =
-        f (known (forest m (slot m (index h) .kids))) (subst (λ x. Among (decode x) (known (forest m (slot m (index h) .kids))) j (told own) (told child)) (sym e) (among own child s t))
+        f (known (forest m (slot m (index h) .kids))) (subst (λ x. Among (decode x) (known (forest m (slot m (index h) .kids))) j (told own) (told child))
+        (sym e) (among own child s t))
         ∙ ap (λ x. maintains (decode x) (known (forest m (slot m (index h) .kids))) j) e
         ∙ sym (ap (λ x. maintains (opT x) (known (x .kids)) j) tree-is)

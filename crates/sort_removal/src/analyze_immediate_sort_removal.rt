@@ -33,7 +33,8 @@ ghost use Rattle.sort_removal.specs.Immediate.{Unmarks, Immediates, imme
 // The tree at h without its mark and its children's.
 fn unmark_children(m: &mut [u8], u: usize, h: usize) -> At
     requires { ⌜ Unmarks (now m) u h ⌝ }
-    ensures { λ a. ⌜ Grown (now (m .entry)) u (now (m .exit)) a (node (opT (treeOf (now (m .entry)) h)) false (unmark (treeOf (now (m .entry)) h .kids))) (u + 1) ⌝ }
+    ensures { λ a. ⌜ Grown (now (m .entry)) u (now (m .exit)) a (node (opT (treeOf (now (m .entry)) h)) false (unmark (treeOf (now (m .entry)) h .kids)))
+        (u + 1) ⌝ }
 {
     let i = h / 2;
     let r = read64(record_at(m, i));

@@ -11,7 +11,8 @@ ghost use Rattle.sort_removal.specs.Recursion.{Removes};
 // The tree at h without the sorts that it is connected to. Single: the parent requires one stream of it.
 pub fn update_child_to_remove_unnecessary_sort(m: &mut [u8], u: usize, h: usize, single: bool) -> At
     requires { ⌜ Removes (now m) u h ⌝ }
-    ensures { λ a. ⌜ Grown (now (m .entry)) u (now (m .exit)) a (updateChildToRemoveUnnecessarySort single (treeOf (now (m .entry)) h)) (u + 2 * sizeT (treeOf (now (m .entry)) h)) ⌝ }
+    ensures { λ a. ⌜ Grown (now (m .entry)) u (now (m .exit)) a (updateChildToRemoveUnnecessarySort single (treeOf (now (m .entry)) h))
+        (u + 2 * sizeT (treeOf (now (m .entry)) h)) ⌝ }
 {
     let a = remove_corresponding_sort_from_sub_plan(m, u, h, single);
     let k = set_mark(a.root, false);

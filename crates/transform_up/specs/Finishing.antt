@@ -92,7 +92,8 @@ module _ (m : List ℕ) (v u : ℕ) (ks : List ℕ) (i n before : ℕ) (c : List
 
   module _ (big : enough (length m / slotSize) (u + 2 * before + 10) ≡ true) where
     pub room-is : (u + 2 * before + 10) * slotSize ≤ length m
-    room-is = let z = leb-true need (length m / slotSize) (long (leb need (length m / slotSize)) (leb need tidyFrom) (leb fullSlots (length m / slotSize)) big .0) in omega arith
+    room-is = let z = leb-true need (length m / slotSize)
+        (long (leb need (length m / slotSize)) (leb need tidyFrom) (leb fullSlots (length m / slotSize)) big .0) in omega arith
 
     -- the arena is a full one where the tree may be copied together
     full-room : tidyFrom < u + 2 * before + 10 → fullSlots * slotSize ≤ length m
@@ -116,9 +117,19 @@ module _ (m : List ℕ) (v u : ℕ) (ks : List ℕ) (i n before : ℕ) (c : List
       finish-opened =
           let o = rebuilt-over m r ks finish-over x e in
           let l = p .low in let y = p .many in let z = p .part in let k = p .counts in let h = p .hint in let q = p .more in let rm = room-is in
-          record { arena = p .arena; room = omega arith; small = omega arith; below = p .below; canon = o .canon; ok = o .ok; few = omega arith; hint = omega arith }
+          record {
+            arena = p .arena;
+            room = omega arith;
+            small = omega arith;
+            below = p .below;
+            canon = o .canon;
+            ok = o .ok;
+            few = omega arith;
+            hint = omega arith;
+          }
 
-      module _ (w : Walk) (m₁ : List ℕ) (l₁ : length m₁ ≡ length m) (s : At) (g : Grown m u m₁ s (stepOf w (node (decode x) false (forest m ks))) (u + stepRoom (suc (size (forest m ks))))) where
+      module _ (w : Walk) (m₁ : List ℕ) (l₁ : length m₁ ≡ length m) (s : At)
+          (g : Grown m u m₁ s (stepOf w (node (decode x) false (forest m ks))) (u + stepRoom (suc (size (forest m ks))))) where
         stepped-tree : treeOf m₁ (s .root) ≡ stepOf w (rebuild (decode (slot m i .rec)) false (forest m ks))
         stepped-tree = g .tree ∙ ap (stepOf w) tree-is
 
@@ -129,7 +140,15 @@ module _ (m : List ℕ) (v u : ℕ) (ks : List ℕ) (i n before : ℕ) (c : List
           pub finish-tidies : n + after - before ≤ 126 → Tidies m₁ v s c
           finish-tidies h =
               let y = p .part in let l = p .low in let o = p .many in let q = p .more in let k = g .more in let rm = g .room in let z = p .counts in
-              record { arena = g .arena; more = omega arith; here = g .here; few = omega arith; room = λ b. let t = full-room (omega arith) in (omega arith, p .scratch t); small = omega arith }
+              record {
+                arena = g .arena;
+                more = omega arith;
+                here = g .here;
+                few = omega arith;
+                room = λ b. let t = full-room (omega arith) in
+                    (omega arith, p .scratch t);
+                small = omega arith;
+              }
 
           pub finish-many : 126 < n + after - before → tooMany (total w (rebuild (decode (slot m i .rec)) false (forest m ks)) n) ≡ true
           finish-many h = ap tooMany (sym count-is) ∙ lt-ltb 126 (n + after - before) h

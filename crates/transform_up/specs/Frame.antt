@@ -116,14 +116,25 @@ module _ (w : Walk) (m₀ : List ℕ) (v i n : ℕ) (c : List ℕ) (p : Walkable
     same-tree : treeIn m (index (getD (slot m₀ i .kids) j 0)) ≡ treeIn m₀ (index (getD (slot m₀ i .kids) j 0))
     same-tree = let x = below-here in let y = p .here in in-same v m₀ m (q .made .old) (index h) (omega arith)
 
-    pub walking-next : (c' : List ℕ) → length c' ≡ length c → (index (getD (slot m₀ i .kids) j 0) < i) × Walkable m u (index (getD (slot m₀ i .kids) j 0)) k c'
+    pub walking-next : (c' : List ℕ) → length c' ≡ length c → (index (getD (slot m₀ i .kids) j 0) < i)
+        × Walkable m u (index (getD (slot m₀ i .kids) j 0)) k c'
     walking-next c' lc =
         let lo = q .made .long in
         let x = below-here in let y = p .here in let z = q .made .more in let s = ap size split in let t = ap sizeT same-tree in
-        let a = q .part in let b = q .low in
-        (omega arith, record { arena = q .made .arena; here = omega arith; many = q .many; part = omega arith; low = omega arith; scratch = λ f. let sc = p .scratch (omega arith) in omega arith })
+        let a = q .part in let b = q .low in (
+          omega arith,
+          record {
+            arena = q .made .arena;
+            here = omega arith;
+            many = q .many;
+            part = omega arith;
+            low = omega arith;
+            scratch = λ f. let sc = p .scratch (omega arith) in omega arith;
+          },
+        )
 
-    module _ (m' : List ℕ) (lm : length m' ≡ length m) (used root count : ℕ) (d : Walks w m u (index (getD (slot m₀ i .kids) j 0)) k m' used root count) where
+    module _ (m' : List ℕ) (lm : length m' ≡ length m) (used root count : ℕ)
+        (d : Walks w m u (index (getD (slot m₀ i .kids) j 0)) k m' used root count) where
       abbrev at' : At
       at' = record { used = used; root = root }
 
@@ -136,7 +147,8 @@ module _ (w : Walk) (m₀ : List ℕ) (v i n : ℕ) (c : List ℕ) (p : Walkable
           let a = q .part in let b = q .low in let e = d .sum in let le = q .less in
           record {
             made = kids-more m₀ v j u kids m (q .made) (omega arith) m' lm at' (treeOf m' root) used (d .grown);
-            going = subst (λ x. Going (stepOf w) n (strip (forest m₀ ks)) (forest m' (take (j + 1) (set kids j root))) count (strip (forest m₀ (drop x ks)))) (sym (add-one j)) more;
+            going = subst (λ x. Going (stepOf w) n (strip (forest m₀ ks)) (forest m' (take (j + 1) (set kids j root))) count
+                (strip (forest m₀ (drop x ks)))) (sym (add-one j)) more;
             many = d .many;
             less = rw (add-one j) (omega arith);
             part = rw (add-one j) (omega arith);
@@ -146,7 +158,8 @@ module _ (w : Walk) (m₀ : List ℕ) (v i n : ℕ) (c : List ℕ) (p : Walkable
           more : Going (stepOf w) n (strip (forest m₀ ks)) (forest m' (take (j + 1) (set kids j root))) count (strip (forest m₀ (drop (suc j) ks)))
           more =
               let f = shown .few in
-              going-more (stepOf w) n (strip (forest m₀ ks)) (forest m (take j kids)) k (opT (treeOf m₀ h)) (strip (treeOf m₀ h .kids)) (strip (forest m₀ (drop (suc j) ks))) (treeOf m' root) count
+              going-more (stepOf w) n (strip (forest m₀ ks)) (forest m (take j kids)) k (opT (treeOf m₀ h)) (strip (treeOf m₀ h .kids))
+              (strip (forest m₀ (drop (suc j) ks))) (treeOf m' root) count
               (forest m' (take (j + 1) (set kids j root)))
               (kids-forest m₀ v j u kids m (q .made) (omega arith) m' lm at' (treeOf m' root) used (d .grown)) child-is
               (subst (λ x. Going (stepOf w) n (strip (forest m₀ ks)) (forest m (take j kids)) k (strip x)) split (q .going))
@@ -161,7 +174,8 @@ module _ (w : Walk) (m₀ : List ℕ) (v i n : ℕ) (c : List ℕ) (p : Walkable
     pub walking-stops : (s : Stop) (m' : List ℕ) → Outcome (Stopped s) w m u (index (getD (slot m₀ i .kids) j 0)) k m' → Outcome (Stopped s) w m₀ v i n m'
     walking-stops stop.TooManyNodes m' e =
         ap (countOf w n) (shown .tree)
-        ∙ going-stop (stepOf w) n (decode (slot m₀ i .rec)) (strip (forest m₀ ks)) (forest m (take j kids)) k (opT (treeOf m₀ h)) (strip (treeOf m₀ h .kids)) (strip (forest m₀ (drop (suc j) ks)))
+        ∙ going-stop (stepOf w) n (decode (slot m₀ i .rec)) (strip (forest m₀ ks)) (forest m (take j kids)) k (opT (treeOf m₀ h))
+        (strip (treeOf m₀ h .kids)) (strip (forest m₀ (drop (suc j) ks)))
         (ap (countOf w k) (sym same-tree) ∙ e)
         (subst (λ x. Going (stepOf w) n (strip (forest m₀ ks)) (forest m (take j kids)) k (strip x)) split (q .going))
     walking-stops stop.NoRoom m' e = let l = q .made .long in omega arith
@@ -177,8 +191,10 @@ module _ (w : Walk) (m₀ : List ℕ) (v i n : ℕ) (c : List ℕ) (p : Walkable
         q .going ∙ ap (λ l. bind (countUp (stepOf w) k (strip (forest m₀ l))) (λ s i. counted (forest m (take j kids) ⊕ s) i)) ends
         ∙ ap (λ x. counted x k) (plus-none (forest m (take j kids)) ∙ ap (λ x. forest m (take x kids)) (sym f))
 
-    whole : (forest m (take a kids) ≡ transformUp (stepOf w) (strip (forest m₀ (slot m₀ i .kids)))) × (k + size (strip (forest m₀ (slot m₀ i .kids))) ≡ n + size (forest m (take a kids)))
-    whole = let x = p .part in let y = whole-size in let z = size-strip (forest m₀ ks) in count-is (stepOf w) n (strip (forest m₀ ks)) (forest m (take a kids)) k (omega arith) answer
+    whole : (forest m (take a kids) ≡ transformUp (stepOf w) (strip (forest m₀ (slot m₀ i .kids))))
+        × (k + size (strip (forest m₀ (slot m₀ i .kids))) ≡ n + size (forest m (take a kids)))
+    whole = let x = p .part in let y = whole-size in let z = size-strip (forest m₀ ks) in
+        count-is (stepOf w) n (strip (forest m₀ ks)) (forest m (take a kids)) k (omega arith) answer
 
     -- the count before the step, as the code has it
     pub before-is : (was : ℕ) → was ≡ sizeT (treeIn m₀ i) → (k + was - n ≡ suc (size (forest m (take a kids)))) × (n ≤ k + was)
@@ -193,13 +209,16 @@ module _ (w : Walk) (m₀ : List ℕ) (v i n : ℕ) (c : List ℕ) (p : Walkable
         let o : Op = decode (slot m₀ i .rec) in
         let s = strip-bare g in
         let fits = ok-fit (tree o g none) ok-whole in
-        let kept = kept-node {a = mayAdd w} {b = true} {h = true} o o false false (bare g) (transformUp (stepOf w) g) (like-refl o) (subst (λ x. FitsA (arity o) (walks.count x)) (sym s) (fits .0)) (walk-kept (stepOf w) (step-keeps w) g (fits .1)) in
+        let kept = kept-node {a = mayAdd w} {b = true} {h = true} o o false false (bare g) (transformUp (stepOf w) g) (like-refl o)
+        (subst (λ x. FitsA (arity o) (walks.count x)) (sym s) (fits .0)) (walk-kept (stepOf w) (step-keeps w) g (fits .1)) in
         let y = subst (λ x. Ok (tree o x none)) (sym s) ok-whole in
         subst (λ x. OkT (node o false x)) (sym (whole .0)) (kept .ok refl (y .0, y .1))
 
-    pub walking-end : (c' : List ℕ) → length c' ≡ length c → (before : ℕ) → before ≡ suc (size (forest m (take a kids))) → Finish m v u (take a kids) i k before c'
+    pub walking-end : (c' : List ℕ) → length c' ≡ length c → (before : ℕ) → before ≡ suc (size (forest m (take a kids)))
+        → Finish m v u (take a kids) i k before c'
     walking-end c' lc before b =
-        let lo = q .made .long in let x = p .part in let y = whole .1 in let z = q .low in let wd = q .made .wide in let fc = shown .count in let fw = shown .few in
+        let lo = q .made .long in let x = p .part in let y = whole .1 in let z = q .low in let wd = q .made .wide in let fc = shown .count in
+        let fw = shown .few in
         let ws = whole-size in let ss = size-strip (forest m₀ ks) in
         let si = slot-is j u k kids m q in
         let t : length (take a kids) ≡ length ks = length-take-le a kids (omega arith) ∙ e ∙ fc in
@@ -208,7 +227,8 @@ module _ (w : Walk) (m₀ : List ℕ) (v i n : ℕ) (c : List ℕ) (p : Walkable
           more = q .made .more;
           hint = p .here;
           below = subst (λ x. Below (2 * u) (take x kids)) (sym f) (q .made .below);
-          canon = subst (λ s. s .rec ≡ encode (length (take a kids)) (decode (s .rec))) (sym si) (shown .canon ∙ ap (λ x. encode x (decode (slot m₀ i .rec))) (sym t));
+          canon = subst (λ s. s .rec ≡ encode (length (take a kids)) (decode (s .rec))) (sym si)
+              (shown .canon ∙ ap (λ x. encode x (decode (slot m₀ i .rec))) (sym t));
           ok = subst (λ s. OkT (node (decode (s .rec)) false (forest m (take a kids)))) (sym si) ok-open;
           many = q .many;
           counts = b;
@@ -222,20 +242,31 @@ module _ (w : Walk) (m₀ : List ℕ) (v i n : ℕ) (c : List ℕ) (p : Walkable
 
     stepped-is : countOf w n (treeIn m₀ i)
         ≡ cond (tooMany (total w (rebuild (decode (slot m₀ i .rec)) false (forest m (take a kids))) k)) (stopped TooManyNodes)
-        (counted (stepOf w (rebuild (decode (slot m₀ i .rec)) false (forest m (take a kids)))) (total w (rebuild (decode (slot m₀ i .rec)) false (forest m (take a kids))) k))
+        (counted (stepOf w (rebuild (decode (slot m₀ i .rec)) false (forest m (take a kids))))
+        (total w (rebuild (decode (slot m₀ i .rec)) false (forest m (take a kids))) k))
     stepped-is = ap (countOf w n) (shown .tree) ∙ ap (λ x. bind x (λ d m. stepped (stepOf w) (decode (slot m₀ i .rec)) d m (λ t k. counted t k))) answer
 
-    pub walking-done : (m' : List ℕ) (r : Walked) → Finished r w (rebuild (decode (slot m i .rec)) false (forest m (take a kids))) k m v m' → Outcome r w m₀ v i n m'
+    pub walking-done : (m' : List ℕ) (r : Walked) → Finished r w (rebuild (decode (slot m i .rec)) false (forest m (take a kids))) k m v m'
+        → Outcome r w m₀ v i n m'
     walking-done m' r x = go r (subst (λ s. Finished r w (rebuild (decode (s .rec)) false (forest m (take a kids))) k m v m') (slot-is j u k kids m q) x)
       where
         go : (r : Walked) → Finished r w (rebuild (decode (slot m₀ i .rec)) false (forest m (take a kids))) k m v m' → Outcome r w m₀ v i n m'
         go (Stopped stop.TooManyNodes) e = stepped-is ∙ ap (λ z. cond z (stopped TooManyNodes) (counted (stepOf w t) (total w t k))) e
         go (Stopped stop.NoRoom) e = let l = q .made .long in omega arith
         go (Done used root count) e =
-            let x = p .part in let y = whole .1 in let c₁ = e .counts in let s = ap sizeT (e .tree) in let ws = whole-size in let ss = size-strip (forest m₀ ks) in
+            let x = p .part in let y = whole .1 in let c₁ = e .counts in let s = ap sizeT (e .tree) in let ws = whole-size in
+            let ss = size-strip (forest m₀ ks) in
             record {
-              is = stepped-is ∙ ap (λ z. cond z (stopped TooManyNodes) (counted (stepOf w t) (total w t k))) (e .fits) ∙ ap₂ counted (sym (e .tree)) (sym c₁);
-              grown = record { arena = e .arena; old = same-trans v v m₀ m m' (omega arith) (q .made .old) (e .old); more = e .more; here = e .here; tree = refl; room = omega arith };
+              is = stepped-is ∙ ap (λ z. cond z (stopped TooManyNodes) (counted (stepOf w t) (total w t k))) (e .fits) ∙ ap₂ counted (sym (e .tree))
+                  (sym c₁);
+              grown = record {
+                arena = e .arena;
+                old = same-trans v v m₀ m m' (omega arith) (q .made .old) (e .old);
+                more = e .more;
+                here = e .here;
+                tree = refl;
+                room = omega arith;
+              };
               low = subst (λ z. (used ≤ tidyFrom) ⊎ (used ≤ v + sizeT z)) (sym (e .tree)) (e .low);
               many = e .most;
               sum = omega arith;

@@ -48,7 +48,13 @@ module _ (m : List ℕ) (v : ℕ) (s : At) (c : List ℕ) (p : Tidies m v s c) w
   pub out-asks : tidyFrom < s .used → Copies m (s .used) (s .root) c 0
   out-asks h =
       let f = p .few in let x = p .room h .1 in
-      record { from = p .arena; here = p .here; arena = record { slots = omega arith; small = omega arith; all = λ i h. absurd (omega arith) }; room = omega arith; small = omega arith }
+      record {
+        from = p .arena;
+        here = p .here;
+        arena = record { slots = omega arith; small = omega arith; all = λ i h. absurd (omega arith) };
+        room = omega arith;
+        small = omega arith;
+      }
 
   module _ (h : tidyFrom < s .used) (c' : List ℕ) (x : At) (g : Grown c 0 c' x (treeOf m (s .root)) (0 + sizeT (treeOf m (s .root)))) where
     same-size : sizeT (treeOf c' (x .root)) ≡ sizeT (treeOf m (s .root))
@@ -60,4 +66,5 @@ module _ (m : List ℕ) (v : ℕ) (s : At) (c : List ℕ) (p : Tidies m v s c) w
         record { from = g .arena; here = g .here; arena = fewer m (s .used) v (p .more) (p .arena); room = omega arith; small = omega arith }
 
     pub back : (m' : List ℕ) (y : At) → Grown m v m' y (treeOf c' (x .root)) (v + sizeT (treeOf c' (x .root))) → Tidied m v m' y (treeOf m (s .root))
-    back m' y k = let z = same-size in let r = k .room in record { arena = k .arena; old = k .old; more = k .more; here = k .here; tree = k .tree ∙ g .tree; low = inr (omega arith) }
+    back m' y k = let z = same-size in let r = k .room in
+        record { arena = k .arena; old = k .old; more = k .more; here = k .here; tree = k .tree ∙ g .tree; low = inr (omega arith) }

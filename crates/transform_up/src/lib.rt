@@ -1,4 +1,5 @@
-// The walks that go children before parents: one frame for all of them. "Children before parents, each node once": a walk calls itself on each child's subtree, left to
+// The walks that go children before parents: one frame for all of them. "Children before parents, each node once": a walk calls itself on each child's
+// subtree, left to
 // right; then one step; then the nodes of the whole plan are counted.
 use arena::At;
 use arena::SLOT;
@@ -55,7 +56,9 @@ pub const FULL: usize = 772;
 // The step at one node: the record r over the children ks. Slot i holds the node as it was read.
 fn step(w: Walk, m: &mut [u8], u: usize, r: &[u8], ks: &[usize], i: usize) -> At
     requires { ⌜ Opened (now m) u (now r) (now ks) i ⌝ }
-    ensures { λ a. ⌜ Grown (now (m .entry)) u (now (m .exit)) a (stepOf w (node (decode (now (r .entry))) false (forest (now (m .entry)) (now (ks .entry))))) (u + stepRoom (suc (size (forest (now (m .entry)) (now (ks .entry)))))) ⌝ }
+    ensures { λ a. ⌜ Grown (now (m .entry)) u (now (m .exit)) a
+        (stepOf w (node (decode (now (r .entry))) false (forest (now (m .entry)) (now (ks .entry)))))
+        (u + stepRoom (suc (size (forest (now (m .entry)) (now (ks .entry)))))) ⌝ }
 {
     match w {
         Walk::Ensure => ensure_sorting(m, u, r, ks, i),
@@ -71,7 +74,8 @@ fn has_room(slots: usize, need: usize) -> bool
     (need <= slots) & ((need <= TIDY_FROM) | (FULL <= slots))
 }
 
-// The tree of s, copied to the slots from v on where many are used: what only the steps needed goes. Everything from v on is of this subtree, so no live handle moves.
+// The tree of s, copied to the slots from v on where many are used: what only the steps needed goes. Everything from v on is of this subtree, so no live
+// handle moves.
 fn tidied(m: &mut [u8], v: usize, s: At, c: &mut [u8]) -> At
     requires { ⌜ Tidies (now m) v s (now c) ⌝ }
     ensures { λ r. ⌜ Tidied (now (m .entry)) v (now (m .exit)) r (treeOf (now (m .entry)) (s .root)) ⌝ }
@@ -83,7 +87,8 @@ fn tidied(m: &mut [u8], v: usize, s: At, c: &mut [u8]) -> At
     copy(c, x.used, m, v, x.root)
 }
 
-// The end of one node's walk: slot i's node, rebuilt over its walked children, is stepped and counted. It has so many nodes before its step, the whole plan n.
+// The end of one node's walk: slot i's node, rebuilt over its walked children, is stepped and counted. It has so many nodes before its step, the whole plan
+// n.
 fn finish(
     w: Walk,
     m: &mut [u8],
@@ -96,7 +101,8 @@ fn finish(
     c: &mut [u8],
 ) -> Walked
     requires { ⌜ Finish (now m) v u (now ks) i n before (now c) ⌝ }
-    ensures { λ x. ⌜ Finished x w (rebuild (decode (slot (now (m .entry)) i .rec)) false (forest (now (m .entry)) (now (ks .entry)))) n (now (m .entry)) v (now (m .exit)) ⌝ }
+    ensures { λ x. ⌜ Finished x w (rebuild (decode (slot (now (m .entry)) i .rec)) false (forest (now (m .entry)) (now (ks .entry)))) n (now (m .entry)) v
+        (now (m .exit)) ⌝ }
 {
     if !has_room(m.len() / SLOT, u + 2 * before + 10) {
         return Walked::Stopped(Stop::NoRoom);

@@ -56,15 +56,18 @@ module _ (m : List ℕ) (u h : ℕ) (ks : List Key) (f : Fetch) (a : Arena m u) 
   none-left [] e n = ap (λ x. cover (newSort (ltb 1 (F .streams)) x f) T) (sym e)
   none-left (k ∷ l) e n = absurd (omega arith)
 
-  pub sort-is : (p : Bool) (l : List Key) → p ≡ ltb 1 (fact (treeOf m h) .streams) → l ≡ freshKeys (fact (treeOf m h)) [] ks → 0 < length l → over (sortOp p l f) false (treeOf m h) ≡ addSortAbove ks f (treeOf m h)
+  pub sort-is : (p : Bool) (l : List Key) → p ≡ ltb 1 (fact (treeOf m h) .streams) → l ≡ freshKeys (fact (treeOf m h)) [] ks → 0 < length l
+      → over (sortOp p l f) false (treeOf m h) ≡ addSortAbove ks f (treeOf m h)
   sort-is p [] q e n = absurd (omega arith)
   sort-is p (k ∷ l) q e n = ap₂ (λ x y. cover (newSort x y f) T) q e
 
-  pub sort-fits : (p : Bool) (l : List Key) → l ≡ freshKeys (fact (treeOf m h)) [] ks → 0 < length l → nodeOk (sortOp p l f) (fact (treeOf m h) .width ∷ []) ≡ true
+  pub sort-fits : (p : Bool) (l : List Key) → l ≡ freshKeys (fact (treeOf m h)) [] ks → 0 < length l → nodeOk (sortOp p l f) (fact (treeOf m h) .width ∷ [])
+      ≡ true
   sort-fits p [] e n = absurd (omega arith)
   sort-fits p (k ∷ l) e n = sort-ok p k l f (F .width ∷ []) (fresh-ok (k ∷ l) e) (s .fetch) (refl, narrowT T (ok-of m u h a hh))
 
-  merge-fits : (l : List Key) → l ≡ freshKeys (fact (treeOf m h)) [] ks → 0 < length l → (w : ℕ) → w ≡ fact (treeOf m h) .width → nodeOk (mergeOp l f) (w ∷ []) ≡ true
+  merge-fits : (l : List Key) → l ≡ freshKeys (fact (treeOf m h)) [] ks → 0 < length l → (w : ℕ) → w ≡ fact (treeOf m h) .width
+      → nodeOk (mergeOp l f) (w ∷ []) ≡ true
   merge-fits [] e n w q = absurd (omega arith)
   merge-fits (k ∷ l) e n w q = rw q (merge-ok k l f (F .width ∷ []) (fresh-ok (k ∷ l) e) (s .fetch) (refl, narrowT T (ok-of m u h a hh)))
 
@@ -77,7 +80,8 @@ module _ (m : List ℕ) (u h : ℕ) (ks : List Key) (f : Fetch) (a : Arena m u) 
     long = length-keys (k .len) (k .word)
 
     pub above-none : k .len ≡ 0 → Grown m u m (record { used = u; root = h }) (addSortAbove ks f (treeOf m h)) (u + 1)
-    above-none n = subst (λ x. Grown m u m (record { used = u; root = h }) x (u + 1)) (sym (none-left (keysOf k) left-is (long ∙ n))) (grown-none m u h (u + 1) a hh (omega arith))
+    above-none n = subst (λ x. Grown m u m (record { used = u; root = h }) x (u + 1)) (sym (none-left (keysOf k) left-is (long ∙ n)))
+        (grown-none m u h (u + 1) a hh (omega arith))
 
     module _ (n : 0 < k .len) (p : Bool) (r : List ℕ) (e : r ≡ encode 1 (sortOp p (keysOf k) f)) (v : Under m u h 1) where
       fits : nodeOk (sortOp p (keysOf k) f) (fact (treeOf m h) .width ∷ []) ≡ true
@@ -86,7 +90,8 @@ module _ (m : List ℕ) (u h : ℕ) (ks : List Key) (f : Fetch) (a : Arena m u) 
       pub above-puts : Puts m u r (h ∷ [])
       above-puts = cover-puts m u h v (sortOp p (keysOf k) f) fits r e (ok-of m u h a hh)
 
-      pub above-grown : p ≡ ltb 1 (told (loaded b) .streams) → (m' : List ℕ) (x : At) → Grown m u m' x (node (decode r) false (forest m (h ∷ []))) (u + 1) → Grown m u m' x (addSortAbove ks f (treeOf m h)) (u + 1)
+      pub above-grown : p ≡ ltb 1 (told (loaded b) .streams) → (m' : List ℕ) (x : At) → Grown m u m' x (node (decode r) false (forest m (h ∷ []))) (u + 1)
+          → Grown m u m' x (addSortAbove ks f (treeOf m h)) (u + 1)
       above-grown i m' x g =
           subst (λ y. Grown m u m' x y (u + 1)) (sort-is p (keysOf k) (i ∙ ap (λ G. ltb 1 (G .streams)) (t .is)) left-is (let y = long in omega arith))
           (cover-grown m u h v (sortOp p (keysOf k) f) fits r e m' x (u + 1) g)
@@ -98,15 +103,18 @@ module _ (m : List ℕ) (u h : ℕ) (ks : List Key) (f : Fetch) (a : Arena m u) 
 
     pub met-already : x ≡ true → Grown m u m (record { used = u; root = h }) (addSortAboveWithCheck ks f (treeOf m h)) (u + 1)
     met-already i =
-        subst (λ y. Grown m u m (record { used = u; root = h }) (cond y (treeOf m h) (addSortAbove ks f (treeOf m h))) (u + 1)) (sym (met-is ∙ i)) (grown-none m u h (u + 1) a hh (omega arith))
+        subst (λ y. Grown m u m (record { used = u; root = h }) (cond y (treeOf m h) (addSortAbove ks f (treeOf m h))) (u + 1)) (sym (met-is ∙ i))
+        (grown-none m u h (u + 1) a hh (omega arith))
 
-    pub met-not : x ≡ false → (m' : List ℕ) (z : At) → Grown m u m' z (addSortAbove ks f (treeOf m h)) (u + 1) → Grown m u m' z (addSortAboveWithCheck ks f (treeOf m h)) (u + 1)
+    pub met-not : x ≡ false → (m' : List ℕ) (z : At) → Grown m u m' z (addSortAbove ks f (treeOf m h)) (u + 1)
+        → Grown m u m' z (addSortAboveWithCheck ks f (treeOf m h)) (u + 1)
     met-not i m' z g = subst (λ y. Grown m u m' z (cond y (treeOf m h) (addSortAbove ks f (treeOf m h))) (u + 1)) (sym (met-is ∙ i)) g
 
 -- ---- with the parent's distribution
 
 pub under-less : (m : List ℕ) (u h : ℕ) → Under m u h 2 → Under m u h 1
-under-less m u h v = let x = v .room in let y = v .small in let z = v .few in record { arena = v .arena; here = v .here; room = omega arith; small = omega arith; few = omega arith }
+under-less m u h v = let x = v .room in let y = v .small in let z = v .few in
+    record { arena = v .arena; here = v .here; room = omega arith; small = omega arith; few = omega arith }
 
 module _ (d : Distribution) (f : Fetch) (ks : List Key) (t : Tree) where
   abbrev Gathered : Bool → List Key → Tree
@@ -122,8 +130,10 @@ module _ (d : Distribution) (f : Fetch) (ks : List Key) (t : Tree) where
   stays true (k ∷ l) e = absurd (e refl (omega arith))
   stays false l e = refl
 
-module _ (m : List ℕ) (u h : ℕ) (ks : List Key) (f : Fetch) (d : Distribution) (v : Under m u h 2) (s : Sortable (treeOf m h) ks f) (b : List ℕ) (t : Tells (treeOf m h) b) (k : Keys) (q : Keyed (freshKeys (told (loaded b)) [] ks) k)
-    (m₁ : List ℕ) (lm : length m₁ ≡ length m) (z : At) (g : Grown m u m₁ z (addSortAbove ks f (treeOf m h)) (u + 1)) (x : Bool) (ex : x ≡ ltb 1 (told (loaded b) .streams) && isSingle d) where
+module _ (m : List ℕ) (u h : ℕ) (ks : List Key) (f : Fetch) (d : Distribution) (v : Under m u h 2) (s : Sortable (treeOf m h) ks f) (b : List ℕ)
+    (t : Tells (treeOf m h) b) (k : Keys) (q : Keyed (freshKeys (told (loaded b)) [] ks) k)
+    (m₁ : List ℕ) (lm : length m₁ ≡ length m) (z : At) (g : Grown m u m₁ z (addSortAbove ks f (treeOf m h)) (u + 1)) (x : Bool)
+    (ex : x ≡ ltb 1 (told (loaded b) .streams) && isSingle d) where
   left : keysOf k ≡ freshKeys (fact (treeOf m h)) [] ks
   left = q .is ∙ ap (λ G. freshKeys G [] ks) (t .is)
 
@@ -137,7 +147,8 @@ module _ (m : List ℕ) (u h : ℕ) (ks : List Key) (f : Fetch) (d : Distributio
   gathered-not n =
       grown-more m u m₁ z _ (u + 1) (u + 2) (omega arith)
       (subst (λ y. Grown m u m₁ z y (u + 1))
-      (stays d f ks (treeOf m h) (needsMerge (fact (treeOf m h)) d) (freshKeys (fact (treeOf m h)) [] ks) (λ e c. n (needs ∙ e) (let w = ap length left in let y = long-is in omega arith))) g)
+      (stays d f ks (treeOf m h) (needsMerge (fact (treeOf m h)) d) (freshKeys (fact (treeOf m h)) [] ks)
+      (λ e c. n (needs ∙ e) (let w = ap length left in let y = long-is in omega arith))) g)
 
   module _ (n : 0 < k .len) (r : List ℕ) (e : r ≡ encode 1 (mergeOp (keysOf k) f)) where
     some : 0 < length (keysOf k)
@@ -157,9 +168,12 @@ module _ (m : List ℕ) (u h : ℕ) (ks : List Key) (f : Fetch) (d : Distributio
     pub gathered-puts : Puts m₁ (z .used) r (z .root ∷ [])
     gathered-puts = cover-puts m₁ (z .used) (z .root) room (mergeOp (keysOf k) f) merged r e (ok-of m₁ (z .used) (z .root) (g .arena) (g .here))
 
-    pub gathered-grown : x ≡ true → (m₂ : List ℕ) (c : At) → Grown m₁ (z .used) m₂ c (node (decode r) false (forest m₁ (z .root ∷ []))) (z .used + 1) → Grown m u m₂ c (addSortAboveWithDistribution false ks f d (treeOf m h)) (u + 2)
+    pub gathered-grown : x ≡ true → (m₂ : List ℕ) (c : At) → Grown m₁ (z .used) m₂ c (node (decode r) false (forest m₁ (z .root ∷ []))) (z .used + 1)
+        → Grown m u m₂ c (addSortAboveWithDistribution false ks f d (treeOf m h)) (u + 2)
     gathered-grown i m₂ c y =
         let top = g .room in
         subst (λ y. Grown m u m₂ c y (u + 2))
-        (ap₂ (λ p w. over (mergeOp p f) false w) left (g .tree) ∙ gathers d f ks (treeOf m h) (needsMerge (fact (treeOf m h)) d) (freshKeys (fact (treeOf m h)) [] ks) (sym needs ∙ i) (subst (λ l. 0 < length l) left some))
-        (grown-then m u m₁ z _ (u + 1) m₂ c _ (z .used + 1) (u + 2) g (cover-grown m₁ (z .used) (z .root) room (mergeOp (keysOf k) f) merged r e m₂ c (z .used + 1) y) (omega arith))
+        (ap₂ (λ p w. over (mergeOp p f) false w) left (g .tree) ∙ gathers d f ks (treeOf m h) (needsMerge (fact (treeOf m h)) d)
+        (freshKeys (fact (treeOf m h)) [] ks) (sym needs ∙ i) (subst (λ l. 0 < length l) left some))
+        (grown-then m u m₁ z _ (u + 1) m₂ c _ (z .used + 1) (u + 2) g (cover-grown m₁ (z .used) (z .root) room (mergeOp (keysOf k) f) merged r e m₂ c
+        (z .used + 1) y) (omega arith))

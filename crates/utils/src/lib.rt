@@ -43,7 +43,8 @@ pub fn add_sort_above_with_distribution(
     d: Distribution,
 ) -> At
     requires { ⌜ Under (now m) u h 2 × Sortable (treeOf (now m) h) (keysOf keys) fetch ⌝ }
-    ensures { λ a. ⌜ Grown (now (m .entry)) u (now (m .exit)) a (addSortAboveWithDistribution false (keysOf keys) fetch d (treeOf (now (m .entry)) h)) (u + 2) ⌝ }
+    ensures { λ a. ⌜ Grown (now (m .entry)) u (now (m .exit)) a (addSortAboveWithDistribution false (keysOf keys) fetch d (treeOf (now (m .entry)) h))
+        (u + 2) ⌝ }
 {
     let own = row(m, h);
     let fresh = fresh_keys(own, keys);

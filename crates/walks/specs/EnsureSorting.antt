@@ -42,7 +42,8 @@ singleStreamOp (k ∷ ks) f = mergeOp (k ∷ ks) f
 
 -- s: a single stream is required
 abbrev pub withSingleStream : Bool → Tree → Tree
-withSingleStream s t = cond (s && ltb 1 (fact t .streams)) (updateSortCtxChildrenData false (over (singleStreamOp (knownOrder (fact t)) (fetchT t)) false t)) t
+withSingleStream s t = cond (s && ltb 1 (fact t .streams))
+    (updateSortCtxChildrenData false (over (singleStreamOp (knownOrder (fact t)) (fetchT t)) false t)) t
 
 -- "Replace with variants that do not preserve order."
 abbrev pub loosen : Shape → Tree → Tree

@@ -54,7 +54,8 @@ markFirst b (tree m c r) = tree (record { op = m .op; mark = b }) c r
 -- "replace it with a SortPreservingMergeExec if appropriate": of the child's known order, in normal form (reading 7)
 abbrev pub mergeOver : Bool → Fetch → Marked → Forest Marked → Tree
 mergeOver spm f m d =
-    cond (spm && not (isNil (knownOrder (at0 (known d))))) (node (mergeOp (knownOrder (at0 (known d))) f) false (markFirst true d)) (rebuild (m .op) false d)
+    cond (spm && not (isNil (knownOrder (at0 (known d))))) (node (mergeOp (knownOrder (at0 (known d))) f) false (markFirst true d))
+    (rebuild (m .op) false d)
 
 -- "A fetched coalesce selects rows in arrival order": it stays, and nothing below it is entered
 abbrev pub preserveCoalesce : Fetch → Bool → Fetch → Marked → Forest Marked → Forest Marked → Tree

@@ -83,7 +83,9 @@ withoutIdle m d = cond (idle (shape (m .op)) (m .op) d) (kid0 (rebuild (m .op) (
 abbrev pub removeBottleneckInSubplanImpl : (ℕ → Bool) → Forest Marked → Forest Marked
 removeBottleneckInSubplanImpl q none = none
 removeBottleneckInSubplanImpl q (tree m c r) =
-    plant (cond (m .mark && q 0) (withoutIdle m (firstBottleneckRemoved (not (singles (m .op) 0)) (m .op) c (removeBottleneckInSubplanImpl (λ i. not (singles (m .op) i)) c))) (at m c)) (removeBottleneckInSubplanImpl (λ i. q (suc i)) r)
+    plant (cond (m .mark && q 0) (withoutIdle m
+    (firstBottleneckRemoved (not (singles (m .op) 0)) (m .op) c (removeBottleneckInSubplanImpl (λ i. not (singles (m .op) i)) c))) (at m c))
+    (removeBottleneckInSubplanImpl (λ i. q (suc i)) r)
 
 -- is_root: "Its own distribution requirement does not constrain the removal". The root is a sort, a merge or a coalesce, so the
 -- test for idle repartitions has no place here

@@ -201,7 +201,8 @@ pushByKind (sortMergeJoin t on) fs parent =
     let F : Facts = factsOp (sortMergeJoin t on) fs in
     pushToSide (sortMergeJoin t on) t F (at0 fs) (at1 fs) parent (exprSourceSide F parent t (at0 fs .width))
 pushByKind (hashJoin t on) fs parent = handleHashJoin (hashJoin t on) (factsOp (hashJoin t on) fs) fs parent
-pushByKind (outputRequirement ks d f) fs parent = cond (pushdownWouldViolateRequirements (outputRequirement ks d f) 1 parent) stop (handleCustomPushdown parent)
+pushByKind (outputRequirement ks d f) fs parent = cond (pushdownWouldViolateRequirements (outputRequirement ks d f) 1 parent) stop
+    (handleCustomPushdown parent)
 pushByKind (partialSort p ks n f) fs parent = stop
 
 abbrev pub allBelow : ℕ → (ℕ → Bool) → Bool

@@ -115,7 +115,8 @@ pub record SortedAlready (n : ℕ) (f : Plan) : Type 0 where
 -- ---- answers
 -- What a walk that goes children before parents answers
 abbrev pub answerUp : (Tree → Tree) → Plan → Answer
-answerUp step f = cond (hasPartialSort f) (refused HasPartialSort) (cond (every small (sizesUp step 0 f)) (answered (strip (transformUp step f))) (refused TooManyNodes))
+answerUp step f = cond (hasPartialSort f) (refused HasPartialSort) (cond (every small (sizesUp step 0 f)) (answered (strip (transformUp step f)))
+    (refused TooManyNodes))
 
 -- What pushing answers: 23 if a step before the first sort of all-constant keys leaves too many nodes, 25 if there is such a sort
 abbrev pub answerDown : Plan → Answer

@@ -1,4 +1,5 @@
-// Runs worked examples of document 01 ('Worked on paper') on the plan files of data/, which tools/worked_examples.py makes. Of a check it writes a line: a refusal's number
+// Runs worked examples of document 01 ('Worked on paper') on the plan files of data/, which tools/worked_examples.py makes. Of a check it writes a line: a
+// refusal's number
 // or that the plan is accepted, and whether a wanted order is met; of a rewrite the listing of the plan that comes of it.
 use libc::STDOUT_FILENO;
 

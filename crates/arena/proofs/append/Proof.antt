@@ -55,7 +55,8 @@ same-length c = search needs
 
 returns : tie.Need-returns
 returns c =
-    let s = c .before .before .before .before .before .before .before .before .before .before .before .before .before in let m = s .args .m .now in let u : ℕ = s .args .u in
+    let s = c .before .before .before .before .before .before .before .before .before .before .before .before .before in let m = s .args .m .now in
+    let u : ℕ = s .args .u in
     let w = c .before .before .before .before .before .before in let p = c .before .before .put-numbers in
     let e = w .copy .ensures ∙ c .before .before .before .before .before .before .before .before .before .read64 .ensures in
     appended-by m u _ _ (w .copy .last .0) (s .pre) e (p .last .0) (p .ensures .0) (p .kept .0 ∙ gap m u _ _ (w .copy .last .0) (s .pre) e) (p .ensures .1)

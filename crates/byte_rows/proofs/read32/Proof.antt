@@ -35,10 +35,13 @@ loop-less : tie.Need-loop-less Inv-loop μ-loop
 loop-less c = search needs
 
 loop-again : tie.Need-loop-again Inv-loop μ-loop
-loop-again c = let s = c .before .before .before .before .before in let l = c .before .before .before .loop in let t = c .before .before .loop-test .taken in let p = s .pre in rw (c .wide .ensures) (copy-more (s .args .s .now) (s .args .s .now) (l .out) (l .i) refl (omega arith) (l .inv))
+loop-again c = let s = c .before .before .before .before .before in let l = c .before .before .before .loop in
+    let t = c .before .before .loop-test .taken in let p = s .pre in
+    rw (c .wide .ensures) (copy-more (s .args .s .now) (s .args .s .now) (l .out) (l .i) refl (omega arith) (l .inv))
 
 returns : tie.Need-returns Inv-loop μ-loop
-returns c = let s = c .before .before .before in let l = c .before .loop in let t = c .loop-test .left in let p = s .pre in copy-end (s .args .s .now) (s .args .s .now) (l .out) (l .i) refl (omega arith) (l .inv)
+returns c = let s = c .before .before .before in let l = c .before .loop in let t = c .loop-test .left in let p = s .pre in
+    copy-end (s .args .s .now) (s .args .s .now) (l .out) (l .i) refl (omega arith) (l .inv)
 
 pub read32-spec : {M : Type 1} → statement M
 read32-spec =

@@ -38,13 +38,16 @@ loop-less : tie.Need-loop-less Inv-loop μ-loop
 loop-less c = search needs
 
 loop-again : tie.Need-loop-again Inv-loop μ-loop
-loop-again c = let s = c .before .before .before in let l = c .before .before .loop in let n = length-low (s .args .s .now) in let t = c .before .loop-test .taken in rw (low-mask (s .args .s .now) (l .i)) (copy-more (s .args .d .now) (lowBytes (s .args .s .now)) (l .d) (l .i) (s .pre ∙ sym n) (omega arith) (l .inv))
+loop-again c = let s = c .before .before .before in let l = c .before .before .loop in let n = length-low (s .args .s .now) in
+    let t = c .before .loop-test .taken in
+    rw (low-mask (s .args .s .now) (l .i)) (copy-more (s .args .d .now) (lowBytes (s .args .s .now)) (l .d) (l .i) (s .pre ∙ sym n) (omega arith) (l .inv))
 
 same-length : tie.Need-same-length Inv-loop μ-loop
 same-length c = c .before .loop .inv .long
 
 returns : tie.Need-returns Inv-loop μ-loop
-returns c = let s = c .before .before in let l = c .before .loop in let n = length-low (s .args .s .now) in let t = c .loop-test .left in copy-end (s .args .d .now) (lowBytes (s .args .s .now)) (l .d) (l .i) (s .pre ∙ sym n) (omega arith) (l .inv)
+returns c = let s = c .before .before in let l = c .before .loop in let n = length-low (s .args .s .now) in let t = c .loop-test .left in
+    copy-end (s .args .d .now) (lowBytes (s .args .s .now)) (l .d) (l .i) (s .pre ∙ sym n) (omega arith) (l .inv)
 
 pub write-row-spec : {M : Type 1} → statement M
 write-row-spec =

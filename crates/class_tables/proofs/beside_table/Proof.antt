@@ -1,4 +1,5 @@
--- `class_tables::beside_table` meets its contract: the loop's invariant: the first `c` entries are filled, from `w` on. The measure is the number of columns left. Assumes nothing.
+-- `class_tables::beside_table` meets its contract: the loop's invariant: the first `c` entries are filled, from `w` on. The measure is the number of
+-- columns left. Assumes nothing.
 use borrow.Author.Needs.{needs}
 use native.Mathlib.Omega.{arith}
 use mathlib.Core.Path.{_≡_}
@@ -20,7 +21,12 @@ long : (s : tie.Start Inv-loop μ-loop) → length (s .args .left) ≡ 32
 long s = search needs
 
 loop-holds : tie.Need-loop-holds Inv-loop μ-loop
-loop-holds c = let s = c .args in (omega arith, omega arith, filled-self (besideLow (s .left) (s .right .now) (s .w)) (s .w) (s .left) (long c) (c .pre .0) (λ k h. rw (lt-ltb k (s .w) h)))
+loop-holds c = let s = c .args in (
+  omega arith,
+  omega arith,
+  filled-self (besideLow (s .left) (s .right .now) (s .w)) (s .w) (s .left) (long c) (c .pre .0)
+      (λ k h. rw (lt-ltb k (s .w) h)),
+)
 
 add-loop : tie.Need-add-loop Inv-loop μ-loop
 add-loop c = search needs
@@ -32,7 +38,8 @@ low-requires : tie.Need-low-requires Inv-loop μ-loop
 low-requires c κs = search needs
 
 add-r : tie.Need-add-r Inv-loop μ-loop
-add-r c = let h = c .before .before .before .pre .1 (c .before .before .loop .c - c .before .before .before .args .w) in let e = c .low .ensures in let t = c .before .loop-test .taken in let f = c .before .before .before .pre .2 in omega arith
+add-r c = let h = c .before .before .before .pre .1 (c .before .before .loop .c - c .before .before .before .args .w) in let e = c .low .ensures in
+    let t = c .before .loop-test .taken in let f = c .before .before .before .pre .2 in omega arith
 
 mul-r : tie.Need-mul-r Inv-loop μ-loop
 mul-r c = search needs
@@ -47,7 +54,12 @@ loop-less : tie.Need-loop-less Inv-loop μ-loop
 loop-less c = search needs
 
 loop-again : tie.Need-loop-again Inv-loop μ-loop
-loop-again c = let s = c .before .before .before .args in let l = c .before .before .loop in (omega arith, omega arith, filled-more (besideLow (s .left) (s .right .now) (s .w)) (l .r) (l .c) (s .w + c .low .result) (l .inv .2) (omega arith) (rw (le-ltb (l .c) (s .w) (l .inv .0), c .low .ensures)))
+loop-again c = let s = c .before .before .before .args in let l = c .before .before .loop in (
+  omega arith,
+  omega arith,
+  filled-more (besideLow (s .left) (s .right .now) (s .w)) (l .r) (l .c) (s .w + c .low .result) (l .inv .2) (omega arith)
+      (rw (le-ltb (l .c) (s .w) (l .inv .0), c .low .ensures)),
+)
 
 returns : tie.Need-returns Inv-loop μ-loop
 returns c = let s = c .before .before .args in let l = c .before .loop in let e : l .c ≡ s .w + s .n = omega arith in let h = l .inv .2 in rw e at h

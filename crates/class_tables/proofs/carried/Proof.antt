@@ -1,4 +1,5 @@
--- `class_tables::carried` meets its contract: the loop's invariant: no output below `i` carries the class. The measure is the number of outputs left. Assumes nothing.
+-- `class_tables::carried` meets its contract: the loop's invariant: no output below `i` carries the class. The measure is the number of outputs left.
+-- Assumes nothing.
 use borrow.Author.Needs.{needs}
 use native.Mathlib.Omega.{arith}
 use mathlib.Core.Path.{_≡_, sym, _∙_, ap}
@@ -31,7 +32,9 @@ low-requires : tie.Need-low-requires Inv-loop μ-loop
 low-requires c κs = c .before .before .before .before .pre .0 (c .before .before .loop .i)
 
 returns : tie.Need-returns Inv-loop μ-loop
-returns c = let s = c .before .before .before .before .before .before .args in let l = c .before .before .before .before .loop in sym (lowest-at (carries (s .table .now) (s .cols .now) (s .class)) (s .n) (l .i) (c .before .before .before .loop-test .taken) (l .inv .1) (ap (λ x. eqb x (s .class)) (sym (c .before .low .ensures)) ∙ eq-eqb _ _ (c .if1 .taken)))
+returns c = let s = c .before .before .before .before .before .before .args in let l = c .before .before .before .before .loop in
+    sym (lowest-at (carries (s .table .now) (s .cols .now) (s .class)) (s .n) (l .i) (c .before .before .before .loop-test .taken) (l .inv .1)
+    (ap (λ x. eqb x (s .class)) (sym (c .before .low .ensures)) ∙ eq-eqb _ _ (c .if1 .taken)))
 
 add-i : tie.Need-add-i Inv-loop μ-loop
 add-i c = search needs
@@ -40,10 +43,12 @@ loop-less : tie.Need-loop-less Inv-loop μ-loop
 loop-less c = search needs
 
 loop-again : tie.Need-loop-again Inv-loop μ-loop
-loop-again c = let s = c .before .before .before .before .before .before .args in let l = c .before .before .before .before .loop in (omega arith, below-more _ _ (l .inv .1) (ap (λ x. eqb x (s .class)) (sym (c .before .low .ensures)) ∙ ne-eqb _ _ (c .if1 .left)))
+loop-again c = let s = c .before .before .before .before .before .before .args in let l = c .before .before .before .before .loop in
+    (omega arith, below-more _ _ (l .inv .1) (ap (λ x. eqb x (s .class)) (sym (c .before .low .ensures)) ∙ ne-eqb _ _ (c .if1 .left)))
 
 returns-2 : tie.Need-returns-2 Inv-loop μ-loop
-returns-2 c = let s = c .before .before .before .args in let l = c .before .loop in let e : l .i ≡ s .n = omega arith in let n = l .inv .1 in sym (lowest-none (carries (s .table .now) (s .cols .now) (s .class)) (s .n) (rw e at n))
+returns-2 c = let s = c .before .before .before .args in let l = c .before .loop in let e : l .i ≡ s .n = omega arith in let n = l .inv .1 in
+    sym (lowest-none (carries (s .table .now) (s .cols .now) (s .class)) (s .n) (rw e at n))
 
 pub carried-spec : {M : Type 1} → statement M
 carried-spec =

@@ -1,4 +1,5 @@
--- `class_tables::class_set` meets its contract: the loop's invariant: the columns below `c` are collected. The measure is the number of columns left. Assumes nothing.
+-- `class_tables::class_set` meets its contract: the loop's invariant: the columns below `c` are collected. The measure is the number of columns left.
+-- Assumes nothing.
 use borrow.Author.Needs.{needs}
 use native.Mathlib.Omega.{arith}
 use mathlib.Core.Path.{_≡_}
@@ -34,7 +35,11 @@ loop-less : tie.Need-loop-less Inv-loop μ-loop
 loop-less c = search needs
 
 loop-again : tie.Need-loop-again Inv-loop μ-loop
-loop-again c = let s = c .before .before .before .before .before .args in let l = c .before .before .before .before .loop in (omega arith, collected-next (inClasses (s .table .now) (s .x) (s .y)) (l .r) (l .c) (c .with-if .result) (l .inv .1) (rw (← c .before .before .low .ensures, ← c .before .one-of .ensures) (c .with-if .ensures)))
+loop-again c = let s = c .before .before .before .before .before .args in let l = c .before .before .before .before .loop in (
+  omega arith,
+  collected-next (inClasses (s .table .now) (s .x) (s .y)) (l .r) (l .c) (c .with-if .result) (l .inv .1)
+      (rw (← c .before .before .low .ensures, ← c .before .one-of .ensures) (c .with-if .ensures)),
+)
 
 returns : tie.Need-returns Inv-loop μ-loop
 returns c = let l = c .before .loop in let e : l .c ≡ c .before .before .args .width = omega arith in let h = l .inv .1 in rw e at h

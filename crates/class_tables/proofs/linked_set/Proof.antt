@@ -25,10 +25,18 @@ either-requires : tie.Need-either-requires
 either-requires c κs = search needs
 
 returns : tie.Need-returns
-returns c = let s = c .before .before .before .before .before .before .args in λ d. c .either .ensures d ∙ ap (λ (x : Bool). bit (s .set) d || x) (c .before .class-set .ensures d ∙ ap₂ (λ x y. below (s .width) (inClasses (s .table .now) x y) d) (c .before .before .before .low .ensures) (c .before .before .low2 .ensures)) ∙ spread (bit (s .set) d) (below (s .width) (inClasses (s .table .now) (at (s .table .now) (s .a)) (at (s .table .now) (s .b))) d) (bit (s .set) (s .a) || bit (s .set) (s .b)) (sym (c .before .before .before .before .before .has-one .ensures) ∙ c .before .before .before .before .if1 .taken)
+returns c = let s = c .before .before .before .before .before .before .args in
+    λ d. c .either .ensures d ∙ ap (λ (x : Bool). bit (s .set) d || x)
+    (c .before .class-set .ensures d ∙ ap₂ (λ x y. below (s .width) (inClasses (s .table .now) x y) d) (c .before .before .before .low .ensures)
+    (c .before .before .low2 .ensures))
+    ∙ spread (bit (s .set) d) (below (s .width) (inClasses (s .table .now) (at (s .table .now) (s .a)) (at (s .table .now) (s .b))) d)
+    (bit (s .set) (s .a) || bit (s .set) (s .b)) (sym (c .before .before .before .before .before .has-one .ensures)
+    ∙ c .before .before .before .before .if1 .taken)
 
 returns-2 : tie.Need-returns-2
-returns-2 c = let s = c .before .before .args in λ d. unspread (bit (s .set) d) (below (s .width) (inClasses (s .table .now) (at (s .table .now) (s .a)) (at (s .table .now) (s .b))) d) (bit (s .set) (s .a) || bit (s .set) (s .b)) (sym (c .before .has-one .ensures) ∙ c .if1 .left)
+returns-2 c = let s = c .before .before .args in
+    λ d. unspread (bit (s .set) d) (below (s .width) (inClasses (s .table .now) (at (s .table .now) (s .a)) (at (s .table .now) (s .b))) d)
+    (bit (s .set) (s .a) || bit (s .set) (s .b)) (sym (c .before .has-one .ensures) ∙ c .if1 .left)
 
 pub linked-set-spec : {M : Type 1} → statement M
 linked-set-spec =

@@ -1,4 +1,5 @@
--- `class_tables::linked_table` meets its contract: the loop's invariant: the first `c` entries are filled. The measure is the number of columns left. Assumes nothing.
+-- `class_tables::linked_table` meets its contract: the loop's invariant: the first `c` entries are filled. The measure is the number of columns left.
+-- Assumes nothing.
 use borrow.Author.Needs.{needs}
 use native.Mathlib.Omega.{arith}
 use mathlib.Core.Path.{_≡_}
@@ -39,7 +40,11 @@ loop-less : tie.Need-loop-less Inv-loop μ-loop
 loop-less c = search needs
 
 loop-again : tie.Need-loop-again Inv-loop μ-loop
-loop-again c = let s = c .before .before .before .before .before .args in let l = c .before .before .before .loop in (omega arith, filled-more (linkedLow (s .table .now) (s .x) (s .y)) (l .r) (l .c) (c .joined .result) (l .inv .1) (omega arith) (rw (← c .before .low .ensures) (c .joined .ensures)))
+loop-again c = let s = c .before .before .before .before .before .args in let l = c .before .before .before .loop in (
+  omega arith,
+  filled-more (linkedLow (s .table .now) (s .x) (s .y)) (l .r) (l .c) (c .joined .result) (l .inv .1) (omega arith)
+      (rw (← c .before .low .ensures) (c .joined .ensures)),
+)
 
 returns : tie.Need-returns Inv-loop μ-loop
 returns c = let l = c .before .loop in let e : l .c ≡ c .before .before .before .args .width = omega arith in let h = l .inv .1 in rw e at h

@@ -1,4 +1,5 @@
--- `class_tables::projection_set` meets its contract: the loop's invariant: the outputs below `j` are collected. The measure is the number of outputs left. Assumes nothing.
+-- `class_tables::projection_set` meets its contract: the loop's invariant: the outputs below `j` are collected. The measure is the number of outputs left.
+-- Assumes nothing.
 use borrow.Author.Needs.{needs}
 use native.Mathlib.Omega.{arith}
 use mathlib.Core.Path.{_≡_}
@@ -39,7 +40,11 @@ loop-less : tie.Need-loop-less Inv-loop μ-loop
 loop-less c = search needs
 
 loop-again : tie.Need-loop-again Inv-loop μ-loop
-loop-again c = let s = c .before .before .before .before .before .before .args in let l = c .before .before .before .before .loop in (omega arith, collected-next (λ k. bit (s .set) (getD (s .cols .now) k 0)) (l .r) (l .j) (c .with-if .result) (l .inv .1) (rw (← c .before .has .ensures) (c .with-if .ensures)))
+loop-again c = let s = c .before .before .before .before .before .before .args in let l = c .before .before .before .before .loop in (
+  omega arith,
+  collected-next (λ k. bit (s .set) (getD (s .cols .now) k 0)) (l .r) (l .j) (c .with-if .result) (l .inv .1)
+      (rw (← c .before .has .ensures) (c .with-if .ensures)),
+)
 
 returns : tie.Need-returns Inv-loop μ-loop
 returns c = let l = c .before .loop in let e : l .j ≡ length (c .before .before .before .args .cols .now) = omega arith in let h = l .inv .1 in rw e at h

@@ -1,4 +1,5 @@
--- `class_tables::projection_table` meets its contract: the loop's invariant: the first `j` entries are filled. The measure is the number of outputs left. Assumes nothing.
+-- `class_tables::projection_table` meets its contract: the loop's invariant: the first `j` entries are filled. The measure is the number of outputs left.
+-- Assumes nothing.
 use borrow.Author.Needs.{needs}
 use native.Mathlib.Omega.{arith}
 use mathlib.Core.Path.{_≡_}
@@ -19,7 +20,8 @@ alone-requires : tie.Need-alone-requires Inv-loop μ-loop
 alone-requires c κs = search needs
 
 loop-holds : tie.Need-loop-holds Inv-loop μ-loop
-loop-holds c = let s = c .before .before .args in (omega arith, filled-none (projectionLow (s .table .now) (s .cols .now)) (c .alone .result) (c .alone .ensures))
+loop-holds c = let s = c .before .before .args in
+    (omega arith, filled-none (projectionLow (s .table .now) (s .cols .now)) (c .alone .result) (c .alone .ensures))
 
 mul-low : tie.Need-mul-low Inv-loop μ-loop
 mul-low c = search needs
@@ -46,10 +48,15 @@ loop-less : tie.Need-loop-less Inv-loop μ-loop
 loop-less c = search needs
 
 loop-again : tie.Need-loop-again Inv-loop μ-loop
-loop-again c = let s = c .before .before .before .before .before .before .before .args in let l = c .before .before .before .before .loop in (omega arith, filled-more (projectionLow (s .table .now) (s .cols .now)) (l .r) (l .j) (c .carried .result) (l .inv .1) (omega arith) (rw (← c .before .low .ensures) (c .carried .ensures)))
+loop-again c = let s = c .before .before .before .before .before .before .before .args in let l = c .before .before .before .before .loop in (
+  omega arith,
+  filled-more (projectionLow (s .table .now) (s .cols .now)) (l .r) (l .j) (c .carried .result) (l .inv .1) (omega arith)
+      (rw (← c .before .low .ensures) (c .carried .ensures)),
+)
 
 returns : tie.Need-returns Inv-loop μ-loop
-returns c = let l = c .before .loop in let e : l .j ≡ length (c .before .before .before .before .args .cols .now) = omega arith in let h = l .inv .1 in rw e at h
+returns c = let l = c .before .loop in let e : l .j ≡ length (c .before .before .before .before .args .cols .now) = omega arith in let h = l .inv .1 in
+    rw e at h
 
 pub projection-table-spec : {M : Type 1} → statement M
 projection-table-spec =

@@ -1,4 +1,5 @@
--- `class_tables::union_low` meets its contract: the loop's invariant: no column below `i` is equal to `c` in both. The measure is the number of columns left. Assumes nothing.
+-- `class_tables::union_low` meets its contract: the loop's invariant: no column below `i` is equal to `c` in both. The measure is the number of columns
+-- left. Assumes nothing.
 use borrow.Author.Needs.{needs}
 use native.Mathlib.Omega.{arith}
 use mathlib.Core.Path.{_≡_, sym, _∙_}
@@ -23,7 +24,9 @@ alike-requires : tie.Need-alike-requires Inv-loop μ-loop
 alike-requires c κs = search needs
 
 returns : tie.Need-returns Inv-loop μ-loop
-returns c = let s = c .before .before .before .before .args in let l = c .before .before .before .loop in sym (lowest-at (alikeAt (s .a .now) (s .b .now) (s .c)) (s .c) (l .i) (c .before .before .loop-test .taken) (l .inv .1) (sym (c .before .alike .ensures) ∙ c .if1 .taken))
+returns c = let s = c .before .before .before .before .args in let l = c .before .before .before .loop in
+    sym (lowest-at (alikeAt (s .a .now) (s .b .now) (s .c)) (s .c) (l .i) (c .before .before .loop-test .taken) (l .inv .1)
+    (sym (c .before .alike .ensures) ∙ c .if1 .taken))
 
 add-i : tie.Need-add-i Inv-loop μ-loop
 add-i c = search needs
@@ -35,7 +38,8 @@ loop-again : tie.Need-loop-again Inv-loop μ-loop
 loop-again c = let l = c .before .before .before .loop in (omega arith, below-more _ _ (l .inv .1) (sym (c .before .alike .ensures) ∙ c .if1 .left))
 
 returns-2 : tie.Need-returns-2 Inv-loop μ-loop
-returns-2 c = let s = c .before .before .args in let l = c .before .loop in let e : l .i ≡ s .c = omega arith in let n = l .inv .1 in sym (lowest-none (alikeAt (s .a .now) (s .b .now) (s .c)) (s .c) (rw e at n))
+returns-2 c = let s = c .before .before .args in let l = c .before .loop in let e : l .i ≡ s .c = omega arith in let n = l .inv .1 in
+    sym (lowest-none (alikeAt (s .a .now) (s .b .now) (s .c)) (s .c) (rw e at n))
 
 pub union-low-spec : {M : Type 1} → statement M
 union-low-spec =

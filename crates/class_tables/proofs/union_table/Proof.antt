@@ -1,4 +1,5 @@
--- `class_tables::union_table` meets its contract: the loop's invariant: the first `c` entries are filled. The measure is the number of columns left. Assumes nothing.
+-- `class_tables::union_table` meets its contract: the loop's invariant: the first `c` entries are filled. The measure is the number of columns left.
+-- Assumes nothing.
 use borrow.Author.Needs.{needs}
 use native.Mathlib.Omega.{arith}
 use mathlib.Core.Path.{_≡_}
@@ -36,7 +37,8 @@ loop-less : tie.Need-loop-less Inv-loop μ-loop
 loop-less c = search needs
 
 loop-again : tie.Need-loop-again Inv-loop μ-loop
-loop-again c = let s = c .before .before .before .before .args in let l = c .before .before .loop in (omega arith, filled-more (unionLow (s .a .now) (s .b .now)) (l .r) (l .c) (c .union-low .result) (l .inv .1) (omega arith) (c .union-low .ensures))
+loop-again c = let s = c .before .before .before .before .args in let l = c .before .before .loop in
+    (omega arith, filled-more (unionLow (s .a .now) (s .b .now)) (l .r) (l .c) (c .union-low .result) (l .inv .1) (omega arith) (c .union-low .ensures))
 
 returns : tie.Need-returns Inv-loop μ-loop
 returns c = let l = c .before .loop in let e : l .c ≡ c .before .before .before .args .width = omega arith in let h = l .inv .1 in rw e at h

@@ -24,7 +24,8 @@ mul-out-2 : tie.Need-mul-out-2 Inv-loop μ-loop
 mul-out-2 c = omega arith
 
 array-write-out : tie.Need-array-write-out Inv-loop μ-loop
-array-write-out c = let s = c .before .before .before in let x = c .before .loop-test .taken in let w = c .before .before .loop .inv .wide in let p = s .pre in omega arith
+array-write-out c = let s = c .before .before .before in let x = c .before .loop-test .taken in let w = c .before .before .loop .inv .wide in
+    let p = s .pre in omega arith
 
 add-j : tie.Need-add-j Inv-loop μ-loop
 add-j c = let x = c .before .loop-test .taken in omega arith
@@ -33,10 +34,12 @@ loop-less : tie.Need-loop-less Inv-loop μ-loop
 loop-less c = let x = c .before .loop-test .taken in omega arith
 
 loop-again : tie.Need-loop-again Inv-loop μ-loop
-loop-again c = let s = c .before .before .before in let l = c .before .before .loop in copied-more (s .args .ks .now) (l .j) (l .out) (l .inv) (s .pre) (c .before .loop-test .taken)
+loop-again c = let s = c .before .before .before in let l = c .before .before .loop in
+    copied-more (s .args .ks .now) (l .j) (l .out) (l .inv) (s .pre) (c .before .loop-test .taken)
 
 returns : tie.Need-returns Inv-loop μ-loop
-returns c = let s = c .before .before in let l = c .before .loop in let x = c .loop-test .left in copied-all (s .args .ks .now) (l .j) (l .out) (l .inv) (omega arith)
+returns c = let s = c .before .before in let l = c .before .loop in let x = c .loop-test .left in
+    copied-all (s .args .ks .now) (l .j) (l .out) (l .inv) (omega arith)
 
 pub copied-spec : {M : Type 1} → statement M
 copied-spec =

@@ -5,7 +5,8 @@ use Rattle.ensure_sorting.proofs.ensure_unordered.Statement.{statement}
 use Rattle.ensure_sorting.proofs.ensure_unordered.Tie as tie
 
 row-requires : tie.Need-row-requires
-row-requires c κs = let s = c .before .before in is-here (s .args .m .now) (s .args .u) (s .args .h) (child-standing (s .args .m .now) (s .args .u) (s .args .h) (s .pre))
+row-requires c κs = let s = c .before .before in
+    is-here (s .args .m .now) (s .args .u) (s .args .h) (child-standing (s .args .m .now) (s .args .u) (s .args .h) (s .pre))
 
 is-ordered-requires : tie.Need-is-ordered-requires
 is-ordered-requires c κs = search needs
@@ -18,13 +19,18 @@ same-length : tie.Need-same-length
 same-length c = search needs
 
 returns : tie.Need-returns
-returns c = let s = c .before .before .before .before .before .before .before .before .before in updated (s .args .m .now) (s .args .u) (s .args .h) (s .pre) _ (c .before .before .before .before .before .before .row .ensures .1) _ (c .before .before .before .before .before .is-ordered .ensures) (s .args .single) (s .args .keeps) (c .before .before .before .before .if1 .taken) _ _ (c .before .before .update-child-to-remove-unnecessary-sort .ensures)
+returns c = let s = c .before .before .before .before .before .before .before .before .before in
+    updated (s .args .m .now) (s .args .u) (s .args .h) (s .pre) _ (c .before .before .before .before .before .before .row .ensures .1) _
+    (c .before .before .before .before .before .is-ordered .ensures) (s .args .single) (s .args .keeps) (c .before .before .before .before .if1 .taken) _ _
+    (c .before .before .update-child-to-remove-unnecessary-sort .ensures)
 
 same-length-2 : tie.Need-same-length-2
 same-length-2 c = search needs
 
 returns-2 : tie.Need-returns-2
-returns-2 c = let s = c .before .before .before .before .before in kept-free (s .args .m .now) (s .args .u) (s .args .h) (s .pre) _ (c .before .before .row .ensures .1) _ (c .before .is-ordered .ensures) (s .args .single) (s .args .keeps) (c .if1 .left)
+returns-2 c = let s = c .before .before .before .before .before in
+    kept-free (s .args .m .now) (s .args .u) (s .args .h) (s .pre) _ (c .before .before .row .ensures .1) _ (c .before .is-ordered .ensures)
+    (s .args .single) (s .args .keeps) (c .if1 .left)
 
 pub ensure-unordered-spec : {M : Type 1} → statement M
 ensure-unordered-spec =

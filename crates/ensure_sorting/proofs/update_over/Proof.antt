@@ -7,7 +7,9 @@ update-sort-ctx-children-data-requires : tie.Need-update-sort-ctx-children-data-
 update-sort-ctx-children-data-requires c κs = search needs
 
 update-plan-from-children-requires : tie.Need-update-plan-from-children-requires
-update-plan-from-children-requires c κs = let s = c .before .before .before .before .before .before .before .before .before .before in settled-puts (s .args .m .now) (s .args .u) (s .args .h) (s .args .r .now) (s .args .ks .now) (s .pre) _ (c .before .before .before .before .update-sort-ctx-children-data .ensures)
+update-plan-from-children-requires c κs = let s = c .before .before .before .before .before .before .before .before .before .before in
+    settled-puts (s .args .m .now) (s .args .u) (s .args .h) (s .args .r .now) (s .args .ks .now) (s .pre) _
+    (c .before .before .before .before .update-sort-ctx-children-data .ensures)
 
 same-length : tie.Need-same-length
 same-length c = search needs
@@ -16,7 +18,10 @@ same-length-2 : tie.Need-same-length-2
 same-length-2 c = search needs
 
 returns : tie.Need-returns
-returns c = let s = c .before .before .before .before .before .before .before .before .before .before .before .before .before in settled-grown (s .args .m .now) (s .args .u) (s .args .h) (s .args .r .now) (s .args .ks .now) (s .pre) _ (c .before .before .before .before .before .before .before .update-sort-ctx-children-data .ensures) _ _ (c .before .before .update-plan-from-children .ensures)
+returns c = let s = c .before .before .before .before .before .before .before .before .before .before .before .before .before in
+    settled-grown (s .args .m .now) (s .args .u) (s .args .h) (s .args .r .now) (s .args .ks .now) (s .pre) _
+    (c .before .before .before .before .before .before .before .update-sort-ctx-children-data .ensures) _ _
+    (c .before .before .update-plan-from-children .ensures)
 
 pub update-over-spec : {M : Type 1} → statement M
 update-over-spec =

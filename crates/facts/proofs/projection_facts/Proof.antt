@@ -20,7 +20,10 @@ projection-set-requires : tie.Need-projection-set-requires
 projection-set-requires c κs = search needs
 
 returns : tie.Need-returns
-returns c = let s = c .before .before .before .before .before .before .before .before in says-projection (s .args .f) (s .args .cols .now) (c .before .before .before .projection-table .result) (c .projection-set .result) (c .before .projection-order .result) (s .pre .0) (s .pre .2) (c .before .before .before .projection-table .ensures) (c .projection-set .ensures) (c .before .projection-order .ensures (known (s .args .f)) (classes (s .args .f) (s .pre .0)))
+returns c = let s = c .before .before .before .before .before .before .before .before in
+    says-projection (s .args .f) (s .args .cols .now) (c .before .before .before .projection-table .result) (c .projection-set .result)
+    (c .before .projection-order .result) (s .pre .0) (s .pre .2) (c .before .before .before .projection-table .ensures) (c .projection-set .ensures)
+    (c .before .projection-order .ensures (known (s .args .f)) (classes (s .args .f) (s .pre .0)))
 
 pub projection-facts-spec : {M : Type 1} → statement M
 projection-facts-spec =

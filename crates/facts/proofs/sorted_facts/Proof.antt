@@ -14,7 +14,9 @@ normal-requires : tie.Need-normal-requires
 normal-requires c κs = let s = c .before .before in (small (s .args .f) (s .pre .0), s .pre .1)
 
 returns : tie.Need-returns
-returns c = let s = c .before .before .before in says-ordered (s .args .f) (s .args .streams) (c .normal .result) (sem.nf (known (s .args .f)) [] (keysOf (s .args .keys))) (s .pre .0) (subst (λ (l : List Key). Keyed l (c .normal .result)) (nf-is (s .args .f) (s .pre .0) (keysOf (s .args .keys))) (c .normal .ensures))
+returns c = let s = c .before .before .before in
+    says-ordered (s .args .f) (s .args .streams) (c .normal .result) (sem.nf (known (s .args .f)) [] (keysOf (s .args .keys))) (s .pre .0)
+    (subst (λ (l : List Key). Keyed l (c .normal .result)) (nf-is (s .args .f) (s .pre .0) (keysOf (s .args .keys))) (c .normal .ensures))
 
 pub sorted-facts-spec : {M : Type 1} → statement M
 sorted-facts-spec = tie.close (tie.spec normal-requires returns)

@@ -14,7 +14,9 @@ add-streams : tie.Need-add-streams
 add-streams c = search needs
 
 returns : tie.Need-returns
-returns c = let s = c .before .before .before .before .before .before .before .before .before .before in says-both (s .args .a) (s .args .b) (c .before .before .before .before .before .union-table .result) (c .before .before .common-keys .result) (s .pre .0) (s .pre .1) (c .before .before .before .before .before .union-table .ensures) (c .before .before .common-keys .ensures)
+returns c = let s = c .before .before .before .before .before .before .before .before .before .before in
+    says-both (s .args .a) (s .args .b) (c .before .before .before .before .before .union-table .result) (c .before .before .common-keys .result)
+    (s .pre .0) (s .pre .1) (c .before .before .before .before .before .union-table .ensures) (c .before .before .common-keys .ensures)
 
 pub union-facts-spec : {M : Type 1} → statement M
 union-facts-spec =

@@ -11,7 +11,8 @@ no-keys-requires : tie.Need-no-keys-requires
 no-keys-requires c κs = search needs
 
 returns : tie.Need-returns
-returns c = says-unknown (c .before .before .args .w) (c .before .alone .result) (c .no-keys .result) (c .before .before .pre) (c .before .alone .ensures) (c .no-keys .ensures .0)
+returns c = says-unknown (c .before .before .args .w) (c .before .alone .result) (c .no-keys .result) (c .before .before .pre) (c .before .alone .ensures)
+    (c .no-keys .ensures .0)
 
 pub unknown-spec : {M : Type 1} → statement M
 unknown-spec = tie.close (tie.spec alone-requires no-keys-requires returns)

@@ -13,7 +13,9 @@ returns : tie.Need-returns
 returns c e =
     let k = c .before .check-order in
     let slice = c .before .before .before in
-    checked-feeds (slice .before .args .plan .now) (k .result) _ (k .last .1 .0) (record { below = λ i g. omega (arith, slice .shared-slice-known .given i) }) (k .ensures .0) (k .ensures .1) (c .if1 .taken) (eqb-true (k .last .1 .0) 1 e)
+    checked-feeds (slice .before .args .plan .now) (k .result) _ (k .last .1 .0)
+    (record { below = λ i g. omega (arith, slice .shared-slice-known .given i) }) (k .ensures .0) (k .ensures .1) (c .if1 .taken)
+    (eqb-true (k .last .1 .0) 1 e)
 
 returns-2 : tie.Need-returns-2
 returns-2 c e = absurd (c .if1 .left (eqb-true (c .before .check-order .result) 0 e))

@@ -17,7 +17,11 @@ add-width : tie.Need-add-width
 add-width c = search needs
 
 returns : tie.Need-returns
-returns c = let s = c .before .before .before .before .before .before .before .before .before in says-beside (s .args .a) (s .args .b) (s .pre .0) (s .pre .1) (s .pre .2) (c .before .before .before .before .before .beside-table .result) (c .before .before .before .before .moved-up .result) (c .before .before .before .either .result) (c .before .before .before .before .before .beside-table .ensures) (c .before .before .before .before .moved-up .ensures) (c .before .before .before .either .ensures)
+returns c = let s = c .before .before .before .before .before .before .before .before .before in
+    says-beside (s .args .a) (s .args .b) (s .pre .0) (s .pre .1) (s .pre .2) (c .before .before .before .before .before .beside-table .result)
+    (c .before .before .before .before .moved-up .result) (c .before .before .before .either .result)
+    (c .before .before .before .before .before .beside-table .ensures) (c .before .before .before .before .moved-up .ensures)
+    (c .before .before .before .either .ensures)
 
 pub beside-spec : {M : Type 1} → statement M
 beside-spec =

@@ -16,7 +16,8 @@ join-facts-requires c κs = search needs
 returns : tie.Need-returns
 returns c =
     let s = c .before .before .before .before .args in
-    subst (λ (k : sem.Kept). Says (sem.joinFacts (s .t) k (onOf (s .lefts .now) (s .rights .now)) (known (s .a)) (known (s .b)) (s .b .streams)) (c .join-facts .result)) (c .before .hash-kept .ensures) (c .join-facts .ensures)
+    subst (λ (k : sem.Kept). Says (sem.joinFacts (s .t) k (onOf (s .lefts .now) (s .rights .now)) (known (s .a)) (known (s .b)) (s .b .streams))
+    (c .join-facts .result)) (c .before .hash-kept .ensures) (c .join-facts .ensures)
 
 pub hash-join-facts-spec : {M : Type 1} → statement M
 hash-join-facts-spec = tie.close (tie.spec hash-kept-requires join-facts-requires returns)

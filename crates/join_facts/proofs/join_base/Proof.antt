@@ -12,12 +12,20 @@ enum-told : tie.Need-enum-told
 enum-told c = search needs
 
 beside-requires : tie.Need-beside-requires
-beside-requires c κs = let s = c .before .before .before .before in let w = s .pre .sides .wide in (s .pre .sides .left, s .pre .sides .right, rw (c .enum-told .given .1) at w)
+beside-requires c κs = let s = c .before .before .before .before in let w = s .pre .sides .wide in
+    (s .pre .sides .left, s .pre .sides .right, rw (c .enum-told .given .1) at w)
 
 link-all-requires : tie.Need-link-all-requires
 link-all-requires c κs =
-    let s = c .before .before .before .before .before in let w = s .pre .sides .wide in
-    (c .beside .ensures .fine, (linkable (s .args .a .width) (s .args .b .width) (onOf (s .args .lefts .now) (s .args .rights .now)) (s .pre .fit) (rw (c .before .enum-told .given .1) at w), s .pre .pairs, s .pre .sides .left .wide))
+    let s = c .before .before .before .before .before in let w = s .pre .sides .wide in (
+      c .beside .ensures .fine,
+      (
+        linkable (s .args .a .width) (s .args .b .width) (onOf (s .args .lefts .now) (s .args .rights .now)) (s .pre .fit)
+            (rw (c .before .enum-told .given .1) at w),
+        s .pre .pairs,
+        s .pre .sides .left .wide,
+      ),
+    )
 
 enum-told-2 : tie.Need-enum-told-2
 enum-told-2 c = search needs
@@ -29,7 +37,8 @@ enum-told-3 : tie.Need-enum-told-3
 enum-told-3 c = search needs
 
 shifted-requires : tie.Need-shifted-requires
-shifted-requires c κs = let s = c .before .before .before .before in let w = s .pre .sides .wide in (s .pre .sides .right, rw (c .enum-told3 .given .1) at w)
+shifted-requires c κs = let s = c .before .before .before .before in let w = s .pre .sides .wide in
+    (s .pre .sides .right, rw (c .enum-told3 .given .1) at w)
 
 enum-told-4 : tie.Need-enum-told-4
 enum-told-4 c = search needs
@@ -38,7 +47,8 @@ add-unknown : tie.Need-add-unknown
 add-unknown c = search needs
 
 unknown-requires : tie.Need-unknown-requires
-unknown-requires c κs = let s = c .before .before .before .before .before .before in let w = s .pre .sides .wide in rw (c .before .before .enum-told4 .given .1) at w
+unknown-requires c κs = let s = c .before .before .before .before .before .before in let w = s .pre .sides .wide in
+    rw (c .before .before .enum-told4 .given .1) at w
 
 enum-told-5 : tie.Need-enum-told-5
 enum-told-5 c = search needs
@@ -55,7 +65,9 @@ enum-told-8 c = search needs
 returns : tie.Need-returns
 returns c =
     let s = c .before .before .before .before .before .before in
-    rw (c .before .before .enum-told .given .1) (subst (λ (F : sem.Facts). Says (sem.linkAll (s .args .a .width) (onOf (s .args .lefts .now) (s .args .rights .now)) F) (c .link-all .result)) (c .before .beside .ensures .is) (c .link-all .ensures))
+    rw (c .before .before .enum-told .given .1)
+    (subst (λ (F : sem.Facts). Says (sem.linkAll (s .args .a .width) (onOf (s .args .lefts .now) (s .args .rights .now)) F) (c .link-all .result))
+    (c .before .beside .ensures .is) (c .link-all .ensures))
 
 returns-2 : tie.Need-returns-2
 returns-2 c = rw (c .before .enum-told2 .given .1) (c .placed .ensures)

@@ -29,12 +29,15 @@ no-keys-requires c κs = search needs
 returns : tie.Need-returns
 returns c F G e f g =
     let s = c .before .before .before in
-    rw (c .before .enum-told .given .1) (rw (e) (subst (λ (l : List Key). Keyed (sem.leftOrder (s .args .t) (s .args .w) l) (c .left-order .result)) f (c .left-order .ensures (s .args .w) (s .pre .lefts))))
+    rw (c .before .enum-told .given .1)
+    (rw (e) (subst (λ (l : List Key). Keyed (sem.leftOrder (s .args .t) (s .args .w) l) (c .left-order .result)) f
+    (c .left-order .ensures (s .args .w) (s .pre .lefts))))
 
 returns-2 : tie.Need-returns-2
 returns-2 c F G e f g =
     let s = c .before .before .before in
-    rw (c .before .enum-told2 .given .1) (rw (e) (subst (λ (l : List Key). Keyed (sem.rightOrder (s .args .t) (s .args .w) l) (c .right-order .result)) g (c .right-order .ensures)))
+    rw (c .before .enum-told2 .given .1)
+    (rw (e) (subst (λ (l : List Key). Keyed (sem.rightOrder (s .args .t) (s .args .w) l) (c .right-order .result)) g (c .right-order .ensures)))
 
 returns-3 : tie.Need-returns-3
 returns-3 c F G e f g = rw (c .before .enum-told3 .given .1) (c .no-keys .ensures .0)

@@ -1,4 +1,5 @@
--- `join_facts::link_all` meets its contract: the loop's invariant: the pairs that are left lead where all pairs lead from the start. The measure is the number of pairs left. Assumes nothing.
+-- `join_facts::link_all` meets its contract: the loop's invariant: the pairs that are left lead where all pairs lead from the start. The measure is the
+-- number of pairs left. Assumes nothing.
 use borrow.Author.Needs.{needs}
 use native.Mathlib.Omega.{arith}
 use mathlib.Core.Path.{refl, subst}
@@ -18,8 +19,12 @@ abbrev μ-loop : tie.MeasureT-loop
 μ-loop lefts rights w g₀ i₀ g i = length lefts - i
 
 -- the pair that the loop has reached
-pair : (c : tie.After-shared-slice-known4 Inv-loop μ-loop) → Linkable (c .before .before .before .before .before .before .before .args .w) (pairAt (c .before .before .before .before .before .before .before .args .lefts .now) (c .before .before .before .before .before .before .before .args .rights .now) (c .before .before .before .before .loop .i))
-pair c = let s = c .before .before .before .before .before .before .before in on-at (Linkable (s .args .w)) (s .args .lefts .now) (s .args .rights .now) (c .before .before .before .before .loop .i) (c .before .before .before .loop-test .taken) (s .pre .1 .1) (s .pre .1 .0)
+pair : (c : tie.After-shared-slice-known4 Inv-loop μ-loop) → Linkable (c .before .before .before .before .before .before .before .args .w)
+    (pairAt (c .before .before .before .before .before .before .before .args .lefts .now)
+    (c .before .before .before .before .before .before .before .args .rights .now) (c .before .before .before .before .loop .i))
+pair c = let s = c .before .before .before .before .before .before .before in
+    on-at (Linkable (s .args .w)) (s .args .lefts .now) (s .args .rights .now) (c .before .before .before .before .loop .i)
+    (c .before .before .before .loop-test .taken) (s .pre .1 .1) (s .pre .1 .0)
 
 loop-holds : tie.Need-loop-holds Inv-loop μ-loop
 loop-holds c = record { far = omega arith; fine = c .before .before .pre .0; leads = refl }
@@ -54,11 +59,14 @@ loop-less c = search needs
 loop-again : tie.Need-loop-again Inv-loop μ-loop
 loop-again c =
     let s = c .before .before .before .before .before .before .before .before in let l = c .before .before .before .before .before .loop in
-    link-more (s .args .w) (s .args .f) (s .args .lefts .now) (s .args .rights .now) (l .g) (l .i) (l .inv) (c .before .before .before .before .loop-test .taken) (s .pre .1 .1) (s .pre .1 .0) (c .linked .result)
-    (subst (λ (d : ℕ). Says (sem.linked (known (l .g)) d (s .args .w + getD (s .args .rights .now) (l .i) 0)) (c .linked .result)) (c .before .before .column .ensures) (c .linked .ensures))
+    link-more (s .args .w) (s .args .f) (s .args .lefts .now) (s .args .rights .now) (l .g) (l .i) (l .inv)
+    (c .before .before .before .before .loop-test .taken) (s .pre .1 .1) (s .pre .1 .0) (c .linked .result)
+    (subst (λ (d : ℕ). Says (sem.linked (known (l .g)) d (s .args .w + getD (s .args .rights .now) (l .i) 0)) (c .linked .result))
+    (c .before .before .column .ensures) (c .linked .ensures))
 
 returns : tie.Need-returns Inv-loop μ-loop
-returns c = let s = c .before .before .before .before in let l = c .before .loop in link-end (s .args .w) (s .args .f) (s .args .lefts .now) (s .args .rights .now) (l .g) (l .i) (l .inv) (omega arith)
+returns c = let s = c .before .before .before .before in let l = c .before .loop in
+    link-end (s .args .w) (s .args .f) (s .args .lefts .now) (s .args .rights .now) (l .g) (l .i) (l .inv) (omega arith)
 
 pub link-all-spec : {M : Type 1} → statement M
 link-all-spec =

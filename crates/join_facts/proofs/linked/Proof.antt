@@ -23,7 +23,9 @@ returns : tie.Need-returns
 returns c =
     let s = c .before .before .before .before .before .before .before .before .before .before in let f = s .args .f in
     says-linked f (s .pre .0) (s .args .a) (s .args .b) (c .before .before .before .linked-table .result) (c .before .linked-set .result)
-    (subst (λ (g : ℕ → ℕ). Filled (f .width) g (c .before .before .before .linked-table .result)) (ap₂ (linkedLow (f .low)) (c .before .before .before .before .before .before .low .ensures) (c .before .before .before .before .low2 .ensures)) (c .before .before .before .linked-table .ensures)) (c .before .linked-set .ensures)
+    (subst (λ (g : ℕ → ℕ). Filled (f .width) g (c .before .before .before .linked-table .result))
+    (ap₂ (linkedLow (f .low)) (c .before .before .before .before .before .before .low .ensures) (c .before .before .before .before .low2 .ensures))
+    (c .before .before .before .linked-table .ensures)) (c .before .linked-set .ensures)
 
 pub linked-spec : {M : Type 1} → statement M
 linked-spec =

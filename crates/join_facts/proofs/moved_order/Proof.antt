@@ -28,7 +28,8 @@ move-keys-requires c κs =
 returns : tie.Need-returns
 returns c =
     let s = c .before .before in let ks = keysOf (s .args .keys) in
-    subst (λ (l : List Key). Keyed l (c .move-keys .result)) (ap (λ (z : ℤ). map (movedBy z) ks) (signed (c .before)) ∙ moved-by (s .args .w) ks) (c .move-keys .ensures)
+    subst (λ (l : List Key). Keyed l (c .move-keys .result)) (ap (λ (z : ℤ). map (movedBy z) ks) (signed (c .before)) ∙ moved-by (s .args .w) ks)
+    (c .move-keys .ensures)
 
 pub moved-order-spec : {M : Type 1} → statement M
 moved-order-spec = tie.close (tie.spec offset-requires move-keys-requires returns)

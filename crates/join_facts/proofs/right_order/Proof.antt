@@ -14,7 +14,12 @@ enum-told : tie.Need-enum-told
 enum-told c = search needs
 
 moved-order-requires : tie.Need-moved-order-requires
-moved-order-requires c κs = let s = c .before .before in (s .pre .0, all-map (λ k l. omega arith) (subst (λ (t : JoinType). All (λ k. joinWidth t (s .args .w) (k .col + 1) ≤ 32) (keysOf (s .args .keys))) (c .enum-told .given .1) (s .pre .1)), s .pre .2)
+moved-order-requires c κs = let s = c .before .before in (
+  s .pre .0,
+  all-map (λ k l. omega arith) (subst (λ (t : JoinType). All (λ k. joinWidth t (s .args .w) (k .col + 1) ≤ 32) (keysOf (s .args .keys)))
+      (c .enum-told .given .1) (s .pre .1)),
+  s .pre .2,
+)
 
 enum-told-2 : tie.Need-enum-told-2
 enum-told-2 c = search needs
@@ -26,7 +31,12 @@ enum-told-3 : tie.Need-enum-told-3
 enum-told-3 c = search needs
 
 moved-order-requires-2 : tie.Need-moved-order-requires-2
-moved-order-requires-2 c κs = let s = c .before .before in (s .pre .0, all-map (λ k l. omega arith) (subst (λ (t : JoinType). All (λ k. joinWidth t (s .args .w) (k .col + 1) ≤ 32) (keysOf (s .args .keys))) (c .enum-told3 .given .1) (s .pre .1)), s .pre .2)
+moved-order-requires-2 c κs = let s = c .before .before in (
+  s .pre .0,
+  all-map (λ k l. omega arith) (subst (λ (t : JoinType). All (λ k. joinWidth t (s .args .w) (k .col + 1) ≤ 32) (keysOf (s .args .keys)))
+      (c .enum-told3 .given .1) (s .pre .1)),
+  s .pre .2,
+)
 
 enum-told-4 : tie.Need-enum-told-4
 enum-told-4 c = search needs

@@ -10,7 +10,8 @@ alone-requires : tie.Need-alone-requires
 alone-requires c κs = search needs
 
 beside-table-requires : tie.Need-beside-table-requires
-beside-table-requires c κs = let s = c .before .before .before in (λ d m. filled-alone 0 (λ e. e) (c .before .before .alone .result) (c .before .before .alone .ensures) d (omega arith), s .pre .0 .down, s .pre .1)
+beside-table-requires c κs = let s = c .before .before .before in
+    (λ d m. filled-alone 0 (λ e. e) (c .before .before .alone .result) (c .before .before .alone .ensures) d (omega arith), s .pre .0 .down, s .pre .1)
 
 moved-up-requires : tie.Need-moved-up-requires
 moved-up-requires c κs = search needs
@@ -19,7 +20,11 @@ add-width : tie.Need-add-width
 add-width c = search needs
 
 returns : tie.Need-returns
-returns c = let s = c .before .before .before .before .before .before .before in says-shifted (s .args .f) (s .pre .0) (s .args .w) (s .pre .1) (c .before .before .before .before .before .before .alone .result) (c .before .before .before .beside-table .result) (c .before .before .moved-up .result) (c .before .before .before .before .before .before .alone .ensures) (c .before .before .before .beside-table .ensures) (c .before .before .moved-up .ensures)
+returns c = let s = c .before .before .before .before .before .before .before in
+    says-shifted (s .args .f) (s .pre .0) (s .args .w) (s .pre .1) (c .before .before .before .before .before .before .alone .result)
+    (c .before .before .before .beside-table .result) (c .before .before .moved-up .result)
+    (c .before .before .before .before .before .before .alone .ensures) (c .before .before .before .beside-table .ensures)
+    (c .before .before .moved-up .ensures)
 
 pub shifted-spec : {M : Type 1} → statement M
 shifted-spec =

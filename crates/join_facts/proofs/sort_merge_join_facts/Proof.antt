@@ -20,7 +20,10 @@ join-facts-requires c κs = search needs
 returns : tie.Need-returns
 returns c =
     let s = c .before .before .before .before .before .before .args in
-    subst (λ (F : sem.Facts). Says F (c .join-facts .result)) (ap₂ (λ (k : sem.Kept) (b : Bool). sem.joinFacts (s .t) k (onOf (s .lefts .now) (s .rights .now)) (known (s .a)) (known (s .b)) (cond b (s .b .streams) (s .a .streams))) (c .before .before .before .sort-merge-kept .ensures) (sym (c .before .if1 .taken) ∙ c .before .before .by-right .ensures)) (c .join-facts .ensures)
+    subst (λ (F : sem.Facts). Says F (c .join-facts .result))
+    (ap₂ (λ (k : sem.Kept) (b : Bool). sem.joinFacts (s .t) k (onOf (s .lefts .now) (s .rights .now)) (known (s .a)) (known (s .b))
+    (cond b (s .b .streams) (s .a .streams))) (c .before .before .before .sort-merge-kept .ensures)
+    (sym (c .before .if1 .taken) ∙ c .before .before .by-right .ensures)) (c .join-facts .ensures)
 
 join-facts-requires-2 : tie.Need-join-facts-requires-2
 join-facts-requires-2 c κs = search needs
@@ -28,7 +31,10 @@ join-facts-requires-2 c κs = search needs
 returns-2 : tie.Need-returns-2
 returns-2 c =
     let s = c .before .before .before .before .before .before .args in
-    subst (λ (F : sem.Facts). Says F (c .join-facts2 .result)) (ap₂ (λ (k : sem.Kept) (b : Bool). sem.joinFacts (s .t) k (onOf (s .lefts .now) (s .rights .now)) (known (s .a)) (known (s .b)) (cond b (s .b .streams) (s .a .streams))) (c .before .before .before .sort-merge-kept .ensures) (sym (c .before .if1 .left) ∙ c .before .before .by-right .ensures)) (c .join-facts2 .ensures)
+    subst (λ (F : sem.Facts). Says F (c .join-facts2 .result))
+    (ap₂ (λ (k : sem.Kept) (b : Bool). sem.joinFacts (s .t) k (onOf (s .lefts .now) (s .rights .now)) (known (s .a)) (known (s .b))
+    (cond b (s .b .streams) (s .a .streams))) (c .before .before .before .sort-merge-kept .ensures)
+    (sym (c .before .if1 .left) ∙ c .before .before .by-right .ensures)) (c .join-facts2 .ensures)
 
 pub sort-merge-join-facts-spec : {M : Type 1} → statement M
 sort-merge-join-facts-spec =

@@ -21,7 +21,9 @@ column-requires : tie.Need-column-requires Inv-loop μ-loop
 column-requires c κs = search needs
 
 returns : tie.Need-returns Inv-loop μ-loop
-returns c = let s = (c .before .before .before .before) .args in let l = c .before .before .before .loop in sym (sym (l .inv) ∙ from-not (s .off) (l .left) (l .rest) (c .before .before .loop-test .taken) (ap (leb (s .off)) (sym (c .before .column .ensures)) ∙ lt-leb (s .off) (c .before .column .result) (c .if1 .taken)))
+returns c = let s = (c .before .before .before .before) .args in let l = c .before .before .before .loop in
+    sym (sym (l .inv) ∙ from-not (s .off) (l .left) (l .rest) (c .before .before .loop-test .taken) (ap (leb (s .off)) (sym (c .before .column .ensures))
+    ∙ lt-leb (s .off) (c .before .column .result) (c .if1 .taken)))
 
 sub-left : tie.Need-sub-left Inv-loop μ-loop
 sub-left c = search needs
@@ -30,7 +32,9 @@ loop-less : tie.Need-loop-less Inv-loop μ-loop
 loop-less c = search needs
 
 loop-again : tie.Need-loop-again Inv-loop μ-loop
-loop-again c = let s = (c .before .before .before .before) .args in let l = c .before .before .before .loop in from-more (s .off) (l .left) (l .rest) (c .before .before .loop-test .taken) (ap (leb (s .off)) (sym (c .before .column .ensures)) ∙ le-leb (s .off) (c .before .column .result) (c .if1 .left)) ∙ l .inv
+loop-again c = let s = (c .before .before .before .before) .args in let l = c .before .before .before .loop in
+    from-more (s .off) (l .left) (l .rest) (c .before .before .loop-test .taken) (ap (leb (s .off)) (sym (c .before .column .ensures))
+    ∙ le-leb (s .off) (c .before .column .result) (c .if1 .left)) ∙ l .inv
 
 returns-2 : tie.Need-returns-2 Inv-loop μ-loop
 returns-2 c = let s = (c .before .before) .args in let l = c .before .loop in sym (sym (l .inv) ∙ from-end (s .off) (l .left) (l .rest) (omega arith))

@@ -15,7 +15,9 @@ use Rattle.join_sides.proofs.at_child_columns.Statement.{statement}
 use Rattle.join_sides.proofs.at_child_columns.Tie as tie
 
 abbrev Inv-loop : tie.InvT-loop
-Inv-loop r out₀ rest₀ left₀ out rest left = (out .len + left ≤ 8) × Tight out × ((cols : List ℕ) → decode r ≡ projection cols → Building (map (atColumn (λ d. getD cols d 0)) (keysIn left₀ rest₀)) out (map (atColumn (λ d. getD cols d 0)) (keysIn left rest)))
+Inv-loop r out₀ rest₀ left₀ out rest left = (out .len + left ≤ 8) × Tight out
+    × ((cols : List ℕ) → decode r ≡ projection cols → Building (map (atColumn (λ d. getD cols d 0)) (keysIn left₀ rest₀)) out
+    (map (atColumn (λ d. getD cols d 0)) (keysIn left rest)))
 
 abbrev μ-loop : tie.MeasureT-loop
 μ-loop r out₀ rest₀ left₀ out rest left = left
@@ -24,7 +26,8 @@ no-keys-requires : tie.Need-no-keys-requires Inv-loop μ-loop
 no-keys-requires c κs = search needs
 
 loop-holds : tie.Need-loop-holds Inv-loop μ-loop
-loop-holds c = let k = c .no-keys in let z = no-length (k .result) (k .ensures .0) in (omega (arith, (c .before .before) .pre .2), k .ensures .1, λ cols e. begun _ (k .result) (k .ensures .0) (k .ensures .1))
+loop-holds c = let k = c .no-keys in let z = no-length (k .result) (k .ensures .0) in
+    (omega (arith, (c .before .before) .pre .2), k .ensures .1, λ cols e. begun _ (k .result) (k .ensures .0) (k .ensures .1))
 
 column-requires : tie.Need-column-requires Inv-loop μ-loop
 column-requires c κs = search needs
@@ -36,7 +39,8 @@ with-column-requires : tie.Need-with-column-requires Inv-loop μ-loop
 with-column-requires c κs = c .child-column .ensures .1
 
 appended-requires : tie.Need-appended-requires Inv-loop μ-loop
-appended-requires c κs = let l = c .before .before .before .before .loop in (l .inv .1, omega (arith, l .inv .0, c .before .before .before .loop-test .taken))
+appended-requires c κs = let l = c .before .before .before .before .loop in
+    (l .inv .1, omega (arith, l .inv .0, c .before .before .before .loop-test .taken))
 
 sub-left : tie.Need-sub-left Inv-loop μ-loop
 sub-left c = search needs
@@ -45,10 +49,19 @@ loop-less : tie.Need-loop-less Inv-loop μ-loop
 loop-less c = search needs
 
 loop-again : tie.Need-loop-again Inv-loop μ-loop
-loop-again c = let l = c .before .before .before .before .before .loop in let g = c .appended .ensures in (omega (arith, l .inv .0, g .len, c .before .before .before .before .loop-test .taken), g .tight, λ cols e. moved-more cols (keysOf ((c .before .before .before .before .before .before .before .before) .args .keys)) (l .out) (l .rest) (l .left) (c .before .before .child-column .result) (c .before .with-column .result) (c .appended .result) (c .before .before .before .before .loop-test .taken) (c .before .before .child-column .ensures .0 cols e ∙ ap (λ d. getD cols d 0) (c .before .before .before .column .ensures)) (c .before .with-column .ensures) g (l .inv .2 cols e))
+loop-again c = let l = c .before .before .before .before .before .loop in let g = c .appended .ensures in (
+  omega (arith, l .inv .0, g .len, c .before .before .before .before .loop-test .taken),
+  g .tight,
+  λ cols e. moved-more cols
+      (keysOf ((c .before .before .before .before .before .before .before .before) .args .keys)) (l .out) (l .rest) (l .left)
+      (c .before .before .child-column .result) (c .before .with-column .result) (c .appended .result) (c .before .before .before .before .loop-test .taken)
+      (c .before .before .child-column .ensures .0 cols e ∙ ap (λ d. getD cols d 0) (c .before .before .before .column .ensures))
+      (c .before .with-column .ensures) g (l .inv .2 cols e),
+)
 
 returns : tie.Need-returns Inv-loop μ-loop
-returns c cols e = let l = c .before .loop in built _ (l .out) (omega (arith, l .inv .0)) (rebuilt (map-end (atColumn (λ d. getD cols d 0)) (l .left) (l .rest) (omega arith)) (l .inv .2 cols e))
+returns c cols e = let l = c .before .loop in
+    built _ (l .out) (omega (arith, l .inv .0)) (rebuilt (map-end (atColumn (λ d. getD cols d 0)) (l .left) (l .rest) (omega arith)) (l .inv .2 cols e))
 
 pub at-child-columns-spec : {M : Type 1} → statement M
 at-child-columns-spec =

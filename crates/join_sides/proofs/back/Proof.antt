@@ -16,7 +16,8 @@ sub-result : tie.Need-sub-result
 sub-result c = subst⁻¹ (SFits w64) (minus (c .args .off) (c .pre)) (neg-fits (c .args .off) (c .pre))
 
 returns : tie.Need-returns
-returns c = toZ-ofZ w64 (pos 0 -ℤ toZ w64 (c .args .off)) (subst⁻¹ (SFits w64) (minus (c .args .off) (c .pre)) (neg-fits (c .args .off) (c .pre))) ∙ minus (c .args .off) (c .pre)
+returns c = toZ-ofZ w64 (pos 0 -ℤ toZ w64 (c .args .off)) (subst⁻¹ (SFits w64) (minus (c .args .off) (c .pre)) (neg-fits (c .args .off) (c .pre)))
+    ∙ minus (c .args .off) (c .pre)
 
 pub back-spec : {M : Type 1} → statement M
 back-spec = tie.close (tie.spec cast-result sub-result returns)

@@ -17,7 +17,10 @@ enum-known-on-left : tie.Need-enum-known-on-left
 enum-known-on-left c = search needs
 
 returns : tie.Need-returns
-returns c = let s = (c .before .before .before .before .before) .args in let F = told (s .own .now) in on-left (onSide F 0 (s .left) (keysOf (s .keys))) (onSide F (s .left) (F .width - s .left) (keysOf (s .keys))) (c .before .before .before .on-side .result) (c .before .before .before .on-side .result) _ (c .before .before .before .on-side .ensures) (c .before .on-left .given .1)
+returns c = let s = (c .before .before .before .before .before) .args in let F = told (s .own .now) in
+    on-left (onSide F 0 (s .left) (keysOf (s .keys))) (onSide F (s .left) (F .width - s .left) (keysOf (s .keys)))
+    (c .before .before .before .on-side .result) (c .before .before .before .on-side .result) _ (c .before .before .before .on-side .ensures)
+    (c .before .on-left .given .1)
 
 enum-told : tie.Need-enum-told
 enum-told c = search needs
@@ -38,12 +41,20 @@ enum-told-2 : tie.Need-enum-told-2
 enum-told-2 c = search needs
 
 returns-2 : tie.Need-returns-2
-returns-2 c = let s = (c .before .before .before .before .before .before .before .before) .args in let F = told (s .own .now) in on-neither (onSide F 0 (s .left) (keysOf (s .keys))) (onSide F (s .left) (F .width - s .left) (keysOf (s .keys))) (c .before .before .before .before .before .before .on-side .result) (c .before .before .on-side2 .result) (c .before .before .before .before .before .before .on-side .ensures) (c .before .before .before .before .enum-told .given .1)
-    (subst (λ (w : ℕ). Valids (onSide F (s .left) (w - s .left) (keysOf (s .keys))) (c .before .before .on-side2 .result)) (c .before .before .before .width .ensures .0) (c .before .before .on-side2 .ensures)) (c .enum-told2 .given .1)
+returns-2 c = let s = (c .before .before .before .before .before .before .before .before) .args in let F = told (s .own .now) in
+    on-neither (onSide F 0 (s .left) (keysOf (s .keys))) (onSide F (s .left) (F .width - s .left) (keysOf (s .keys)))
+    (c .before .before .before .before .before .before .on-side .result) (c .before .before .on-side2 .result)
+    (c .before .before .before .before .before .before .on-side .ensures) (c .before .before .before .before .enum-told .given .1)
+    (subst (λ (w : ℕ). Valids (onSide F (s .left) (w - s .left) (keysOf (s .keys))) (c .before .before .on-side2 .result))
+    (c .before .before .before .width .ensures .0) (c .before .before .on-side2 .ensures)) (c .enum-told2 .given .1)
 
 returns-3 : tie.Need-returns-3
-returns-3 c = let s = (c .before .before .before .before .before .before .before .before .before) .args in let F = told (s .own .now) in on-right (onSide F 0 (s .left) (keysOf (s .keys))) (onSide F (s .left) (F .width - s .left) (keysOf (s .keys))) (c .before .before .before .before .before .before .before .on-side .result) (c .before .before .before .on-side2 .result) _ (c .before .before .before .before .before .before .before .on-side .ensures) (c .before .before .before .before .before .enum-told .given .1)
-    (subst (λ (w : ℕ). Valids (onSide F (s .left) (w - s .left) (keysOf (s .keys))) (c .before .before .before .on-side2 .result)) (c .before .before .before .before .width .ensures .0) (c .before .before .before .on-side2 .ensures)) (c .before .on-right .given .1)
+returns-3 c = let s = (c .before .before .before .before .before .before .before .before .before) .args in let F = told (s .own .now) in
+    on-right (onSide F 0 (s .left) (keysOf (s .keys))) (onSide F (s .left) (F .width - s .left) (keysOf (s .keys)))
+    (c .before .before .before .before .before .before .before .on-side .result) (c .before .before .before .on-side2 .result) _
+    (c .before .before .before .before .before .before .before .on-side .ensures) (c .before .before .before .before .before .enum-told .given .1)
+    (subst (λ (w : ℕ). Valids (onSide F (s .left) (w - s .left) (keysOf (s .keys))) (c .before .before .before .on-side2 .result))
+    (c .before .before .before .before .width .ensures .0) (c .before .before .before .on-side2 .ensures)) (c .before .on-right .given .1)
 
 pub either-side-spec : {M : Type 1} → statement M
 either-side-spec =

@@ -11,25 +11,29 @@ enum-told : tie.Need-enum-told
 enum-told c = search needs
 
 either-side-requires : tie.Need-either-side-requires
-either-side-requires c κs = let s = (c .before .before .before) in (s .pre .0, s .pre .1, subst (λ (t : JoinType). Roomy t (s .args .left) (told (s .args .own .now) .width)) (c .enum-told .given .1) (s .pre .2))
+either-side-requires c κs = let s = (c .before .before .before) in
+    (s .pre .0, s .pre .1, subst (λ (t : JoinType). Roomy t (s .args .left) (told (s .args .own .now) .width)) (c .enum-told .given .1) (s .pre .2))
 
 enum-told-2 : tie.Need-enum-told-2
 enum-told-2 c = search needs
 
 either-side-requires-2 : tie.Need-either-side-requires-2
-either-side-requires-2 c κs = let s = (c .before .before .before) in (s .pre .0, s .pre .1, subst (λ (t : JoinType). Roomy t (s .args .left) (told (s .args .own .now) .width)) (c .enum-told2 .given .1) (s .pre .2))
+either-side-requires-2 c κs = let s = (c .before .before .before) in
+    (s .pre .0, s .pre .1, subst (λ (t : JoinType). Roomy t (s .args .left) (told (s .args .own .now) .width)) (c .enum-told2 .given .1) (s .pre .2))
 
 enum-told-3 : tie.Need-enum-told-3
 enum-told-3 c = search needs
 
 either-side-requires-3 : tie.Need-either-side-requires-3
-either-side-requires-3 c κs = let s = (c .before .before .before) in (s .pre .0, s .pre .1, subst (λ (t : JoinType). Roomy t (s .args .left) (told (s .args .own .now) .width)) (c .enum-told3 .given .1) (s .pre .2))
+either-side-requires-3 c κs = let s = (c .before .before .before) in
+    (s .pre .0, s .pre .1, subst (λ (t : JoinType). Roomy t (s .args .left) (told (s .args .own .now) .width)) (c .enum-told3 .given .1) (s .pre .2))
 
 enum-told-4 : tie.Need-enum-told-4
 enum-told-4 c = search needs
 
 either-side-requires-4 : tie.Need-either-side-requires-4
-either-side-requires-4 c κs = let s = (c .before .before .before) in (s .pre .0, s .pre .1, subst (λ (t : JoinType). Roomy t (s .args .left) (told (s .args .own .now) .width)) (c .enum-told4 .given .1) (s .pre .2))
+either-side-requires-4 c κs = let s = (c .before .before .before) in
+    (s .pre .0, s .pre .1, subst (λ (t : JoinType). Roomy t (s .args .left) (told (s .args .own .now) .width)) (c .enum-told4 .given .1) (s .pre .2))
 
 enum-told-5 : tie.Need-enum-told-5
 enum-told-5 c = search needs

@@ -32,7 +32,9 @@ add-t9 : tie.Need-add-t9 Inv-loop μ-loop
 add-t9 c = search needs
 
 returns : tie.Need-returns Inv-loop μ-loop
-returns c = let s = (c .before .before .before .before .before) .args in let l = c .before .before .before .loop in here (cl (told (s .own .now))) (s .lo) (s .n) (s .class) (l .j) (c .before .before .loop-test .taken) (l .inv .1) (ap (λ (x : ℕ). eqb x (s .class)) (sym (c .before .lowest-equal .ensures .0)) ∙ eq-eqb _ _ (c .if1 .taken))
+returns c = let s = (c .before .before .before .before .before) .args in let l = c .before .before .before .loop in
+    here (cl (told (s .own .now))) (s .lo) (s .n) (s .class) (l .j) (c .before .before .loop-test .taken) (l .inv .1)
+    (ap (λ (x : ℕ). eqb x (s .class)) (sym (c .before .lowest-equal .ensures .0)) ∙ eq-eqb _ _ (c .if1 .taken))
 
 add-j : tie.Need-add-j Inv-loop μ-loop
 add-j c = search needs
@@ -41,10 +43,12 @@ loop-less : tie.Need-loop-less Inv-loop μ-loop
 loop-less c = search needs
 
 loop-again : tie.Need-loop-again Inv-loop μ-loop
-loop-again c = let s = (c .before .before .before .before .before) .args in let l = c .before .before .before .loop in (omega arith, below-more _ _ (l .inv .1) (ap (λ (x : ℕ). eqb x (s .class)) (sym (c .before .lowest-equal .ensures .0)) ∙ ne-eqb _ _ (c .if1 .left)))
+loop-again c = let s = (c .before .before .before .before .before) .args in let l = c .before .before .before .loop in
+    (omega arith, below-more _ _ (l .inv .1) (ap (λ (x : ℕ). eqb x (s .class)) (sym (c .before .lowest-equal .ensures .0)) ∙ ne-eqb _ _ (c .if1 .left)))
 
 returns-2 : tie.Need-returns-2 Inv-loop μ-loop
-returns-2 c = let s = (c .before .before .before) .args in let l = c .before .loop in let e : l .j ≡ s .n = omega arith in let n = l .inv .1 in nowhere (cl (told (s .own .now))) (s .lo) (s .n) (s .class) (rw e at n)
+returns-2 c = let s = (c .before .before .before) .args in let l = c .before .loop in let e : l .j ≡ s .n = omega arith in let n = l .inv .1 in
+    nowhere (cl (told (s .own .now))) (s .lo) (s .n) (s .class) (rw e at n)
 
 pub lowest-on-side-spec : {M : Type 1} → statement M
 lowest-on-side-spec =

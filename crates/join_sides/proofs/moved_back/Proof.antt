@@ -21,12 +21,14 @@ back-requires : tie.Need-back-requires
 back-requires c κs = search needs
 
 move-keys-requires : tie.Need-move-keys-requires
-move-keys-requires c κs = let s = (c .before) in let k = s .args .keys in (subst⁻¹ (λ (z : ℤ). All (Movable z) (keysOf k)) (signed c) (back-room (s .args .off) k (s .pre .1)), s .pre .2)
+move-keys-requires c κs = let s = (c .before) in let k = s .args .keys in
+    (subst⁻¹ (λ (z : ℤ). All (Movable z) (keysOf k)) (signed c) (back-room (s .args .off) k (s .pre .1)), s .pre .2)
 
 returns : tie.Need-returns
 returns c =
     let s = (c .before .before) in let ks = keysOf (s .args .keys) in
-    subst (λ (l : List Key). Keyed l (c .move-keys .result)) (ap (λ (z : ℤ). map (movedBy z) ks) (signed (c .before)) ∙ back-by (s .args .off) ks (s .pre .1)) (c .move-keys .ensures)
+    subst (λ (l : List Key). Keyed l (c .move-keys .result)) (ap (λ (z : ℤ). map (movedBy z) ks) (signed (c .before)) ∙ back-by (s .args .off) ks
+    (s .pre .1)) (c .move-keys .ensures)
 
 pub moved-back-spec : {M : Type 1} → statement M
 moved-back-spec = tie.close (tie.spec back-requires move-keys-requires returns)

@@ -22,7 +22,8 @@ same-key-requires : tie.Need-same-key-requires Inv-loop μ-loop
 same-key-requires c κs = search needs
 
 returns-2 : tie.Need-returns-2 Inv-loop μ-loop
-returns-2 c = let l = c .before .before .before .before .loop in sym (sym (l .inv) ∙ unequal-not (l .left) (l .a) (l .more) (l .b) (omega arith) (omega arith) (sym (c .before .same-key .ensures) ∙ c .if2 .taken))
+returns-2 c = let l = c .before .before .before .before .loop in
+    sym (sym (l .inv) ∙ unequal-not (l .left) (l .a) (l .more) (l .b) (omega arith) (omega arith) (sym (c .before .same-key .ensures) ∙ c .if2 .taken))
 
 sub-left : tie.Need-sub-left Inv-loop μ-loop
 sub-left c = search needs
@@ -34,7 +35,8 @@ loop-less : tie.Need-loop-less Inv-loop μ-loop
 loop-less c = search needs
 
 loop-again : tie.Need-loop-again Inv-loop μ-loop
-loop-again c = let l = c .before .before .before .before .loop in unequal-more (l .left) (l .a) (l .more) (l .b) (omega arith) (omega arith) (sym (c .before .same-key .ensures) ∙ c .if2 .left) ∙ l .inv
+loop-again c = let l = c .before .before .before .before .loop in
+    unequal-more (l .left) (l .a) (l .more) (l .b) (omega arith) (omega arith) (sym (c .before .same-key .ensures) ∙ c .if2 .left) ∙ l .inv
 
 returns-3 : tie.Need-returns-3 Inv-loop μ-loop
 returns-3 c = let l = c .before .loop in sym (sym (l .inv) ∙ unequal-left (l .left) (l .a) (l .more) (l .b) (omega arith))

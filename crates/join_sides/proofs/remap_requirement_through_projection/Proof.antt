@@ -17,7 +17,8 @@ drop-repeats-requires : tie.Need-drop-repeats-requires
 drop-repeats-requires c κs = let s = (c .before .before) in c .at-child-columns .ensures _ (op-of (s .args .r .now) Projection (s .pre .1)) .few
 
 returns : tie.Need-returns
-returns c cols e = subst (λ (l : List Key). Keyed l (c .drop-repeats .result)) (ap (dropRepeats []) (c .before .at-child-columns .ensures cols e .is)) (c .drop-repeats .ensures)
+returns c cols e = subst (λ (l : List Key). Keyed l (c .drop-repeats .result)) (ap (dropRepeats []) (c .before .at-child-columns .ensures cols e .is))
+    (c .drop-repeats .ensures)
 
 pub remap-requirement-through-projection-spec : {M : Type 1} → statement M
 remap-requirement-through-projection-spec =

@@ -15,7 +15,9 @@ lowest-on-side-requires : tie.Need-lowest-on-side-requires
 lowest-on-side-requires c κs = search needs
 
 returns : tie.Need-returns
-returns c = let s = (c .before .before .before .before) .args in let low = cl (told (s .own .now)) in c .lowest-on-side .ensures ∙ ap (lowestFrom low (s .lo) (s .n)) (c .before .lowest-equal .ensures .0) ∙ before low (s .lo) (s .n) (s .c) (c .before .before .if1 .taken)
+returns c = let s = (c .before .before .before .before) .args in let low = cl (told (s .own .now)) in
+    c .lowest-on-side .ensures ∙ ap (lowestFrom low (s .lo) (s .n)) (c .before .lowest-equal .ensures .0) ∙ before low (s .lo) (s .n) (s .c)
+    (c .before .before .if1 .taken)
 
 add-if2 : tie.Need-add-if2
 add-if2 c = search needs
@@ -30,7 +32,9 @@ lowest-on-side-requires-2 : tie.Need-lowest-on-side-requires-2
 lowest-on-side-requires-2 c κs = search needs
 
 returns-3 : tie.Need-returns-3
-returns-3 c = let s = (c .before .before .before .before .before) .args in let low = cl (told (s .own .now)) in c .lowest-on-side2 .ensures ∙ ap (lowestFrom low (s .lo) (s .n)) (c .before .lowest-equal2 .ensures .0) ∙ behind low (s .lo) (s .n) (s .c) (c .before .before .before .if1 .left) (c .before .before .if2 .left)
+returns-3 c = let s = (c .before .before .before .before .before) .args in let low = cl (told (s .own .now)) in
+    c .lowest-on-side2 .ensures ∙ ap (lowestFrom low (s .lo) (s .n)) (c .before .lowest-equal2 .ensures .0) ∙ behind low (s .lo) (s .n) (s .c)
+    (c .before .before .before .if1 .left) (c .before .before .if2 .left)
 
 pub side-column-spec : {M : Type 1} → statement M
 side-column-spec =

@@ -36,7 +36,11 @@ loop-less : tie.Need-loop-less Inv-loop μ-loop
 loop-less c = search needs
 
 loop-again : tie.Need-loop-again Inv-loop μ-loop
-loop-again c = let k = (c .before .before .before .before .before) .args .k in let l = c .before .before .before .before .loop in (omega (arith, l .inv .0), rw (c .joined .ensures) (set-more (k .len) (k .word) (l .i) (l .set) (c .before .column .result) (c .before .before .before .loop-test .taken) (l .inv .0) (l .inv .1) (c .before .column .ensures)))
+loop-again c = let k = (c .before .before .before .before .before) .args .k in let l = c .before .before .before .before .loop in (
+  omega (arith, l .inv .0),
+  rw (c .joined .ensures) (set-more (k .len) (k .word) (l .i) (l .set) (c .before .column .result)
+      (c .before .before .before .loop-test .taken) (l .inv .0) (l .inv .1) (c .before .column .ensures)),
+)
 
 returns : tie.Need-returns Inv-loop μ-loop
 returns c = let k = (c .before .before) .args .k in let l = c .before .loop in set-all k (l .set) (l .i) (l .inv .1) (omega arith)

@@ -18,7 +18,8 @@ fresh-keys-requires c κs = search needs
 returns : tie.Need-returns
 returns c =
     let ks = keysOf (c .before .args .k) in
-    subst (λ (l : List Key). Keyed l (c .fresh-keys .result)) (ap (λ (f : ℕ → Bool). nfBy f (λ d. d) [] ks) (fun-ext bit-none) ∙ sym (repeats-normal [] ks)) (c .fresh-keys .ensures)
+    subst (λ (l : List Key). Keyed l (c .fresh-keys .result)) (ap (λ (f : ℕ → Bool). nfBy f (λ d. d) [] ks) (fun-ext bit-none) ∙ sym (repeats-normal [] ks))
+    (c .fresh-keys .ensures)
 
 pub drop-repeats-spec : {M : Type 1} → statement M
 drop-repeats-spec = tie.close (tie.spec fresh-keys-requires returns)

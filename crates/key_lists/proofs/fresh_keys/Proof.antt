@@ -21,7 +21,8 @@ no-keys-requires : tie.Need-no-keys-requires Inv-loop μ-loop
 no-keys-requires c κs = search needs
 
 loop-holds : tie.Need-loop-holds Inv-loop μ-loop
-loop-holds c = let s = c .before .args in normal-none (bit (s .consts)) (λ d. d) (s .k) (c .no-keys .result) (s .consts) (c .before .pre) (c .no-keys .ensures .0) (c .no-keys .ensures .1) (λ d. refl)
+loop-holds c = let s = c .before .args in normal-none (bit (s .consts)) (λ d. d) (s .k) (c .no-keys .result) (s .consts) (c .before .pre)
+    (c .no-keys .ensures .0) (c .no-keys .ensures .1) (λ d. refl)
 
 column-requires : tie.Need-column-requires Inv-loop μ-loop
 column-requires c κs = search needs
@@ -33,7 +34,8 @@ with-requires : tie.Need-with-requires Inv-loop μ-loop
 with-requires c κs = rw (c .before .before .column .ensures) (omega arith)
 
 appended-requires : tie.Need-appended-requires Inv-loop μ-loop
-appended-requires c κs = let l = c .before .before .before .before .before .loop in let f = l .inv .few in (l .inv .builds .tight, omega (arith, c .before .before .before .before .loop-test .taken))
+appended-requires c κs = let l = c .before .before .before .before .before .loop in let f = l .inv .few in
+    (l .inv .builds .tight, omega (arith, c .before .before .before .before .loop-test .taken))
 
 sub-left : tie.Need-sub-left Inv-loop μ-loop
 sub-left c = search needs
@@ -45,8 +47,11 @@ loop-again : tie.Need-loop-again Inv-loop μ-loop
 loop-again c =
     let l = c .before .before .before .before .loop in let h = c .before .before .before .loop-test .taken in
     let e = c .before .before .column .ensures in
-    ⊎-elim (λ w. rw (w .3, w .4) (kept _ _ _ (l .out) (l .gone) (l .rest) (l .left) (l .inv) h (c .before .before .column .result) e (sym (c .before .has .ensures) ∙ not-true _ (w .0 .taken)) (w .1 .result) (w .1 .ensures) (l .rest) (ap (λ d. withColumn d (keyOf (l .rest))) (sym e)) (w .2 .result) (w .2 .ensures)))
-    (λ w. rw (w .1, w .2) (skipped _ _ _ (l .out) (l .gone) (l .rest) (l .left) (l .inv) h (c .before .before .column .result) e (sym (c .before .has .ensures) ∙ not-false _ (w .0 .left))))
+    ⊎-elim (λ w. rw (w .3, w .4) (kept _ _ _ (l .out) (l .gone) (l .rest) (l .left) (l .inv) h (c .before .before .column .result) e
+    (sym (c .before .has .ensures) ∙ not-true _ (w .0 .taken)) (w .1 .result) (w .1 .ensures) (l .rest)
+    (ap (λ d. withColumn d (keyOf (l .rest))) (sym e)) (w .2 .result) (w .2 .ensures)))
+    (λ w. rw (w .1, w .2) (skipped _ _ _ (l .out) (l .gone) (l .rest) (l .left) (l .inv) h (c .before .before .column .result) e
+    (sym (c .before .has .ensures) ∙ not-false _ (w .0 .left))))
     (c .if1 .came)
 
 returns : tie.Need-returns Inv-loop μ-loop

@@ -77,9 +77,16 @@ add-t5 c = search needs
 returns : tie.Need-returns
 returns c =
     let s = c .before .before .before .before .before .before .before .before .before .before .before .before .before .before .before .before in
-    let p₀ = c .before .before .before .before .before .before .before .before .before .before .before .before .before .before .placed .ensures in let p₁ = c .before .before .before .before .before .before .before .before .before .before .before .before .placed2 .ensures in let p₂ = c .before .before .before .before .before .before .before .before .before .before .placed3 .ensures in let p₃ = c .before .before .before .before .before .before .before .before .placed4 .ensures in
-    let p₄ = c .before .before .before .before .before .before .placed5 .ensures in let p₅ = c .before .before .before .before .placed6 .ensures in let p₆ = c .before .before .placed7 .ensures in let p₇ = c .placed8 .ensures in
-    record { is = row-keys (s .args .row .now) (s .args .len) _ (s .pre .0) (s .pre .1) (λ i. (p₀ i + p₁ i + p₂ i + p₃ i) + (p₄ i + p₅ i + p₆ i + p₇ i)); few = s .pre .1 }
+    let p₀ = c .before .before .before .before .before .before .before .before .before .before .before .before .before .before .placed .ensures in
+    let p₁ = c .before .before .before .before .before .before .before .before .before .before .before .before .placed2 .ensures in
+    let p₂ = c .before .before .before .before .before .before .before .before .before .before .placed3 .ensures in
+    let p₃ = c .before .before .before .before .before .before .before .before .placed4 .ensures in
+    let p₄ = c .before .before .before .before .before .before .placed5 .ensures in let p₅ = c .before .before .before .before .placed6 .ensures in
+    let p₆ = c .before .before .placed7 .ensures in let p₇ = c .placed8 .ensures in
+    record {
+      is = row-keys (s .args .row .now) (s .args .len) _ (s .pre .0) (s .pre .1) (λ i. (p₀ i + p₁ i + p₂ i + p₃ i) + (p₄ i + p₅ i + p₆ i + p₇ i));
+      few = s .pre .1;
+    }
 
 pub keys-of-spec : {M : Type 1} → statement M
 keys-of-spec =

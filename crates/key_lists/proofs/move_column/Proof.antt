@@ -18,10 +18,12 @@ cast-result : tie.Need-cast-result
 cast-result c = search needs
 
 add-result : tie.Need-add-result
-add-result c = let k = here c in let l = k .below in subst⁻¹ (SFits w64) (added (c .args .c) (c .args .by) (c .pre .0) (c .fits .by) ∙ k .is) (record { sfits = omega arith })
+add-result c = let k = here c in let l = k .below in
+    subst⁻¹ (SFits w64) (added (c .args .c) (c .args .by) (c .pre .0) (c .fits .by) ∙ k .is) (record { sfits = omega arith })
 
 cast-result-2 : tie.Need-cast-result-2
-cast-result-2 c = let k = here c in let l = k .below in subst⁻¹ (λ z. T (nonNeg z) × Fits w64 (natAbs z)) (back (c .args .c) (c .args .by) (c .pre .0) (c .fits .by) k) (tt, record { fits = omega arith })
+cast-result-2 c = let k = here c in let l = k .below in
+    subst⁻¹ (λ z. T (nonNeg z) × Fits w64 (natAbs z)) (back (c .args .c) (c .args .by) (c .pre .0) (c .fits .by) k) (tt, record { fits = omega arith })
 
 returns : tie.Need-returns
 returns c = let k = here c in ap (λ z. pos (natAbs z)) (back (c .args .c) (c .args .by) (c .pre .0) (c .fits .by) k) ∙ sym (k .is)

@@ -18,7 +18,8 @@ use Rattle.key_lists.proofs.move_keys.Statement.{statement}
 use Rattle.key_lists.proofs.move_keys.Tie as tie
 
 abbrev Inv-loop : tie.InvT-loop
-Inv-loop by out₀ rest₀ left₀ out rest left = (out .len + left ≤ 8) × All (Movable (toZ w64 by)) (keysIn left rest) × Building (map (movedBy (toZ w64 by)) (keysIn left₀ rest₀)) out (map (movedBy (toZ w64 by)) (keysIn left rest))
+Inv-loop by out₀ rest₀ left₀ out rest left = (out .len + left ≤ 8) × All (Movable (toZ w64 by)) (keysIn left rest)
+    × Building (map (movedBy (toZ w64 by)) (keysIn left₀ rest₀)) out (map (movedBy (toZ w64 by)) (keysIn left rest))
 
 abbrev μ-loop : tie.MeasureT-loop
 μ-loop by out₀ rest₀ left₀ out rest left = left
@@ -33,7 +34,8 @@ signed-is s = toZ-ofZ w64 (s .args .by) (s .fits .by)
 ranged : (c : tie.After-column Inv-loop μ-loop) → InRange (pos (c .column .result) +ℤ signed (c .before .before .before .before))
 ranged c =
     let l = c .before .before .loop in
-    subst⁻¹ InRange (ap (λ a. pos a +ℤ signed (c .before .before .before .before)) (c .column .ensures)) (first-of (Movable (signed (c .before .before .before .before))) (l .left) (l .rest) (c .before .loop-test .taken) (l .inv .1))
+    subst⁻¹ InRange (ap (λ a. pos a +ℤ signed (c .before .before .before .before)) (c .column .ensures))
+    (first-of (Movable (signed (c .before .before .before .before))) (l .left) (l .rest) (c .before .loop-test .taken) (l .inv .1))
 
 no-keys-requires : tie.Need-no-keys-requires Inv-loop μ-loop
 no-keys-requires c κs = search needs
@@ -56,7 +58,8 @@ with-column-requires : tie.Need-with-column-requires Inv-loop μ-loop
 with-column-requires c κs = column-below (c .move-column .result) (c .move-column .ensures) (ranged (c .before))
 
 appended-requires : tie.Need-appended-requires Inv-loop μ-loop
-appended-requires c κs = let l = c .before .before .before .before .loop in let f = l .inv .0 in (l .inv .2 .tight, omega (arith, c .before .before .before .loop-test .taken))
+appended-requires c κs = let l = c .before .before .before .before .loop in let f = l .inv .0 in
+    (l .inv .2 .tight, omega (arith, c .before .before .before .loop-test .taken))
 
 sub-left : tie.Need-sub-left Inv-loop μ-loop
 sub-left c = search needs
@@ -66,17 +69,21 @@ loop-less c = search needs
 
 loop-again : tie.Need-loop-again Inv-loop μ-loop
 loop-again c =
-    let s = c .before .before .before .before .before .before .before in let l = c .before .before .before .before .before .loop in let h = c .before .before .before .before .loop-test .taken in let z = signed s in let f = l .inv .0 in let g = c .appended .ensures .len in (
+    let s = c .before .before .before .before .before .before .before in let l = c .before .before .before .before .before .loop in
+    let h = c .before .before .before .before .loop-test .taken in let z = signed s in let f = l .inv .0 in let g = c .appended .ensures .len in (
       omega arith,
       rest-of (Movable z) (l .left) (l .rest) h (l .inv .1),
-      grown _ (l .out) (c .before .with-column .result) (c .appended .result) (movedBy z (keyOf (l .rest))) (map (movedBy z) (keysIn (l .left - 1) (l .rest / 256))) (rebuilt (map-next (movedBy z) (l .left) (l .rest) h) (l .inv .2)) (c .appended .ensures)
-          (c .before .with-column .ensures ∙ ap (λ d. withColumn d (keyOf (l .rest))) (ap natAbs (c .before .before .move-column .ensures ∙ ap (λ a. pos a +ℤ z) (c .before .before .before .column .ensures)))),
+      grown _ (l .out) (c .before .with-column .result) (c .appended .result) (movedBy z (keyOf (l .rest)))
+          (map (movedBy z) (keysIn (l .left - 1) (l .rest / 256))) (rebuilt (map-next (movedBy z) (l .left) (l .rest) h) (l .inv .2)) (c .appended .ensures)
+          (c .before .with-column .ensures ∙ ap (λ d. withColumn d (keyOf (l .rest)))
+          (ap natAbs (c .before .before .move-column .ensures ∙ ap (λ a. pos a +ℤ z) (c .before .before .before .column .ensures)))),
     )
 
 returns : tie.Need-returns Inv-loop μ-loop
 returns c =
     let s = c .before .before .before in let l = c .before .loop in let z = signed s in let f = l .inv .0 in
-    subst (λ (y : ℤ). Keyed (map (movedBy y) (keysOf (s .args .k))) (l .out)) (signed-is s) (built _ (l .out) (omega arith) (rebuilt (map-end (movedBy z) (l .left) (l .rest) (omega arith)) (l .inv .2)))
+    subst (λ (y : ℤ). Keyed (map (movedBy y) (keysOf (s .args .k))) (l .out)) (signed-is s)
+    (built _ (l .out) (omega arith) (rebuilt (map-end (movedBy z) (l .left) (l .rest) (omega arith)) (l .inv .2)))
 
 pub move-keys-spec : {M : Type 1} → statement M
 move-keys-spec =

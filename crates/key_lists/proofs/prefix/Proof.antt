@@ -24,7 +24,9 @@ same-key-requires : tie.Need-same-key-requires Inv-loop μ-loop
 same-key-requires c κs = search needs
 
 returns-2 : tie.Need-returns-2 Inv-loop μ-loop
-returns-2 c = let l = c .before .before .before .before .loop in sym (sym (l .inv) ∙ compare.left-differ (l .left) (l .a) (l .more) (l .b) (omega arith) (omega arith) (sym (c .before .same-key .ensures) ∙ not-true _ (c .if2 .taken)))
+returns-2 c = let l = c .before .before .before .before .loop in
+    sym (sym (l .inv) ∙ compare.left-differ (l .left) (l .a) (l .more) (l .b) (omega arith) (omega arith)
+    (sym (c .before .same-key .ensures) ∙ not-true _ (c .if2 .taken)))
 
 sub-left : tie.Need-sub-left Inv-loop μ-loop
 sub-left c = search needs
@@ -36,7 +38,9 @@ loop-less : tie.Need-loop-less Inv-loop μ-loop
 loop-less c = search needs
 
 loop-again : tie.Need-loop-again Inv-loop μ-loop
-loop-again c = let l = c .before .before .before .before .loop in compare.left-more (l .left) (l .a) (l .more) (l .b) (omega arith) (omega arith) (sym (c .before .same-key .ensures) ∙ not-false _ (c .if2 .left)) ∙ l .inv
+loop-again c = let l = c .before .before .before .before .loop in
+    compare.left-more (l .left) (l .a) (l .more) (l .b) (omega arith) (omega arith) (sym (c .before .same-key .ensures) ∙ not-false _ (c .if2 .left))
+    ∙ l .inv
 
 returns-3 : tie.Need-returns-3 Inv-loop μ-loop
 returns-3 c = let l = c .before .loop in sym (sym (l .inv) ∙ compare.left-end (l .left) (l .a) (l .more) (l .b) (omega arith))

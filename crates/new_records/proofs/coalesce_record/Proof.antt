@@ -15,7 +15,8 @@ new-record-requires : tie.Need-new-record-requires
 new-record-requires c κs = search needs
 
 returns : tie.Need-returns
-returns c = let s = (c .before .before) .args in c .new-record .ensures ∙ ap (λ (ks : List Key). newBytes 6 0 (s .fetch) 0 ks 0) (c .before .no-keys .ensures .0 .is) ∙ coalesce-is (s .fetch)
+returns c = let s = (c .before .before) .args in
+    c .new-record .ensures ∙ ap (λ (ks : List Key). newBytes 6 0 (s .fetch) 0 ks 0) (c .before .no-keys .ensures .0 .is) ∙ coalesce-is (s .fetch)
 
 pub coalesce-record-spec : {M : Type 1} → statement M
 coalesce-record-spec = tie.close (tie.spec no-keys-requires new-record-requires returns)

@@ -15,7 +15,8 @@ abbrev μ-loop : tie.MeasureT-loop
 μ-loop row₀ keys₀ left₀ at₀ row keys left at = left
 
 room : (c : tie.In-loop Inv-loop μ-loop) → c .before .loop .at + 1 < 16
-room c = let k = c .before .before .args .k in let l = c .before .loop in let p = c .before .before .pre in let t = c .loop-test .taken in omega (arith, row-room (keysIn (k .len) (k .word)) (l .row) (l .at) (l .keys) (l .left) (l .inv .1), length-keys (k .len) (k .word))
+room c = let k = c .before .before .args .k in let l = c .before .loop in let p = c .before .before .pre in let t = c .loop-test .taken in
+    omega (arith, row-room (keysIn (k .len) (k .word)) (l .row) (l .at) (l .keys) (l .left) (l .inv .1), length-keys (k .len) (k .word))
 
 loop-holds : tie.Need-loop-holds Inv-loop μ-loop
 loop-holds c = ((c) .pre, row-none ((c) .args .k))
@@ -45,7 +46,11 @@ loop-less : tie.Need-loop-less Inv-loop μ-loop
 loop-less c = search needs
 
 loop-again : tie.Need-loop-again Inv-loop μ-loop
-loop-again c = let k = (c .before .before) .args .k in let l = c .before .loop in (l .inv .0, row-more _ (l .row) (l .at) (l .keys) (l .left) (let z = length-keys (k .len) (k .word) in let p = (c .before .before) .pre in omega arith) (c .loop-test .taken) (l .inv .1))
+loop-again c = let k = (c .before .before) .args .k in let l = c .before .loop in (
+  l .inv .0,
+  row-more _ (l .row) (l .at) (l .keys) (l .left) (let z = length-keys (k .len) (k .word) in let p = (c .before .before) .pre in
+      omega arith) (c .loop-test .taken) (l .inv .1),
+)
 
 returns : tie.Need-returns Inv-loop μ-loop
 returns c = let l = c .before .loop in row-all _ (l .row) (l .at) (l .keys) (l .left) (l .inv .1) (omega arith)

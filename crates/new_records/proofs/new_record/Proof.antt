@@ -42,7 +42,8 @@ part-out-start-2 : tie.Need-part-out-start-2
 part-out-start-2 c = search needs
 
 part-out-end-2 : tie.Need-part-out-end-2
-part-out-end-2 c = long-enough (c .before .copy .last .0) (ap length (c .before .copy .ensures ∙ c .before .before .before .before .before .head-row .ensures))
+part-out-end-2 c = long-enough (c .before .copy .last .0)
+    (ap length (c .before .copy .ensures ∙ c .before .before .before .before .before .head-row .ensures))
 
 slice-aggregate-copy-2 : tie.Need-slice-aggregate-copy-2
 slice-aggregate-copy-2 c = search needs
@@ -52,8 +53,15 @@ copy-requires-2 c κs = search needs
 
 returns : tie.Need-returns
 returns c =
-    let s = (c .before .before .before .before .before .before .before .before .before .before .before .before) .args in let k = c .before .before .before .before .before .before .before .before .key-row .ensures in let p = (c .before .before .before .before .before .before .before .before .before .before .before .before) .pre in
-    new-is (s .kind) (s .marks) (c .before .before .before .before .before .before .before .before .before .before .before .fetch-number .result) (s .skip) (s .role) (s .keys .len % 256) (s .fetch) (s .keys) (c .before .before .before .before .before .copy .last .0) (c .before .copy2 .last .0) p (c .before .before .before .before .before .before .before .before .before .before .before .fetch-number .ensures) (omega arith) (c .before .before .before .before .before .copy .ensures ∙ c .before .before .before .before .before .before .before .before .before .head-row .ensures) (c .before .copy2 .ensures ∙ c .before .before .before .before .before .before .before .before .key-row .ensures)
+    let s = (c .before .before .before .before .before .before .before .before .before .before .before .before) .args in
+    let k = c .before .before .before .before .before .before .before .before .key-row .ensures in
+    let p = (c .before .before .before .before .before .before .before .before .before .before .before .before) .pre in
+    new-is (s .kind) (s .marks) (c .before .before .before .before .before .before .before .before .before .before .before .fetch-number .result) (s .skip)
+    (s .role) (s .keys .len % 256) (s .fetch) (s .keys) (c .before .before .before .before .before .copy .last .0) (c .before .copy2 .last .0) p
+    (c .before .before .before .before .before .before .before .before .before .before .before .fetch-number .ensures) (omega arith)
+    (c .before .before .before .before .before .copy .ensures
+    ∙ c .before .before .before .before .before .before .before .before .before .head-row .ensures)
+    (c .before .copy2 .ensures ∙ c .before .before .before .before .before .before .before .before .key-row .ensures)
 
 pub new-record-spec : {M : Type 1} → statement M
 new-record-spec =

@@ -14,7 +14,8 @@ new-record-requires : tie.Need-new-record-requires
 new-record-requires c κs = search needs
 
 returns : tie.Need-returns
-returns c = let s = (c .before .before) .args in c .new-record .ensures ∙ ap (λ m. newBytes 14 m (s .fetch) 0 (keysOf (s .keys)) (s .prefix)) (c .before .mark-byte .ensures .0) ∙ partial-is (s .preserve) (keysOf (s .keys)) (s .prefix) (s .fetch)
+returns c = let s = (c .before .before) .args in c .new-record .ensures ∙ ap (λ m. newBytes 14 m (s .fetch) 0 (keysOf (s .keys)) (s .prefix))
+    (c .before .mark-byte .ensures .0) ∙ partial-is (s .preserve) (keysOf (s .keys)) (s .prefix) (s .fetch)
 
 pub partial-sort-record-spec : {M : Type 1} → statement M
 partial-sort-record-spec = tie.close (tie.spec mark-byte-requires new-record-requires returns)

@@ -14,7 +14,9 @@ new-record-requires : tie.Need-new-record-requires
 new-record-requires c κs = search needs
 
 returns : tie.Need-returns
-returns c = let s = (c .before .before) .args in c .new-record .ensures ∙ ap (λ m. newBytes 7 m (s .fetch) 0 (keysOf (s .keys)) 0) (c .before .mark-byte .ensures .0) ∙ sort-is (s .preserve) (keysOf (s .keys)) (s .fetch)
+returns c = let s = (c .before .before) .args in
+    c .new-record .ensures ∙ ap (λ m. newBytes 7 m (s .fetch) 0 (keysOf (s .keys)) 0) (c .before .mark-byte .ensures .0)
+    ∙ sort-is (s .preserve) (keysOf (s .keys)) (s .fetch)
 
 pub sort-record-spec : {M : Type 1} → statement M
 sort-record-spec = tie.close (tie.spec mark-byte-requires new-record-requires returns)

@@ -38,10 +38,14 @@ array-write-out : tie.Need-array-write-out
 array-write-out c = search needs
 
 returns : tie.Need-returns
-returns c n e = let s = (c .before .before .before .before .before .before .before .before) .args in marked (s .r .now) _ (s .preserve) (append-nil (c .before .before .before .before .before .copy .last .0) ∙ c .before .before .before .before .before .copy .ensures) n e (c .mark-byte .result) (c .mark-byte .ensures .0) (c .before .before .if1 .taken)
+returns c n e = let s = (c .before .before .before .before .before .before .before .before) .args in
+    marked (s .r .now) _ (s .preserve) (append-nil (c .before .before .before .before .before .copy .last .0)
+    ∙ c .before .before .before .before .before .copy .ensures) n e (c .mark-byte .result) (c .mark-byte .ensures .0) (c .before .before .if1 .taken)
 
 returns-2 : tie.Need-returns-2
-returns-2 c n e = let s = (c .before .before .before .before .before .before) .args in unmarked (s .r .now) _ (s .preserve) (append-nil (c .before .before .before .copy .last .0) ∙ c .before .before .before .copy .ensures) n e (c .if1 .left)
+returns-2 c n e = let s = (c .before .before .before .before .before .before) .args in
+    unmarked (s .r .now) _ (s .preserve) (append-nil (c .before .before .before .copy .last .0) ∙ c .before .before .before .copy .ensures) n e
+    (c .if1 .left)
 
 pub with-mark-spec : {M : Type 1} → statement M
 with-mark-spec =

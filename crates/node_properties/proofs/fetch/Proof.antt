@@ -77,46 +77,65 @@ fetch-field-requires-7 : tie.Need-fetch-field-requires-7
 fetch-field-requires-7 c κs = search needs
 
 returns : tie.Need-returns
-returns c = let r = (c .before .before .before .before .before) .args .r .now in asked-of (λ o. cuts o .fetch) r Source (sym (c .before .before .kind-of .ensures) ∙ c .enum-told .given .1) _ refl
+returns c = let r = (c .before .before .before .before .before) .args .r .now in
+    asked-of (λ o. cuts o .fetch) r Source (sym (c .before .before .kind-of .ensures) ∙ c .enum-told .given .1) _ refl
 
 returns-2 : tie.Need-returns-2
-returns-2 c = let r = (c .before .before .before .before .before) .args .r .now in asked-of (λ o. cuts o .fetch) r Filter (sym (c .before .before .kind-of .ensures) ∙ c .enum-told2 .given .1) _ refl
+returns-2 c = let r = (c .before .before .before .before .before) .args .r .now in
+    asked-of (λ o. cuts o .fetch) r Filter (sym (c .before .before .kind-of .ensures) ∙ c .enum-told2 .given .1) _ refl
 
 returns-3 : tie.Need-returns-3
-returns-3 c = let r = (c .before .before .before .before .before) .args .r .now in asked-of (λ o. cuts o .fetch) r Projection (sym (c .before .before .kind-of .ensures) ∙ c .enum-told3 .given .1) _ refl
+returns-3 c = let r = (c .before .before .before .before .before) .args .r .now in
+    asked-of (λ o. cuts o .fetch) r Projection (sym (c .before .before .kind-of .ensures) ∙ c .enum-told3 .given .1) _ refl
 
 returns-4 : tie.Need-returns-4
-returns-4 c = let r = (c .before .before .before .before .before) .args .r .now in asked-of (λ o. cuts o .fetch) r Union (sym (c .before .before .kind-of .ensures) ∙ c .enum-told4 .given .1) _ refl
+returns-4 c = let r = (c .before .before .before .before .before) .args .r .now in
+    asked-of (λ o. cuts o .fetch) r Union (sym (c .before .before .kind-of .ensures) ∙ c .enum-told4 .given .1) _ refl
 
 returns-5 : tie.Need-returns-5
-returns-5 c = let r = (c .before .before .before .before .before) .args .r .now in asked-of (λ o. cuts o .fetch) r Repartition (sym (c .before .before .kind-of .ensures) ∙ c .enum-told5 .given .1) _ refl
+returns-5 c = let r = (c .before .before .before .before .before) .args .r .now in
+    asked-of (λ o. cuts o .fetch) r Repartition (sym (c .before .before .kind-of .ensures) ∙ c .enum-told5 .given .1) _ refl
 
 returns-6 : tie.Need-returns-6
-returns-6 c = let r = (c .before .before .before .before .before .before) .args .r .now in asked-of (λ o. cuts o .fetch) r Coalesce (sym (c .before .before .before .kind-of .ensures) ∙ c .before .enum-told6 .given .1) _ (c .fetch-field .ensures)
+returns-6 c = let r = (c .before .before .before .before .before .before) .args .r .now in
+    asked-of (λ o. cuts o .fetch) r Coalesce (sym (c .before .before .before .kind-of .ensures) ∙ c .before .enum-told6 .given .1) _
+    (c .fetch-field .ensures)
 
 returns-7 : tie.Need-returns-7
-returns-7 c = let r = (c .before .before .before .before .before .before) .args .r .now in asked-of (λ o. cuts o .fetch) r Sort (sym (c .before .before .before .kind-of .ensures) ∙ c .before .enum-told7 .given .1) _ (c .fetch-field2 .ensures)
+returns-7 c = let r = (c .before .before .before .before .before .before) .args .r .now in
+    asked-of (λ o. cuts o .fetch) r Sort (sym (c .before .before .before .kind-of .ensures) ∙ c .before .enum-told7 .given .1) _ (c .fetch-field2 .ensures)
 
 returns-8 : tie.Need-returns-8
-returns-8 c = let r = (c .before .before .before .before .before .before) .args .r .now in asked-of (λ o. cuts o .fetch) r Merge (sym (c .before .before .before .kind-of .ensures) ∙ c .before .enum-told8 .given .1) _ (c .fetch-field3 .ensures)
+returns-8 c = let r = (c .before .before .before .before .before .before) .args .r .now in
+    asked-of (λ o. cuts o .fetch) r Merge (sym (c .before .before .before .kind-of .ensures) ∙ c .before .enum-told8 .given .1) _ (c .fetch-field3 .ensures)
 
 returns-9 : tie.Need-returns-9
-returns-9 c = let r = (c .before .before .before .before .before .before) .args .r .now in asked-of (λ o. cuts o .fetch) r GlobalLimit (sym (c .before .before .before .kind-of .ensures) ∙ c .before .enum-told9 .given .1) _ (c .fetch-field4 .ensures)
+returns-9 c = let r = (c .before .before .before .before .before .before) .args .r .now in
+    asked-of (λ o. cuts o .fetch) r GlobalLimit (sym (c .before .before .before .kind-of .ensures) ∙ c .before .enum-told9 .given .1) _
+    (c .fetch-field4 .ensures)
 
 returns-10 : tie.Need-returns-10
-returns-10 c = let r = (c .before .before .before .before .before .before) .args .r .now in asked-of (λ o. cuts o .fetch) r LocalLimit (sym (c .before .before .before .kind-of .ensures) ∙ c .before .enum-told10 .given .1) _ (c .fetch-field5 .ensures)
+returns-10 c = let r = (c .before .before .before .before .before .before) .args .r .now in
+    asked-of (λ o. cuts o .fetch) r LocalLimit (sym (c .before .before .before .kind-of .ensures) ∙ c .before .enum-told10 .given .1) _
+    (c .fetch-field5 .ensures)
 
 returns-11 : tie.Need-returns-11
-returns-11 c = let r = (c .before .before .before .before .before) .args .r .now in asked-of (λ o. cuts o .fetch) r SortMergeJoin (sym (c .before .before .kind-of .ensures) ∙ c .enum-told11 .given .1) _ refl
+returns-11 c = let r = (c .before .before .before .before .before) .args .r .now in
+    asked-of (λ o. cuts o .fetch) r SortMergeJoin (sym (c .before .before .kind-of .ensures) ∙ c .enum-told11 .given .1) _ refl
 
 returns-12 : tie.Need-returns-12
-returns-12 c = let r = (c .before .before .before .before .before) .args .r .now in asked-of (λ o. cuts o .fetch) r HashJoin (sym (c .before .before .kind-of .ensures) ∙ c .enum-told12 .given .1) _ refl
+returns-12 c = let r = (c .before .before .before .before .before) .args .r .now in
+    asked-of (λ o. cuts o .fetch) r HashJoin (sym (c .before .before .kind-of .ensures) ∙ c .enum-told12 .given .1) _ refl
 
 returns-13 : tie.Need-returns-13
-returns-13 c = let r = (c .before .before .before .before .before .before) .args .r .now in asked-of (λ o. cuts o .fetch) r OutputRequirement (sym (c .before .before .before .kind-of .ensures) ∙ c .before .enum-told13 .given .1) _ (c .fetch-field6 .ensures)
+returns-13 c = let r = (c .before .before .before .before .before .before) .args .r .now in
+    asked-of (λ o. cuts o .fetch) r OutputRequirement (sym (c .before .before .before .kind-of .ensures) ∙ c .before .enum-told13 .given .1) _
+    (c .fetch-field6 .ensures)
 
 returns-14 : tie.Need-returns-14
-returns-14 c = let r = (c .before .before .before .before .before .before) .args .r .now in asked-of (λ o. cuts o .fetch) r PartialSort (sym (c .before .before .before .kind-of .ensures) ∙ c .before .enum-told14 .given .1) _ (c .fetch-field7 .ensures)
+returns-14 c = let r = (c .before .before .before .before .before .before) .args .r .now in
+    asked-of (λ o. cuts o .fetch) r PartialSort (sym (c .before .before .before .kind-of .ensures) ∙ c .before .enum-told14 .given .1) _
+    (c .fetch-field7 .ensures)
 
 pub fetch-spec : {M : Type 1} → statement M
 fetch-spec =

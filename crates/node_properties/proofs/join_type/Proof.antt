@@ -15,7 +15,11 @@ join-type-of-requires : tie.Need-join-type-of-requires
 join-type-of-requires c κs = search needs
 
 returns : tie.Need-returns
-returns c = let r = (c .before .before .before) .args .r .now in (λ e. op-of r SortMergeJoin e ∙ ap (λ t. sortMergeJoin t (pairsOf r)) (sym (c .join-type-of .ensures)), λ e. op-of r HashJoin e ∙ ap (λ t. hashJoin t (pairsOf r)) (sym (c .join-type-of .ensures)))
+returns c = let r = (c .before .before .before) .args .r .now in (
+  λ e. op-of r SortMergeJoin e ∙ ap (λ t. sortMergeJoin t (pairsOf r)) (sym (c .join-type-of .ensures)),
+  λ e. op-of r HashJoin e
+      ∙ ap (λ t. hashJoin t (pairsOf r)) (sym (c .join-type-of .ensures)),
+)
 
 pub join-type-spec : {M : Type 1} → statement M
 join-type-spec = tie.close (tie.spec shared-slice-read-join-type-of join-type-of-requires returns)

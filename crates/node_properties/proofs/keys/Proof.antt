@@ -11,7 +11,8 @@ key-list-requires : tie.Need-key-list-requires
 key-list-requires c κs = ((c .before) .pre .long, (c .before) .pre .few)
 
 returns : tie.Need-returns
-returns c = subst (λ (l : List Key). Keyed l (c .key-list .result)) (keys-are ((c .before .before) .args .r .now) ((c .before .before) .pre)) (c .key-list .ensures)
+returns c = subst (λ (l : List Key). Keyed l (c .key-list .result)) (keys-are ((c .before .before) .args .r .now) ((c .before .before) .pre))
+    (c .key-list .ensures)
 
 pub keys-spec : {M : Type 1} → statement M
 keys-spec = tie.close (tie.spec key-list-requires returns)

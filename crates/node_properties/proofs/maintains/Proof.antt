@@ -89,46 +89,69 @@ enum-told-14 : tie.Need-enum-told-14
 enum-told-14 c = search needs
 
 returns : tie.Need-returns
-returns c fs a = let s = (c .before .before .before .before .before .before .before) in let r = s .args .r .now in let e = (sym (c .before .before .kind-of .ensures) ∙ c .enum-told .given .1) in asked-of (λ o. maintains o fs (s .args .j)) r Source e _ refl
+returns c fs a = let s = (c .before .before .before .before .before .before .before) in let r = s .args .r .now in
+    let e = (sym (c .before .before .kind-of .ensures) ∙ c .enum-told .given .1) in asked-of (λ o. maintains o fs (s .args .j)) r Source e _ refl
 
 returns-2 : tie.Need-returns-2
-returns-2 c fs a = let s = (c .before .before .before .before .before .before .before) in let r = s .args .r .now in let e = (sym (c .before .before .kind-of .ensures) ∙ c .enum-told2 .given .1) in asked-of (λ o. maintains o fs (s .args .j)) r Filter e _ refl
+returns-2 c fs a = let s = (c .before .before .before .before .before .before .before) in let r = s .args .r .now in
+    let e = (sym (c .before .before .kind-of .ensures) ∙ c .enum-told2 .given .1) in asked-of (λ o. maintains o fs (s .args .j)) r Filter e _ refl
 
 returns-3 : tie.Need-returns-3
-returns-3 c fs a = let s = (c .before .before .before .before .before .before .before) in let r = s .args .r .now in let e = (sym (c .before .before .kind-of .ensures) ∙ c .enum-told3 .given .1) in asked-of (λ o. maintains o fs (s .args .j)) r Projection e _ refl
+returns-3 c fs a = let s = (c .before .before .before .before .before .before .before) in let r = s .args .r .now in
+    let e = (sym (c .before .before .kind-of .ensures) ∙ c .enum-told3 .given .1) in asked-of (λ o. maintains o fs (s .args .j)) r Projection e _ refl
 
 returns-4 : tie.Need-returns-4
-returns-4 c fs a = let s = (c .before .before .before .before .before .before .before .before .before) in let r = s .args .r .now in let e = (sym (c .before .before .before .before .kind-of .ensures) ∙ c .before .before .enum-told4 .given .1) in union-maintains r fs (s .args .j) (told (s .args .own .now)) (told (s .args .child .now)) a e (c .before .is-ordered .result) (c .equally-long .result) (c .before .is-ordered .ensures) (c .equally-long .ensures)
+returns-4 c fs a = let s = (c .before .before .before .before .before .before .before .before .before) in let r = s .args .r .now in
+    let e = (sym (c .before .before .before .before .kind-of .ensures) ∙ c .before .before .enum-told4 .given .1) in
+    union-maintains r fs (s .args .j) (told (s .args .own .now)) (told (s .args .child .now)) a e (c .before .is-ordered .result) (c .equally-long .result)
+    (c .before .is-ordered .ensures) (c .equally-long .ensures)
 
 returns-5 : tie.Need-returns-5
-returns-5 c fs a = let s = (c .before .before .before .before .before .before .before .before .before) in let r = s .args .r .now in let e = (sym (c .before .before .before .before .kind-of .ensures) ∙ c .before .before .enum-told5 .given .1) in repartition-maintains r fs (s .args .j) (told (s .args .own .now)) (told (s .args .child .now)) a e (c .keeps-order .result) (c .before .preserves .result) (c .before .preserves .ensures) (c .keeps-order .ensures)
+returns-5 c fs a = let s = (c .before .before .before .before .before .before .before .before .before) in let r = s .args .r .now in
+    let e = (sym (c .before .before .before .before .kind-of .ensures) ∙ c .before .before .enum-told5 .given .1) in
+    repartition-maintains r fs (s .args .j) (told (s .args .own .now)) (told (s .args .child .now)) a e (c .keeps-order .result)
+    (c .before .preserves .result) (c .before .preserves .ensures) (c .keeps-order .ensures)
 
 returns-6 : tie.Need-returns-6
-returns-6 c fs a = let s = (c .before .before .before .before .before .before .before) in let r = s .args .r .now in let e = (sym (c .before .before .kind-of .ensures) ∙ c .enum-told6 .given .1) in asked-of (λ o. maintains o fs (s .args .j)) r Coalesce e _ refl
+returns-6 c fs a = let s = (c .before .before .before .before .before .before .before) in let r = s .args .r .now in
+    let e = (sym (c .before .before .kind-of .ensures) ∙ c .enum-told6 .given .1) in asked-of (λ o. maintains o fs (s .args .j)) r Coalesce e _ refl
 
 returns-7 : tie.Need-returns-7
-returns-7 c fs a = let s = (c .before .before .before .before .before .before .before) in let r = s .args .r .now in let e = (sym (c .before .before .kind-of .ensures) ∙ c .enum-told7 .given .1) in asked-of (λ o. maintains o fs (s .args .j)) r Sort e _ refl
+returns-7 c fs a = let s = (c .before .before .before .before .before .before .before) in let r = s .args .r .now in
+    let e = (sym (c .before .before .kind-of .ensures) ∙ c .enum-told7 .given .1) in asked-of (λ o. maintains o fs (s .args .j)) r Sort e _ refl
 
 returns-8 : tie.Need-returns-8
-returns-8 c fs a = let s = (c .before .before .before .before .before .before .before) in let r = s .args .r .now in let e = (sym (c .before .before .kind-of .ensures) ∙ c .enum-told8 .given .1) in asked-of (λ o. maintains o fs (s .args .j)) r Merge e _ refl
+returns-8 c fs a = let s = (c .before .before .before .before .before .before .before) in let r = s .args .r .now in
+    let e = (sym (c .before .before .kind-of .ensures) ∙ c .enum-told8 .given .1) in asked-of (λ o. maintains o fs (s .args .j)) r Merge e _ refl
 
 returns-9 : tie.Need-returns-9
-returns-9 c fs a = let s = (c .before .before .before .before .before .before .before) in let r = s .args .r .now in let e = (sym (c .before .before .kind-of .ensures) ∙ c .enum-told9 .given .1) in asked-of (λ o. maintains o fs (s .args .j)) r GlobalLimit e _ refl
+returns-9 c fs a = let s = (c .before .before .before .before .before .before .before) in let r = s .args .r .now in
+    let e = (sym (c .before .before .kind-of .ensures) ∙ c .enum-told9 .given .1) in asked-of (λ o. maintains o fs (s .args .j)) r GlobalLimit e _ refl
 
 returns-10 : tie.Need-returns-10
-returns-10 c fs a = let s = (c .before .before .before .before .before .before .before) in let r = s .args .r .now in let e = (sym (c .before .before .kind-of .ensures) ∙ c .enum-told10 .given .1) in asked-of (λ o. maintains o fs (s .args .j)) r LocalLimit e _ refl
+returns-10 c fs a = let s = (c .before .before .before .before .before .before .before) in let r = s .args .r .now in
+    let e = (sym (c .before .before .kind-of .ensures) ∙ c .enum-told10 .given .1) in asked-of (λ o. maintains o fs (s .args .j)) r LocalLimit e _ refl
 
 returns-11 : tie.Need-returns-11
-returns-11 c fs a = let s = (c .before .before .before .before .before .before .before .before .before .before) in let r = s .args .r .now in let e = (sym (c .before .before .before .before .before .kind-of .ensures) ∙ c .before .before .before .enum-told11 .given .1) in asked-of (λ o. maintains o fs (s .args .j)) r SortMergeJoin e _ (c .sort-merge-keeps .ensures ∙ ap (λ t. keptSide (smjKept t) (s .args .j)) (c .before .join-type-of .ensures))
+returns-11 c fs a = let s = (c .before .before .before .before .before .before .before .before .before .before) in let r = s .args .r .now in
+    let e = (sym (c .before .before .before .before .before .kind-of .ensures) ∙ c .before .before .before .enum-told11 .given .1) in
+    asked-of (λ o. maintains o fs (s .args .j)) r SortMergeJoin e _ (c .sort-merge-keeps .ensures ∙ ap (λ t. keptSide (smjKept t) (s .args .j))
+    (c .before .join-type-of .ensures))
 
 returns-12 : tie.Need-returns-12
-returns-12 c fs a = let s = (c .before .before .before .before .before .before .before .before .before .before) in let r = s .args .r .now in let e = (sym (c .before .before .before .before .before .kind-of .ensures) ∙ c .before .before .before .enum-told12 .given .1) in asked-of (λ o. maintains o fs (s .args .j)) r HashJoin e _ (c .hash-keeps .ensures ∙ ap (λ t. keptSide (hashKept t) (s .args .j)) (c .before .join-type-of2 .ensures))
+returns-12 c fs a = let s = (c .before .before .before .before .before .before .before .before .before .before) in let r = s .args .r .now in
+    let e = (sym (c .before .before .before .before .before .kind-of .ensures) ∙ c .before .before .before .enum-told12 .given .1) in
+    asked-of (λ o. maintains o fs (s .args .j)) r HashJoin e _
+    (c .hash-keeps .ensures ∙ ap (λ t. keptSide (hashKept t) (s .args .j)) (c .before .join-type-of2 .ensures))
 
 returns-13 : tie.Need-returns-13
-returns-13 c fs a = let s = (c .before .before .before .before .before .before .before) in let r = s .args .r .now in let e = (sym (c .before .before .kind-of .ensures) ∙ c .enum-told13 .given .1) in asked-of (λ o. maintains o fs (s .args .j)) r OutputRequirement e _ refl
+returns-13 c fs a = let s = (c .before .before .before .before .before .before .before) in let r = s .args .r .now in
+    let e = (sym (c .before .before .kind-of .ensures) ∙ c .enum-told13 .given .1) in
+    asked-of (λ o. maintains o fs (s .args .j)) r OutputRequirement e _ refl
 
 returns-14 : tie.Need-returns-14
-returns-14 c fs a = let s = (c .before .before .before .before .before .before .before) in let r = s .args .r .now in let e = (sym (c .before .before .kind-of .ensures) ∙ c .enum-told14 .given .1) in asked-of (λ o. maintains o fs (s .args .j)) r PartialSort e _ refl
+returns-14 c fs a = let s = (c .before .before .before .before .before .before .before) in let r = s .args .r .now in
+    let e = (sym (c .before .before .kind-of .ensures) ∙ c .enum-told14 .given .1) in asked-of (λ o. maintains o fs (s .args .j)) r PartialSort e _ refl
 
 pub maintains-spec : {M : Type 1} → statement M
 maintains-spec =

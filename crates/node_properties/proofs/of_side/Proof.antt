@@ -14,7 +14,9 @@ order-of-requires : tie.Need-order-of-requires
 order-of-requires c κs = search needs
 
 returns : tie.Need-returns
-returns c = let s = (c .before .before .before .before) in let r = s .args .r .now in left-order (pairsOf r) (keysOf (c .before .key-list .result)) (s .args .j) (c .order-of .result) (c .before .before .if1 .taken) (c .before .key-list .ensures .is ∙ left-keys r (s .pre .0) (s .pre .1)) (c .order-of .ensures)
+returns c = let s = (c .before .before .before .before) in let r = s .args .r .now in
+    left-order (pairsOf r) (keysOf (c .before .key-list .result)) (s .args .j) (c .order-of .result) (c .before .before .if1 .taken)
+    (c .before .key-list .ensures .is ∙ left-keys r (s .pre .0) (s .pre .1)) (c .order-of .ensures)
 
 right-key-list-requires : tie.Need-right-key-list-requires
 right-key-list-requires c κs = ((c .before .before .before) .pre .0 .long, (c .before .before .before) .pre .0 .few)
@@ -23,7 +25,9 @@ order-of-requires-2 : tie.Need-order-of-requires-2
 order-of-requires-2 c κs = search needs
 
 returns-2 : tie.Need-returns-2
-returns-2 c = let s = (c .before .before .before .before .before) in let r = s .args .r .now in right-order (pairsOf r) (keysOf (c .before .right-key-list .result)) (s .args .j) (c .order-of2 .result) (c .before .before .if2 .taken) (c .before .right-key-list .ensures .is ∙ right-keys r (s .pre .0) (s .pre .1)) (c .order-of2 .ensures)
+returns-2 c = let s = (c .before .before .before .before .before) in let r = s .args .r .now in
+    right-order (pairsOf r) (keysOf (c .before .right-key-list .result)) (s .args .j) (c .order-of2 .result) (c .before .before .if2 .taken)
+    (c .before .right-key-list .ensures .is ∙ right-keys r (s .pre .0) (s .pre .1)) (c .order-of2 .ensures)
 
 returns-3 : tie.Need-returns-3
 returns-3 c = let s = (c .before .before .before) in no-side (pairsOf (s .args .r .now)) (s .args .j) (c .before .if1 .left) (c .if2 .left)

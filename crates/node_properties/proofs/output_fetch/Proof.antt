@@ -18,10 +18,14 @@ fetch-requires : tie.Need-fetch-requires
 fetch-requires c κs = search needs
 
 returns : tie.Need-returns
-returns c = let r = (c .before .before .before .before) .args .r .now in c .fetch .ensures ∙ ap (λ b. cond b (cuts (decode r) .fetch) Unlimited) (sym (sym (code-is r 13 ((c .before .before .before .before) .pre)) ∙ eq-eqb (getD r 0 0) 13 (c .before .if1 .taken)))
+returns c = let r = (c .before .before .before .before) .args .r .now in
+    c .fetch .ensures ∙ ap (λ b. cond b (cuts (decode r) .fetch) Unlimited)
+    (sym (sym (code-is r 13 ((c .before .before .before .before) .pre)) ∙ eq-eqb (getD r 0 0) 13 (c .before .if1 .taken)))
 
 returns-2 : tie.Need-returns-2
-returns-2 c = let r = (c .before .before .before) .args .r .now in ap (λ b. cond b (cuts (decode r) .fetch) Unlimited) (sym (sym (code-is r 13 ((c .before .before .before) .pre)) ∙ ne-eqb (getD r 0 0) 13 (c .if1 .left)))
+returns-2 c = let r = (c .before .before .before) .args .r .now in
+    ap (λ b. cond b (cuts (decode r) .fetch) Unlimited)
+    (sym (sym (code-is r 13 ((c .before .before .before) .pre)) ∙ ne-eqb (getD r 0 0) 13 (c .if1 .left)))
 
 pub output-fetch-spec : {M : Type 1} → statement M
 output-fetch-spec = tie.close (tie.spec shared-slice-read-if1 fetch-requires returns returns-2)

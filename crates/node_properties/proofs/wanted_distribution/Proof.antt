@@ -86,46 +86,77 @@ sort-distribution-requires-2 : tie.Need-sort-distribution-requires-2
 sort-distribution-requires-2 c κs = search needs
 
 returns : tie.Need-returns
-returns c = let r = (c .before .before .before .before .before) .args .r .now in asked-of (λ o. distOf o ((c .before .before .before .before .before) .args .j)) r Source (sym (c .before .before .kind-of .ensures) ∙ c .enum-told .given .1) _ refl
+returns c = let r = (c .before .before .before .before .before) .args .r .now in
+    asked-of (λ o. distOf o ((c .before .before .before .before .before) .args .j)) r Source
+    (sym (c .before .before .kind-of .ensures) ∙ c .enum-told .given .1) _ refl
 
 returns-2 : tie.Need-returns-2
-returns-2 c = let r = (c .before .before .before .before .before) .args .r .now in asked-of (λ o. distOf o ((c .before .before .before .before .before) .args .j)) r Filter (sym (c .before .before .kind-of .ensures) ∙ c .enum-told2 .given .1) _ refl
+returns-2 c = let r = (c .before .before .before .before .before) .args .r .now in
+    asked-of (λ o. distOf o ((c .before .before .before .before .before) .args .j)) r Filter
+    (sym (c .before .before .kind-of .ensures) ∙ c .enum-told2 .given .1) _ refl
 
 returns-3 : tie.Need-returns-3
-returns-3 c = let r = (c .before .before .before .before .before) .args .r .now in asked-of (λ o. distOf o ((c .before .before .before .before .before) .args .j)) r Projection (sym (c .before .before .kind-of .ensures) ∙ c .enum-told3 .given .1) _ refl
+returns-3 c = let r = (c .before .before .before .before .before) .args .r .now in
+    asked-of (λ o. distOf o ((c .before .before .before .before .before) .args .j)) r Projection
+    (sym (c .before .before .kind-of .ensures) ∙ c .enum-told3 .given .1) _ refl
 
 returns-4 : tie.Need-returns-4
-returns-4 c = let r = (c .before .before .before .before .before) .args .r .now in asked-of (λ o. distOf o ((c .before .before .before .before .before) .args .j)) r Union (sym (c .before .before .kind-of .ensures) ∙ c .enum-told4 .given .1) _ refl
+returns-4 c = let r = (c .before .before .before .before .before) .args .r .now in
+    asked-of (λ o. distOf o ((c .before .before .before .before .before) .args .j)) r Union
+    (sym (c .before .before .kind-of .ensures) ∙ c .enum-told4 .given .1) _ refl
 
 returns-5 : tie.Need-returns-5
-returns-5 c = let r = (c .before .before .before .before .before) .args .r .now in asked-of (λ o. distOf o ((c .before .before .before .before .before) .args .j)) r Repartition (sym (c .before .before .kind-of .ensures) ∙ c .enum-told5 .given .1) _ refl
+returns-5 c = let r = (c .before .before .before .before .before) .args .r .now in
+    asked-of (λ o. distOf o ((c .before .before .before .before .before) .args .j)) r Repartition
+    (sym (c .before .before .kind-of .ensures) ∙ c .enum-told5 .given .1) _ refl
 
 returns-6 : tie.Need-returns-6
-returns-6 c = let r = (c .before .before .before .before .before) .args .r .now in asked-of (λ o. distOf o ((c .before .before .before .before .before) .args .j)) r Coalesce (sym (c .before .before .kind-of .ensures) ∙ c .enum-told6 .given .1) _ refl
+returns-6 c = let r = (c .before .before .before .before .before) .args .r .now in
+    asked-of (λ o. distOf o ((c .before .before .before .before .before) .args .j)) r Coalesce
+    (sym (c .before .before .kind-of .ensures) ∙ c .enum-told6 .given .1) _ refl
 
 returns-7 : tie.Need-returns-7
-returns-7 c = let r = (c .before .before .before .before .before .before .before) .args .r .now in asked-of (λ o. distOf o ((c .before .before .before .before .before .before .before) .args .j)) r Sort (sym (c .before .before .before .before .kind-of .ensures) ∙ c .before .before .enum-told7 .given .1) _ (c .sort-distribution .ensures ∙ ap sortDist (c .before .preserves .ensures))
+returns-7 c = let r = (c .before .before .before .before .before .before .before) .args .r .now in
+    asked-of (λ o. distOf o ((c .before .before .before .before .before .before .before) .args .j)) r Sort
+    (sym (c .before .before .before .before .kind-of .ensures) ∙ c .before .before .enum-told7 .given .1) _
+    (c .sort-distribution .ensures ∙ ap sortDist (c .before .preserves .ensures))
 
 returns-8 : tie.Need-returns-8
-returns-8 c = let r = (c .before .before .before .before .before) .args .r .now in asked-of (λ o. distOf o ((c .before .before .before .before .before) .args .j)) r Merge (sym (c .before .before .kind-of .ensures) ∙ c .enum-told8 .given .1) _ refl
+returns-8 c = let r = (c .before .before .before .before .before) .args .r .now in
+    asked-of (λ o. distOf o ((c .before .before .before .before .before) .args .j)) r Merge
+    (sym (c .before .before .kind-of .ensures) ∙ c .enum-told8 .given .1) _ refl
 
 returns-9 : tie.Need-returns-9
-returns-9 c = let r = (c .before .before .before .before .before) .args .r .now in asked-of (λ o. distOf o ((c .before .before .before .before .before) .args .j)) r GlobalLimit (sym (c .before .before .kind-of .ensures) ∙ c .enum-told9 .given .1) _ refl
+returns-9 c = let r = (c .before .before .before .before .before) .args .r .now in
+    asked-of (λ o. distOf o ((c .before .before .before .before .before) .args .j)) r GlobalLimit
+    (sym (c .before .before .kind-of .ensures) ∙ c .enum-told9 .given .1) _ refl
 
 returns-10 : tie.Need-returns-10
-returns-10 c = let r = (c .before .before .before .before .before) .args .r .now in asked-of (λ o. distOf o ((c .before .before .before .before .before) .args .j)) r LocalLimit (sym (c .before .before .kind-of .ensures) ∙ c .enum-told10 .given .1) _ refl
+returns-10 c = let r = (c .before .before .before .before .before) .args .r .now in
+    asked-of (λ o. distOf o ((c .before .before .before .before .before) .args .j)) r LocalLimit
+    (sym (c .before .before .kind-of .ensures) ∙ c .enum-told10 .given .1) _ refl
 
 returns-11 : tie.Need-returns-11
-returns-11 c = let r = (c .before .before .before .before .before .before) .args .r .now in asked-of (λ o. distOf o ((c .before .before .before .before .before .before) .args .j)) r SortMergeJoin (sym (c .before .before .before .kind-of .ensures) ∙ c .before .enum-told11 .given .1) _ (c .by-side .ensures)
+returns-11 c = let r = (c .before .before .before .before .before .before) .args .r .now in
+    asked-of (λ o. distOf o ((c .before .before .before .before .before .before) .args .j)) r SortMergeJoin
+    (sym (c .before .before .before .kind-of .ensures) ∙ c .before .enum-told11 .given .1) _ (c .by-side .ensures)
 
 returns-12 : tie.Need-returns-12
-returns-12 c = let r = (c .before .before .before .before .before .before) .args .r .now in asked-of (λ o. distOf o ((c .before .before .before .before .before .before) .args .j)) r HashJoin (sym (c .before .before .before .kind-of .ensures) ∙ c .before .enum-told12 .given .1) _ (c .left-single .ensures)
+returns-12 c = let r = (c .before .before .before .before .before .before) .args .r .now in
+    asked-of (λ o. distOf o ((c .before .before .before .before .before .before) .args .j)) r HashJoin (sym (c .before .before .before .kind-of .ensures)
+    ∙ c .before .enum-told12 .given .1) _ (c .left-single .ensures)
 
 returns-13 : tie.Need-returns-13
-returns-13 c = let r = (c .before .before .before .before .before .before .before .before) .args .r .now in asked-of (λ o. distOf o ((c .before .before .before .before .before .before .before .before) .args .j)) r OutputRequirement (sym (c .before .before .before .before .before .kind-of .ensures) ∙ c .before .before .before .enum-told13 .given .1) _ (c .distribution-from .ensures ∙ ap (distributionOf (getD r 14 0)) (c .before .get32 .ensures ∙ tail-set r))
+returns-13 c = let r = (c .before .before .before .before .before .before .before .before) .args .r .now in
+    asked-of (λ o. distOf o ((c .before .before .before .before .before .before .before .before) .args .j)) r OutputRequirement
+    (sym (c .before .before .before .before .before .kind-of .ensures) ∙ c .before .before .before .enum-told13 .given .1) _
+    (c .distribution-from .ensures ∙ ap (distributionOf (getD r 14 0)) (c .before .get32 .ensures ∙ tail-set r))
 
 returns-14 : tie.Need-returns-14
-returns-14 c = let r = (c .before .before .before .before .before .before .before) .args .r .now in asked-of (λ o. distOf o ((c .before .before .before .before .before .before .before) .args .j)) r PartialSort (sym (c .before .before .before .before .kind-of .ensures) ∙ c .before .before .enum-told14 .given .1) _ (c .sort-distribution2 .ensures ∙ ap sortDist (c .before .preserves2 .ensures))
+returns-14 c = let r = (c .before .before .before .before .before .before .before) .args .r .now in
+    asked-of (λ o. distOf o ((c .before .before .before .before .before .before .before) .args .j)) r PartialSort
+    (sym (c .before .before .before .before .kind-of .ensures) ∙ c .before .before .enum-told14 .given .1) _
+    (c .sort-distribution2 .ensures ∙ ap sortDist (c .before .preserves2 .ensures))
 
 pub wanted-distribution-spec : {M : Type 1} → statement M
 wanted-distribution-spec =

@@ -83,52 +83,84 @@ wide-requires : tie.Need-wide-requires
 wide-requires c κs = search needs
 
 front-requires : tie.Need-front-requires
-front-requires c κs = let s = (c .before .before .before .before .before .before .before .before) in let r = s .args .r .now in let k = c .before .before .key-list3 .result in let n = keys-count r (s .pre) k (c .before .before .key-list3 .ensures) in (omega (arith, prefix-inside r (s .pre) (sym (c .before .before .before .before .before .kind-of .ensures) ∙ c .before .before .before .enum-told14 .given .1), c .wide .ensures), c .before .before .key-list3 .ensures .few)
+front-requires c κs = let s = (c .before .before .before .before .before .before .before .before) in let r = s .args .r .now in
+    let k = c .before .before .key-list3 .result in let n = keys-count r (s .pre) k (c .before .before .key-list3 .ensures) in (
+      omega (
+        arith,
+        prefix-inside r (s .pre) (sym (c .before .before .before .before .before .kind-of .ensures)
+            ∙ c .before .before .before .enum-told14 .given .1),
+        c .wide .ensures,
+      ),
+      c .before .before .key-list3 .ensures .few,
+    )
 
 of-first-requires-3 : tie.Need-of-first-requires-3
 of-first-requires-3 c κs = search needs
 
 returns : tie.Need-returns
-returns c = let s = (c .before .before .before .before .before) in let r = s .args .r .now in let e = (sym (c .before .before .kind-of .ensures) ∙ c .enum-told .given .1) in wants-none r Source e (s .args .j) refl
+returns c = let s = (c .before .before .before .before .before) in let r = s .args .r .now in
+    let e = (sym (c .before .before .kind-of .ensures) ∙ c .enum-told .given .1) in wants-none r Source e (s .args .j) refl
 
 returns-2 : tie.Need-returns-2
-returns-2 c = let s = (c .before .before .before .before .before) in let r = s .args .r .now in let e = (sym (c .before .before .kind-of .ensures) ∙ c .enum-told2 .given .1) in wants-none r Filter e (s .args .j) refl
+returns-2 c = let s = (c .before .before .before .before .before) in let r = s .args .r .now in
+    let e = (sym (c .before .before .kind-of .ensures) ∙ c .enum-told2 .given .1) in wants-none r Filter e (s .args .j) refl
 
 returns-3 : tie.Need-returns-3
-returns-3 c = let s = (c .before .before .before .before .before) in let r = s .args .r .now in let e = (sym (c .before .before .kind-of .ensures) ∙ c .enum-told3 .given .1) in wants-none r Projection e (s .args .j) refl
+returns-3 c = let s = (c .before .before .before .before .before) in let r = s .args .r .now in
+    let e = (sym (c .before .before .kind-of .ensures) ∙ c .enum-told3 .given .1) in wants-none r Projection e (s .args .j) refl
 
 returns-4 : tie.Need-returns-4
-returns-4 c = let s = (c .before .before .before .before .before) in let r = s .args .r .now in let e = (sym (c .before .before .kind-of .ensures) ∙ c .enum-told4 .given .1) in wants-none r Union e (s .args .j) refl
+returns-4 c = let s = (c .before .before .before .before .before) in let r = s .args .r .now in
+    let e = (sym (c .before .before .kind-of .ensures) ∙ c .enum-told4 .given .1) in wants-none r Union e (s .args .j) refl
 
 returns-5 : tie.Need-returns-5
-returns-5 c = let s = (c .before .before .before .before .before) in let r = s .args .r .now in let e = (sym (c .before .before .kind-of .ensures) ∙ c .enum-told5 .given .1) in wants-none r Repartition e (s .args .j) refl
+returns-5 c = let s = (c .before .before .before .before .before) in let r = s .args .r .now in
+    let e = (sym (c .before .before .kind-of .ensures) ∙ c .enum-told5 .given .1) in wants-none r Repartition e (s .args .j) refl
 
 returns-6 : tie.Need-returns-6
-returns-6 c = let s = (c .before .before .before .before .before) in let r = s .args .r .now in let e = (sym (c .before .before .kind-of .ensures) ∙ c .enum-told6 .given .1) in wants-none r Coalesce e (s .args .j) refl
+returns-6 c = let s = (c .before .before .before .before .before) in let r = s .args .r .now in
+    let e = (sym (c .before .before .kind-of .ensures) ∙ c .enum-told6 .given .1) in wants-none r Coalesce e (s .args .j) refl
 
 returns-7 : tie.Need-returns-7
-returns-7 c = let s = (c .before .before .before .before .before) in let r = s .args .r .now in let e = (sym (c .before .before .kind-of .ensures) ∙ c .enum-told7 .given .1) in wants-none r Sort e (s .args .j) refl
+returns-7 c = let s = (c .before .before .before .before .before) in let r = s .args .r .now in
+    let e = (sym (c .before .before .kind-of .ensures) ∙ c .enum-told7 .given .1) in wants-none r Sort e (s .args .j) refl
 
 returns-8 : tie.Need-returns-8
-returns-8 c = let s = (c .before .before .before .before .before .before .before) in let r = s .args .r .now in let e = (sym (c .before .before .before .before .kind-of .ensures) ∙ c .before .before .enum-told8 .given .1) in wants-first r Merge e (s .args .j) (keysOf (c .before .key-list .result)) (fromBytes r .keys) (c .of-first .result) (c .before .key-list .ensures .is ∙ keys-are r (s .pre)) refl (c .of-first .ensures)
+returns-8 c = let s = (c .before .before .before .before .before .before .before) in let r = s .args .r .now in
+    let e = (sym (c .before .before .before .before .kind-of .ensures) ∙ c .before .before .enum-told8 .given .1) in
+    wants-first r Merge e (s .args .j) (keysOf (c .before .key-list .result)) (fromBytes r .keys) (c .of-first .result)
+    (c .before .key-list .ensures .is ∙ keys-are r (s .pre)) refl (c .of-first .ensures)
 
 returns-9 : tie.Need-returns-9
-returns-9 c = let s = (c .before .before .before .before .before) in let r = s .args .r .now in let e = (sym (c .before .before .kind-of .ensures) ∙ c .enum-told9 .given .1) in wants-none r GlobalLimit e (s .args .j) refl
+returns-9 c = let s = (c .before .before .before .before .before) in let r = s .args .r .now in
+    let e = (sym (c .before .before .kind-of .ensures) ∙ c .enum-told9 .given .1) in wants-none r GlobalLimit e (s .args .j) refl
 
 returns-10 : tie.Need-returns-10
-returns-10 c = let s = (c .before .before .before .before .before) in let r = s .args .r .now in let e = (sym (c .before .before .kind-of .ensures) ∙ c .enum-told10 .given .1) in wants-none r LocalLimit e (s .args .j) refl
+returns-10 c = let s = (c .before .before .before .before .before) in let r = s .args .r .now in
+    let e = (sym (c .before .before .kind-of .ensures) ∙ c .enum-told10 .given .1) in wants-none r LocalLimit e (s .args .j) refl
 
 returns-11 : tie.Need-returns-11
-returns-11 c = let s = (c .before .before .before .before .before .before) in let r = s .args .r .now in let e = (sym (c .before .before .before .kind-of .ensures) ∙ c .before .enum-told11 .given .1) in wants-this r SortMergeJoin e (s .args .j) (c .of-side .result) (c .of-side .ensures)
+returns-11 c = let s = (c .before .before .before .before .before .before) in let r = s .args .r .now in
+    let e = (sym (c .before .before .before .kind-of .ensures) ∙ c .before .enum-told11 .given .1) in
+    wants-this r SortMergeJoin e (s .args .j) (c .of-side .result) (c .of-side .ensures)
 
 returns-12 : tie.Need-returns-12
-returns-12 c = let s = (c .before .before .before .before .before) in let r = s .args .r .now in let e = (sym (c .before .before .kind-of .ensures) ∙ c .enum-told12 .given .1) in wants-none r HashJoin e (s .args .j) refl
+returns-12 c = let s = (c .before .before .before .before .before) in let r = s .args .r .now in
+    let e = (sym (c .before .before .kind-of .ensures) ∙ c .enum-told12 .given .1) in wants-none r HashJoin e (s .args .j) refl
 
 returns-13 : tie.Need-returns-13
-returns-13 c = let s = (c .before .before .before .before .before .before .before) in let r = s .args .r .now in let e = (sym (c .before .before .before .before .kind-of .ensures) ∙ c .before .before .enum-told13 .given .1) in wants-first r OutputRequirement e (s .args .j) (keysOf (c .before .key-list2 .result)) (fromBytes r .keys) (c .of-first2 .result) (c .before .key-list2 .ensures .is ∙ keys-are r (s .pre)) refl (c .of-first2 .ensures)
+returns-13 c = let s = (c .before .before .before .before .before .before .before) in let r = s .args .r .now in
+    let e = (sym (c .before .before .before .before .kind-of .ensures) ∙ c .before .before .enum-told13 .given .1) in
+    wants-first r OutputRequirement e (s .args .j) (keysOf (c .before .key-list2 .result)) (fromBytes r .keys) (c .of-first2 .result)
+    (c .before .key-list2 .ensures .is ∙ keys-are r (s .pre)) refl (c .of-first2 .ensures)
 
 returns-14 : tie.Need-returns-14
-returns-14 c = let s = (c .before .before .before .before .before .before .before .before .before .before) in let r = s .args .r .now in let e = (sym (c .before .before .before .before .before .before .before .kind-of .ensures) ∙ c .before .before .before .before .before .enum-told14 .given .1) in wants-first r PartialSort e (s .args .j) (keysOf (c .before .front .result)) (take (getD r 14 0) (fromBytes r .keys)) (c .of-first3 .result) (c .before .front .ensures .is ∙ ap₂ take (c .before .before .wide .ensures) (c .before .before .before .before .key-list3 .ensures .is ∙ keys-are r (s .pre))) refl (c .of-first3 .ensures)
+returns-14 c = let s = (c .before .before .before .before .before .before .before .before .before .before) in let r = s .args .r .now in
+    let e = (sym (c .before .before .before .before .before .before .before .kind-of .ensures)
+    ∙ c .before .before .before .before .before .enum-told14 .given .1) in
+    wants-first r PartialSort e (s .args .j) (keysOf (c .before .front .result)) (take (getD r 14 0) (fromBytes r .keys)) (c .of-first3 .result)
+    (c .before .front .ensures .is ∙ ap₂ take (c .before .before .wide .ensures) (c .before .before .before .before .key-list3 .ensures .is
+    ∙ keys-are r (s .pre))) refl (c .of-first3 .ensures)
 
 pub wanted-order-spec : {M : Type 1} → statement M
 wanted-order-spec =

@@ -126,7 +126,8 @@ loop-again c =
 -- one tree stands on the stack, and it is the file's
 ended : (c : tie.After-loop Inv-loop μ-loop)
     → (c .before .loop .t < 126)
-    × HoldsTree (c .before .before .before .before .args .s .now) (c .before .loop .m) (c .before .loop .u) (getD (c .before .loop .w) (c .before .loop .t) 0)
+    × HoldsTree (c .before .before .before .before .args .s .now) (c .before .loop .m) (c .before .loop .u)
+    (getD (c .before .loop .w) (c .before .loop .t) 0)
 ended c =
     let s = c .before .before .before .before in let l = c .before .loop in
     fill-end (s .args .s .now) (s .args .c) _ (s .pre) (l .i) (l .u) (l .t) (l .w) (l .m) (c .loop-test .left) (l .inv .1)

@@ -18,7 +18,8 @@ child-count-requires c κs = search needs
 loop-holds : tie.Need-loop-holds Inv-loop μ-loop
 loop-holds c =
     let c₃ = c .before .before .before in
-    let s = c₃ in let e = length-kids (s .args .m .now) (s .args .k) in rw (c .child-count .ensures ∙ sym e) (pushed-none (slot (s .args .m .now) (s .args .k) .kids) (s .args .t) (s .args .w .now))
+    let s = c₃ in let e = length-kids (s .args .m .now) (s .args .k) in
+    rw (c .child-count .ensures ∙ sym e) (pushed-none (slot (s .args .m .now) (s .args .k) .kids) (s .args .t) (s .args .w .now))
 
 sub-j : tie.Need-sub-j Inv-loop μ-loop
 sub-j c = search needs
@@ -26,25 +27,29 @@ sub-j c = search needs
 sub-top : tie.Need-sub-top Inv-loop μ-loop
 sub-top c =
     let c₅ = c .before .before .before .before .before in
-    let s = c₅ in let l = c .before .loop in let e = length-kids (s .args .m .now) (s .args .k) in let p = l .inv in let a = p .here in let b = p .low in let g = s .pre .2 in
+    let s = c₅ in let l = c .before .loop in let e = length-kids (s .args .m .now) (s .args .k) in let p = l .inv in let a = p .here in let b = p .low in
+    let g = s .pre .2 in
     let z = c .loop-test .taken in omega arith
 
 child-requires : tie.Need-child-requires Inv-loop μ-loop
 child-requires c κs =
     let c₅ = c .before .before .before .before .before in
-    let s = c₅ in let l = c .before .loop in let e = length-kids (s .args .m .now) (s .args .k) in let p = l .inv in let b = p .low in let z = c .loop-test .taken in
+    let s = c₅ in let l = c .before .loop in let e = length-kids (s .args .m .now) (s .args .k) in let p = l .inv in let b = p .low in
+    let z = c .loop-test .taken in
     (s .pre .0, omega arith, s .pre .1)
 
 mul-w : tie.Need-mul-w Inv-loop μ-loop
 mul-w c =
     let c₆ = c .before .before .before .before .before .before in
-    let s = c₆ in let l = c .before .before .loop in let e = length-kids (s .args .m .now) (s .args .k) in let p = l .inv in let a = p .here in let b = p .low in
+    let s = c₆ in let l = c .before .before .loop in let e = length-kids (s .args .m .now) (s .args .k) in let p = l .inv in let a = p .here in
+    let b = p .low in
     let d = p .wide in let g = s .pre .2 in let h = s .pre .3 in let z = c .before .loop-test .taken in omega arith
 
 slice-write-w : tie.Need-slice-write-w Inv-loop μ-loop
 slice-write-w c =
     let c₆ = c .before .before .before .before .before .before in
-    let s = c₆ in let l = c .before .before .loop in let e = length-kids (s .args .m .now) (s .args .k) in let p = l .inv in let a = p .here in let b = p .low in
+    let s = c₆ in let l = c .before .before .loop in let e = length-kids (s .args .m .now) (s .args .k) in let p = l .inv in let a = p .here in
+    let b = p .low in
     let d = p .wide in let g = s .pre .2 in let h = s .pre .3 in let z = c .before .loop-test .taken in omega arith
 
 loop-less : tie.Need-loop-less Inv-loop μ-loop

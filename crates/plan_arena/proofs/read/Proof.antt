@@ -12,17 +12,25 @@ number-requires : tie.Need-number-requires
 number-requires c κs = search needs
 
 returns : tie.Need-returns
-returns c = record { refusal = c .before .before .refusal-of .ensures; holds = λ e. absurd (c .if1 .taken (c .before .number .ensures ∙ ap numberOf (c .before .before .refusal-of .ensures ∙ e))); stays = λ e. (refl, ap refusedWith (c .before .before .refusal-of .ensures)) }
+returns c = record {
+  refusal = c .before .before .refusal-of .ensures;
+  holds = λ e. absurd (c .if1 .taken (c .before .number .ensures ∙ ap numberOf (c .before .before .refusal-of .ensures ∙ e)));
+  stays =
+      λ e. (refl, ap refusedWith (c .before .before .refusal-of .ensures));
+}
 
 record-count-requires : tie.Need-record-count-requires
 record-count-requires c κs =
     let c₅ = c .before .before .before .before .before in
-    let s = c₅ in let e = few-blocks (s .args .s .now) (is-accepted (s .args .s .now) (c .before .before .refusal-of .result) (c .before .before .refusal-of .ensures) (sym (c .before .number .ensures) ∙ c .if1 .left)) in (refl, e .0, e .1)
+    let s = c₅ in let e = few-blocks (s .args .s .now)
+    (is-accepted (s .args .s .now) (c .before .before .refusal-of .result) (c .before .before .refusal-of .ensures)
+    (sym (c .before .number .ensures) ∙ c .if1 .left)) in (refl, e .0, e .1)
 
 fill-requires : tie.Need-fill-requires
 fill-requires c κs =
     let c₃ = c .before .before .before in let c₄ = c₃ .before in let c₇ = c₄ .before .before .before in
-    let s = c₇ in fillable (s .args .s .now) _ _ (is-accepted (s .args .s .now) (c₄ .refusal-of .result) (c₄ .refusal-of .ensures) (sym (c₃ .number .ensures) ∙ c .before .before .if1 .left)) (c .before .record-count .ensures) (s .pre)
+    let s = c₇ in fillable (s .args .s .now) _ _ (is-accepted (s .args .s .now) (c₄ .refusal-of .result) (c₄ .refusal-of .ensures)
+    (sym (c₃ .number .ensures) ∙ c .before .before .if1 .left)) (c .before .record-count .ensures) (s .pre)
 
 same-length : tie.Need-same-length
 same-length c = search needs

@@ -35,7 +35,11 @@ same-length c = search needs
 returns : tie.Need-returns
 returns c =
     let c₆ = c .before .before .before .before .before .before in let c₁₀ = c₆ .before .before .before .before in
-    let e = c₆ .flatten .ensures .1 in let o = c₁₀ .args .out .now in (c .before .before .write .ensures .0 ∙ ap (λ (r : List ℕ). writeRefusal r o) e, c .before .before .write .ensures .1 ∙ ap (λ (r : List ℕ). written r o) e)
+    let e = c₆ .flatten .ensures .1 in let o = c₁₀ .args .out .now in (
+      c .before .before .write .ensures .0 ∙ ap (λ (r : List ℕ). writeRefusal r o) e,
+      c .before .before .write .ensures .1
+          ∙ ap (λ (r : List ℕ). written r o) e,
+    )
 
 pub write-spec : {M : Type 1} → statement M
 write-spec =

@@ -25,7 +25,8 @@ settle-all-requires c κs =
     loaded-all (s .args .plan .now) e (record { below = λ i g. omega (arith, by i) }) (t .read .last .1 .0) (r .used) (r .root) (omega arith) (q .holds e)
 
 list-requires : tie.Need-list-requires
-list-requires c κs = let h = settle-all-requires (c .before .before .before .before) κs .slots in let k = c .before .before .before .settle-all .kept .0 in omega arith
+list-requires c κs = let h = settle-all-requires (c .before .before .before .before) κs .slots in let k = c .before .before .before .settle-all .kept .0 in
+    omega arith
 
 put-refusal-requires : tie.Need-put-refusal-requires
 put-refusal-requires c κs = search needs

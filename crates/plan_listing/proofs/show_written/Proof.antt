@@ -26,10 +26,13 @@ returns-2 : tie.Need-returns-2
 returns-2 c = search needs
 
 slice-aggregate-show : tie.Need-slice-aggregate-show
-slice-aggregate-show c = sym (length-take-le (512 * c .before .before .before .get16 .result) (c .before .before .before .before .before .before .args .out .now) (omega (arith, c .before .before .if2 .left)))
+slice-aggregate-show c = sym (length-take-le (512 * c .before .before .before .get16 .result)
+    (c .before .before .before .before .before .before .args .out .now) (omega (arith, c .before .before .if2 .left)))
 
 show-requires : tie.Need-show-requires
-show-requires c κs = let t = length-take-le (512 * c .before .before .before .get16 .result) (c .before .before .before .before .before .before .args .out .now) (omega (arith, c .before .before .if2 .left)) in omega (arith, c .before .if3 .taken)
+show-requires c κs = let t = length-take-le (512 * c .before .before .before .get16 .result)
+    (c .before .before .before .before .before .before .args .out .now) (omega (arith, c .before .before .if2 .left)) in
+    omega (arith, c .before .if3 .taken)
 
 returns-3 : tie.Need-returns-3
 returns-3 c = search needs

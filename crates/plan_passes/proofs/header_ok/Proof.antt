@@ -34,7 +34,8 @@ returns : tie.Need-returns
 returns c =
     let c₃ = c .before .before .before in let c₄ = c₃ .before in let c₆ = c₄ .before .before in
     let s = c₆ in
-    ap₂ _&&_ (ap₂ _&&_ (ap₂ _&&_ (ap (λ (x : ℕ). eqb x (s .args .k)) (c₄ .get16 .ensures)) (ap (λ (x : ℕ). eqb x (s .args .n)) (c₃ .get162 .ensures))) (c .before .count-ok .ensures)) (c .padding-ok .ensures)
+    ap₂ _&&_ (ap₂ _&&_ (ap₂ _&&_ (ap (λ (x : ℕ). eqb x (s .args .k)) (c₄ .get16 .ensures)) (ap (λ (x : ℕ). eqb x (s .args .n)) (c₃ .get162 .ensures)))
+    (c .before .count-ok .ensures)) (c .padding-ok .ensures)
 
 pub header-ok-spec : {M : Type 1} → statement M
 header-ok-spec =

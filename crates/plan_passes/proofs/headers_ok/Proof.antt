@@ -39,7 +39,8 @@ part-header-ok-end c = search needs
 header-ok-requires : tie.Need-header-ok-requires Inv-loop μ-loop
 header-ok-requires c κs =
     let c₄ = c .before .before .before .before in
-    let s = c₄ in let b = s .args .s .now in let pre = s .pre in let l = c .before .before .loop in let k = l .k in let i = l .inv .0 in let t = c .before .loop-test .taken in
+    let s = c₄ in let b = s .args .s .now in let pre = s .pre in let l = c .before .before .loop in let k = l .k in let i = l .inv .0 in
+    let t = c .before .loop-test .taken in
     (ap length (cut b (k * 512) 512) ∙ length-part b (k * 512) 512 (omega arith), t)
 
 returns : tie.Need-returns Inv-loop μ-loop
@@ -47,7 +48,9 @@ unfolding headersOk
 returns c =
     let c₃ = c .before .before .before in let c₄ = c₃ .before in let c₆ = c₄ .before .before in
     let s = c₆ in let b = s .args .s .now in let pre = s .pre in let k = c₄ .loop .k in let t = c₃ .loop-test .taken in
-    all-fail (λ k. headerOk (blockCount b) k (block b k)) k (blockCount b) (omega arith) (fails (headerOk (blockCount b) k) b (k * 512) 512 (c .before .header-ok .result) (c .before .header-ok .ensures ∙ ap (λ (n : ℕ). headerOk n k (take (k * 512 + 512 - k * 512) (drop (k * 512) b))) pre) (c .if1 .taken))
+    all-fail (λ k. headerOk (blockCount b) k (block b k)) k (blockCount b) (omega arith)
+    (fails (headerOk (blockCount b) k) b (k * 512) 512 (c .before .header-ok .result)
+    (c .before .header-ok .ensures ∙ ap (λ (n : ℕ). headerOk n k (take (k * 512 + 512 - k * 512) (drop (k * 512) b))) pre) (c .if1 .taken))
 
 add-k : tie.Need-add-k Inv-loop μ-loop
 add-k c = search needs
@@ -58,7 +61,12 @@ loop-less c = search needs
 loop-again : tie.Need-loop-again Inv-loop μ-loop
 loop-again c =
     let c₄ = c .before .before .before .before in let c₆ = c₄ .before .before in
-    let s = c₆ in let b = s .args .s .now in let pre = s .pre in let l = c₄ .loop in let k = l .k in (search needs, all-more (λ k. headerOk (blockCount b) k (block b k)) k (l .inv .1) (holds (headerOk (blockCount b) k) b (k * 512) 512 (c .before .header-ok .result) (c .before .header-ok .ensures ∙ ap (λ (n : ℕ). headerOk n k (take (k * 512 + 512 - k * 512) (drop (k * 512) b))) pre) (c .if1 .left)))
+    let s = c₆ in let b = s .args .s .now in let pre = s .pre in let l = c₄ .loop in let k = l .k in (
+      search needs,
+      all-more (λ k. headerOk (blockCount b) k (block b k)) k (l .inv .1)
+          (holds (headerOk (blockCount b) k) b (k * 512) 512 (c .before .header-ok .result)
+          (c .before .header-ok .ensures ∙ ap (λ (n : ℕ). headerOk n k (take (k * 512 + 512 - k * 512) (drop (k * 512) b))) pre) (c .if1 .left)),
+    )
 
 returns-2 : tie.Need-returns-2 Inv-loop μ-loop
 unfolding headersOk

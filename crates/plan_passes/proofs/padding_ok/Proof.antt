@@ -37,7 +37,8 @@ all-zero-requires : tie.Need-all-zero-requires
 all-zero-requires c κs = search needs
 
 returns : tie.Need-returns
-returns c = let b = c .before .before .before .before .before .args .b .now in let e : 508 - (8 + 64 * getD b 4 0) ≡ 0 = (let x = c .if1 .taken in omega arith) in
+returns c = let b = c .before .before .before .before .before .args .b .now in
+    let e : 508 - (8 + 64 * getD b 4 0) ≡ 0 = (let x = c .if1 .taken in omega arith) in
     with-true (c .before .all-zero .result) _ _ (c .before .all-zero .ensures) (ap (λ (k : ℕ). zeros (take k (drop (8 + 64 * getD b 4 0) b))) e)
 
 sub-all-zero-2 : tie.Need-sub-all-zero-2

@@ -34,7 +34,8 @@ add-result-2 c = omega (arith, c .shared-slice-known .given ((c .before .args .n
 
 returns : tie.Need-returns
 returns c = let s = c .before in let b = s .args .s .now in let n = s .args .n in
-    ap (λ (x : ℕ). 7 * (n - 1) + x) (sym (at-part b ((n - 1) * 512) 512 4 (omega arith))) ∙ ap (λ (k : ℕ). 7 * (k - 1) + getD (block b (k - 1)) 4 0) (s .pre .0)
+    ap (λ (x : ℕ). 7 * (n - 1) + x) (sym (at-part b ((n - 1) * 512) 512 4 (omega arith))) ∙ ap (λ (k : ℕ). 7 * (k - 1) + getD (block b (k - 1)) 4 0)
+    (s .pre .0)
 
 pub record-count-spec : {M : Type 1} → statement M
 record-count-spec =

@@ -97,9 +97,12 @@ returns c =
     let c₃ = c .before .before .before in
     let s = c₃ in let b : List ℕ = s .args .s .now in let l = c .before .loop in let t = c .loop-test .left in
     record {
-      kinds = all-down-end (λ i. kindOk (recordAt b i)) (s .args .m) (l .i) (l .kinds) t (l .inv .1) ∙ ap (allBelow (λ i. kindOk (recordAt b i))) (s .pre .0);
-      tree = pass-end (childrenAt b) (s .args .m) (l .i) (l .have) (l .enough) (l .inv .0) t ∙ ap (λ (n : ℕ). oneTree (span (childrenAt b) 0 n)) (s .pre .0);
-      rules = all-down-end (λ i. recordOk (recordAt b i)) (s .args .m) (l .i) (l .rules) t (l .inv .2) ∙ ap (allBelow (λ i. recordOk (recordAt b i))) (s .pre .0);
+      kinds = all-down-end (λ i. kindOk (recordAt b i)) (s .args .m) (l .i) (l .kinds) t (l .inv .1) ∙ ap (allBelow (λ i. kindOk (recordAt b i)))
+          (s .pre .0);
+      tree = pass-end (childrenAt b) (s .args .m) (l .i) (l .have) (l .enough) (l .inv .0) t ∙ ap (λ (n : ℕ). oneTree (span (childrenAt b) 0 n))
+          (s .pre .0);
+      rules = all-down-end (λ i. recordOk (recordAt b i)) (s .args .m) (l .i) (l .rules) t (l .inv .2) ∙ ap (allBelow (λ i. recordOk (recordAt b i)))
+          (s .pre .0);
     }
 
 pub records-of-spec : {M : Type 1} → statement M

@@ -28,7 +28,9 @@ unfolding belowOk
 returns c =
     let c₃ = c .before .before .before in
     let c₃ = c₃ in let c₄ = c₃ .before in
-    let s = c₄ in let b = s .args .l .now in let k = c₃ .loop .i in all-fail (λ i. ltb (getD b i 0) (s .args .limit)) k (length b) (c .before .before .loop-test .taken) (le-ltb (getD b k 0) (s .args .limit) (c .if1 .taken))
+    let s = c₄ in let b = s .args .l .now in let k = c₃ .loop .i in
+    all-fail (λ i. ltb (getD b i 0) (s .args .limit)) k (length b) (c .before .before .loop-test .taken)
+    (le-ltb (getD b k 0) (s .args .limit) (c .if1 .taken))
 
 add-i : tie.Need-add-i Inv-loop μ-loop
 add-i c = search needs
@@ -40,11 +42,13 @@ loop-again : tie.Need-loop-again Inv-loop μ-loop
 loop-again c =
     let c₃ = c .before .before .before in
     let c₃ = c₃ in let c₄ = c₃ .before in
-    let s = c₄ in let b = s .args .l .now in let l = c₃ .loop in let k = l .i in (search needs, all-more (λ i. ltb (getD b i 0) (s .args .limit)) k (l .inv .1) (lt-ltb (getD b k 0) (s .args .limit) (c .if1 .left)))
+    let s = c₄ in let b = s .args .l .now in let l = c₃ .loop in let k = l .i in
+    (search needs, all-more (λ i. ltb (getD b i 0) (s .args .limit)) k (l .inv .1) (lt-ltb (getD b k 0) (s .args .limit) (c .if1 .left)))
 
 returns-2 : tie.Need-returns-2 Inv-loop μ-loop
 unfolding belowOk
-returns-2 c = let s = c .before .before in let b = s .args .l .now in let l = c .before .loop in all-end (λ i. ltb (getD b i 0) (s .args .limit)) (l .i) (length b) (l .inv .0) (c .loop-test .left) (l .inv .1)
+returns-2 c = let s = c .before .before in let b = s .args .l .now in let l = c .before .loop in
+    all-end (λ i. ltb (getD b i 0) (s .args .limit)) (l .i) (length b) (l .inv .0) (c .loop-test .left) (l .inv .1)
 
 pub below-ok-spec : {M : Type 1} → statement M
 below-ok-spec =

@@ -32,7 +32,8 @@ list-ok-requires c κs = search needs
 returns : tie.Need-returns
 returns c =
     let c₃ = c .before .before .before in let c₅ = c₃ .before .before in
-    let s = c₅ in let r = s .args .r .now in rw (c₃ .if1 .taken) (c .list-ok .ensures ∙ ap (λ (l : List ℕ). belowOk l (s .args .limit)) (cut r 32 (getD r 13 0)))
+    let s = c₅ in let r = s .args .r .now in
+    rw (c₃ .if1 .taken) (c .list-ok .ensures ∙ ap (λ (l : List ℕ). belowOk l (s .args .limit)) (cut r 32 (getD r 13 0)))
 
 returns-2 : tie.Need-returns-2
 returns-2 c = rw (c .if1 .left)

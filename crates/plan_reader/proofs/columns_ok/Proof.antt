@@ -27,7 +27,9 @@ unfolding columnsOk
 returns c =
     let c₃ = c .before .before .before in
     let c₃ = c₃ in let c₅ = c₃ .before .before in
-    let s = c₅ in let b = s .args .l .now in let k = c₃ .loop .i in all-fail (columnOk b (s .args .limit)) k (length b) (c .before .before .loop-test .taken) (sym (c .before .column-ok .ensures) ∙ not-true _ (c .if1 .taken))
+    let s = c₅ in let b = s .args .l .now in let k = c₃ .loop .i in
+    all-fail (columnOk b (s .args .limit)) k (length b) (c .before .before .loop-test .taken)
+    (sym (c .before .column-ok .ensures) ∙ not-true _ (c .if1 .taken))
 
 add-i : tie.Need-add-i Inv-loop μ-loop
 add-i c = search needs
@@ -39,14 +41,16 @@ loop-again : tie.Need-loop-again Inv-loop μ-loop
 loop-again c =
     let c₃ = c .before .before .before in
     let c₃ = c₃ in let c₅ = c₃ .before .before in
-    let s = c₅ in let b = s .args .l .now in let l = c₃ .loop in let k = l .i in (search needs, all-more (columnOk b (s .args .limit)) k (l .inv .1) (sym (c .before .column-ok .ensures) ∙ not-false _ (c .if1 .left)))
+    let s = c₅ in let b = s .args .l .now in let l = c₃ .loop in let k = l .i in
+    (search needs, all-more (columnOk b (s .args .limit)) k (l .inv .1) (sym (c .before .column-ok .ensures) ∙ not-false _ (c .if1 .left)))
 
 returns-2 : tie.Need-returns-2 Inv-loop μ-loop
 unfolding columnsOk
 returns-2 c =
     let c₃ = c .before .before .before in
     let c₃ = c₃ in
-    let s = c₃ in let b = s .args .l .now in let l = c .before .loop in all-end (columnOk b (s .args .limit)) (l .i) (length b) (l .inv .0) (c .loop-test .left) (l .inv .1)
+    let s = c₃ in let b = s .args .l .now in let l = c .before .loop in
+    all-end (columnOk b (s .args .limit)) (l .i) (length b) (l .inv .0) (c .loop-test .left) (l .inv .1)
 
 pub columns-ok-spec : {M : Type 1} → statement M
 columns-ok-spec =

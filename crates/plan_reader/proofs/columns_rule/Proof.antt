@@ -19,7 +19,8 @@ right-columns-ok-requires c κs = search needs
 returns : tie.Need-returns
 returns c =
     let c₃ = c .before .before .before in
-    ap₂ _&&_ (ap₂ _&&_ (c₃ .keys-below .ensures) (c .before .before .set-ok .ensures)) (ap₂ _&&_ (c .before .child-columns-ok .ensures) (c .right-columns-ok .ensures))
+    ap₂ _&&_ (ap₂ _&&_ (c₃ .keys-below .ensures) (c .before .before .set-ok .ensures))
+    (ap₂ _&&_ (c .before .child-columns-ok .ensures) (c .right-columns-ok .ensures))
 
 pub columns-rule-spec : {M : Type 1} → statement M
 columns-rule-spec =

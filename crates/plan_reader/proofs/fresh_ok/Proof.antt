@@ -31,7 +31,9 @@ unfolding freshOk
 returns c =
     let c₃ = c .before .before .before in
     let c₃ = c₃ in let c₅ = c₃ .before .before in
-    let s = c₅ in let b = s .args .l .now in let k = c₃ .loop .j in all-fail (λ j. not (eqb (getD b j 0) (getD b (s .args .i) 0))) k (s .args .i) (c .before .before .loop-test .taken) (ap not (eq-eqb (getD b k 0) (getD b (s .args .i) 0) (c .if1 .taken)))
+    let s = c₅ in let b = s .args .l .now in let k = c₃ .loop .j in
+    all-fail (λ j. not (eqb (getD b j 0) (getD b (s .args .i) 0))) k (s .args .i) (c .before .before .loop-test .taken)
+    (ap not (eq-eqb (getD b k 0) (getD b (s .args .i) 0) (c .if1 .taken)))
 
 add-j : tie.Need-add-j Inv-loop μ-loop
 add-j c = search needs
@@ -43,14 +45,19 @@ loop-again : tie.Need-loop-again Inv-loop μ-loop
 loop-again c =
     let c₃ = c .before .before .before in
     let c₃ = c₃ in let c₅ = c₃ .before .before in
-    let s = c₅ in let b = s .args .l .now in let l = c₃ .loop in let k = l .j in (search needs, all-more (λ j. not (eqb (getD b j 0) (getD b (s .args .i) 0))) k (l .inv .1) (ap not (ne-eqb (getD b k 0) (getD b (s .args .i) 0) (c .if1 .left))))
+    let s = c₅ in let b = s .args .l .now in let l = c₃ .loop in let k = l .j in (
+      search needs,
+      all-more (λ j. not (eqb (getD b j 0) (getD b (s .args .i) 0))) k (l .inv .1)
+          (ap not (ne-eqb (getD b k 0) (getD b (s .args .i) 0) (c .if1 .left))),
+    )
 
 returns-2 : tie.Need-returns-2 Inv-loop μ-loop
 unfolding freshOk
 returns-2 c =
     let c₃ = c .before .before .before in
     let c₃ = c₃ in
-    let s = c₃ in let b = s .args .l .now in let l = c .before .loop in all-end (λ j. not (eqb (getD b j 0) (getD b (s .args .i) 0))) (l .j) (s .args .i) (l .inv .0) (c .loop-test .left) (l .inv .1)
+    let s = c₃ in let b = s .args .l .now in let l = c .before .loop in
+    all-end (λ j. not (eqb (getD b j 0) (getD b (s .args .i) 0))) (l .j) (s .args .i) (l .inv .0) (c .loop-test .left) (l .inv .1)
 
 pub fresh-ok-spec : {M : Type 1} → statement M
 fresh-ok-spec =

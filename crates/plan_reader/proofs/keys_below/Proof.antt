@@ -43,7 +43,8 @@ list-ok-requires c κs = search needs
 returns-2 : tie.Need-returns-2
 returns-2 c =
     let c₆ = c .before .before .before .before .before .before in
-    let s = c₆ in c .list-ok .ensures ∙ ap (λ (l : List ℕ). columnsOk (take (getD (s .args .r .now) 12 0) l) (s .args .limit)) (c .before .before .key-columns .ensures)
+    let s = c₆ in c .list-ok .ensures ∙ ap (λ (l : List ℕ). columnsOk (take (getD (s .args .r .now) 12 0) l) (s .args .limit))
+    (c .before .before .key-columns .ensures)
 
 pub keys-below-spec : {M : Type 1} → statement M
 keys-below-spec =

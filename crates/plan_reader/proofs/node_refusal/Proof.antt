@@ -43,17 +43,21 @@ returns-2 c =
     let s = c₈ in
     refuse-on (c₅ .union-ok .result) _ _ _ _ (c₅ .union-ok .ensures) (c₄ .if1 .left)
     (refuse-stop (c .before .columns-rule .result) _ _ _
-    (columns (s .args .r .now) (s .args .ws .now) (s .args .f) (c₃ .column-limit .result) (c .before .before .at-or-zero .result) (c .before .columns-rule .result) (s .pre .1) (c₃ .column-limit .ensures) (c .before .before .at-or-zero .ensures) (c .before .columns-rule .ensures))
+    (columns (s .args .r .now) (s .args .ws .now) (s .args .f) (c₃ .column-limit .result) (c .before .before .at-or-zero .result)
+    (c .before .columns-rule .result) (s .pre .1) (c₃ .column-limit .ensures) (c .before .before .at-or-zero .ensures)
+    (c .before .columns-rule .ensures))
     (c .if2 .taken))
 
 returns-3 : tie.Need-returns-3
 unfolding nodeRefusal
 returns-3 c =
     let c₃ = c .before .before .before in let c₄ = c₃ .before in let c₅ = c₄ .before in let c₆ = c₅ .before in let c₉ = c₆ .before .before .before in
-    let s = c₉ in let r = s .args .r .now in let ws = s .args .ws .now in let e = wide r ws (s .args .f) (s .args .width) (s .pre .1) (s .pre .2) in let t = c .if3 .taken in
+    let s = c₉ in let r = s .args .r .now in let ws = s .args .ws .now in let e = wide r ws (s .args .f) (s .args .width) (s .pre .1) (s .pre .2) in
+    let t = c .if3 .taken in
     refuse-on (c₆ .union-ok .result) _ _ _ _ (c₆ .union-ok .ensures) (c₅ .if1 .left)
     (refuse-on (c .before .before .columns-rule .result) _ _ _ _
-    (columns r ws (s .args .f) (c₄ .column-limit .result) (c₃ .at-or-zero .result) (c .before .before .columns-rule .result) (s .pre .1) (c₄ .column-limit .ensures) (c₃ .at-or-zero .ensures) (c .before .before .columns-rule .ensures))
+    (columns r ws (s .args .f) (c₄ .column-limit .result) (c₃ .at-or-zero .result) (c .before .before .columns-rule .result) (s .pre .1)
+    (c₄ .column-limit .ensures) (c₃ .at-or-zero .ensures) (c .before .before .columns-rule .ensures))
     (c .before .if2 .left)
     (rw (lt-leb (widthOf (fields r) r ws) 32 (omega arith))))
 
@@ -61,10 +65,12 @@ returns-4 : tie.Need-returns-4
 unfolding nodeRefusal
 returns-4 c =
     let c₃ = c .before .before .before in let c₄ = c₃ .before in let c₅ = c₄ .before in let c₆ = c₅ .before in let c₉ = c₆ .before .before .before in
-    let s = c₉ in let r = s .args .r .now in let ws = s .args .ws .now in let e = wide r ws (s .args .f) (s .args .width) (s .pre .1) (s .pre .2) in let t = c .if3 .left in
+    let s = c₉ in let r = s .args .r .now in let ws = s .args .ws .now in let e = wide r ws (s .args .f) (s .args .width) (s .pre .1) (s .pre .2) in
+    let t = c .if3 .left in
     refuse-on (c₆ .union-ok .result) _ _ _ _ (c₆ .union-ok .ensures) (c₅ .if1 .left)
     (refuse-on (c .before .before .columns-rule .result) _ _ _ _
-    (columns r ws (s .args .f) (c₄ .column-limit .result) (c₃ .at-or-zero .result) (c .before .before .columns-rule .result) (s .pre .1) (c₄ .column-limit .ensures) (c₃ .at-or-zero .ensures) (c .before .before .columns-rule .ensures))
+    (columns r ws (s .args .f) (c₄ .column-limit .result) (c₃ .at-or-zero .result) (c .before .before .columns-rule .result) (s .pre .1)
+    (c₄ .column-limit .ensures) (c₃ .at-or-zero .ensures) (c .before .before .columns-rule .ensures))
     (c .before .if2 .left)
     (rw (le-leb (widthOf (fields r) r ws) 32 (omega arith))))
 

@@ -31,7 +31,9 @@ unfolding sameWidths
 returns c =
     let c₃ = c .before .before .before in
     let c₃ = c₃ in let c₄ = c₃ .before in let c₆ = c₄ .before .before in
-    let s = c₆ in let b = s .args .ws .now in let k = c₃ .loop .i in all-fail (λ i. eqb (getD b i 0) (getD b 0 0)) k (length b) (c .before .before .loop-test .taken) (ne-eqb (getD b k 0) (getD b 0 0) (λ e. c .if1 .taken (e ∙ sym (c₄ .at-or-zero .ensures))))
+    let s = c₆ in let b = s .args .ws .now in let k = c₃ .loop .i in
+    all-fail (λ i. eqb (getD b i 0) (getD b 0 0)) k (length b) (c .before .before .loop-test .taken)
+    (ne-eqb (getD b k 0) (getD b 0 0) (λ e. c .if1 .taken (e ∙ sym (c₄ .at-or-zero .ensures))))
 
 add-i : tie.Need-add-i Inv-loop μ-loop
 add-i c = search needs
@@ -43,14 +45,19 @@ loop-again : tie.Need-loop-again Inv-loop μ-loop
 loop-again c =
     let c₃ = c .before .before .before in
     let c₃ = c₃ in let c₄ = c₃ .before in let c₆ = c₄ .before .before in
-    let s = c₆ in let b = s .args .ws .now in let l = c₃ .loop in let k = l .i in (search needs, all-more (λ i. eqb (getD b i 0) (getD b 0 0)) k (l .inv .1) (eq-eqb (getD b k 0) (getD b 0 0) (c .if1 .left ∙ c₄ .at-or-zero .ensures)))
+    let s = c₆ in let b = s .args .ws .now in let l = c₃ .loop in let k = l .i in (
+      search needs,
+      all-more (λ i. eqb (getD b i 0) (getD b 0 0)) k (l .inv .1)
+          (eq-eqb (getD b k 0) (getD b 0 0) (c .if1 .left ∙ c₄ .at-or-zero .ensures)),
+    )
 
 returns-2 : tie.Need-returns-2 Inv-loop μ-loop
 unfolding sameWidths
 returns-2 c =
     let c₄ = c .before .before .before .before in
     let c₄ = c₄ in
-    let s = c₄ in let b = s .args .ws .now in let l = c .before .loop in all-end (λ i. eqb (getD b i 0) (getD b 0 0)) (l .i) (length b) (l .inv .0) (c .loop-test .left) (l .inv .1)
+    let s = c₄ in let b = s .args .ws .now in let l = c .before .loop in
+    all-end (λ i. eqb (getD b i 0) (getD b 0 0)) (l .i) (length b) (l .inv .0) (c .loop-test .left) (l .inv .1)
 
 pub same-widths-spec : {M : Type 1} → statement M
 same-widths-spec =

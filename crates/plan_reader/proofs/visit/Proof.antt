@@ -21,7 +21,11 @@ returns : tie.Need-returns
 returns c =
     let c₆ = c .before .before .before .before .before .before in
     let s = c₆ in
-    record { is = c .node-refusal .ensures; wide = c .before .width-of .ensures ∙ ap (λ (g : Fields). widthOf g (s .args .r .now) (s .args .ws .now)) (c .before .before .fields-of .ensures) }
+    record {
+      is = c .node-refusal .ensures;
+      wide = c .before .width-of .ensures ∙ ap (λ (g : Fields). widthOf g (s .args .r .now) (s .args .ws .now))
+          (c .before .before .fields-of .ensures);
+    }
 
 pub visit-spec : {M : Type 1} → statement M
 visit-spec =

@@ -37,7 +37,8 @@ returns-2 : tie.Need-returns-2
 returns-2 c =
     let c₃ = c .before .before .before in
     let c₃ = c₃ in let c₄ = c₃ .before in let c₅ = c₄ .before in let c₈ = c₅ .before .before .before in
-    rw (c₃ .if1 .left, c .before .before .if2 .taken) (c .join-width .ensures ∙ ap₂ (joinWidth (getD (c₈ .args .r .now) 14 0)) (c₅ .at-or-zero .ensures) (c₄ .at-or-zero2 .ensures))
+    rw (c₃ .if1 .left, c .before .before .if2 .taken) (c .join-width .ensures ∙ ap₂ (joinWidth (getD (c₈ .args .r .now) 14 0)) (c₅ .at-or-zero .ensures)
+    (c₄ .at-or-zero2 .ensures))
 
 cast-result-2 : tie.Need-cast-result-2
 cast-result-2 c = search needs

@@ -24,7 +24,9 @@ returns : tie.Need-returns
 returns c =
     let c₃ = c .before .before .before in let c₄ = c₃ .before in let c₅ = c₄ .before in
     let s = c₅ in let r = s .args .r .now in
-    rules (fieldsOf 2) r (c₃ .none .ensures) (c .before .before .none2 .ensures) (λ b. c .before .none3 .ensures ∙ no-keys false r (λ i. omega (arith, c₄ .shared-slice-known .given i)) (s .pre) (no-count (fieldsOf 2) r refl refl b)) (c .none4 .ensures)
+    rules (fieldsOf 2) r (c₃ .none .ensures) (c .before .before .none2 .ensures)
+    (λ b. c .before .none3 .ensures ∙ no-keys false r (λ i. omega (arith, c₄ .shared-slice-known .given i)) (s .pre)
+    (no-count (fieldsOf 2) r refl refl b)) (c .none4 .ensures)
 
 pub bare-ok-spec : {M : Type 1} → statement M
 bare-ok-spec =

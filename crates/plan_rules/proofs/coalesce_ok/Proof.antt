@@ -24,7 +24,9 @@ returns : tie.Need-returns
 returns c =
     let c₃ = c .before .before .before in let c₄ = c₃ .before in let c₅ = c₄ .before in
     let s = c₅ in let r = s .args .r .now in
-    rules (fieldsOf 6) r (c₃ .fetching .ensures) (c .before .before .none .ensures) (λ b. c .before .none2 .ensures ∙ no-keys false r (λ i. omega (arith, c₄ .shared-slice-known .given i)) (s .pre) (no-count (fieldsOf 6) r refl refl b)) (c .none3 .ensures)
+    rules (fieldsOf 6) r (c₃ .fetching .ensures) (c .before .before .none .ensures)
+    (λ b. c .before .none2 .ensures ∙ no-keys false r (λ i. omega (arith, c₄ .shared-slice-known .given i)) (s .pre)
+    (no-count (fieldsOf 6) r refl refl b)) (c .none3 .ensures)
 
 pub coalesce-ok-spec : {M : Type 1} → statement M
 coalesce-ok-spec =

@@ -19,7 +19,8 @@ output-requirement-requires-2 c κs = search needs
 returns : tie.Need-returns
 returns c =
     let c₃ = c .before .before .before in let c₅ = c₃ .before .before in
-    rules (fieldsOf 13) (c₅ .args .r .now) (c₃ .fetching .ensures) (c .before .before .output-requirement .ensures) (λ _. c .before .ok .ensures) (c .output-requirement2 .ensures)
+    rules (fieldsOf 13) (c₅ .args .r .now) (c₃ .fetching .ensures) (c .before .before .output-requirement .ensures) (λ _. c .before .ok .ensures)
+    (c .output-requirement2 .ensures)
 
 pub output-requirement-ok-spec : {M : Type 1} → statement M
 output-requirement-ok-spec =

@@ -27,7 +27,9 @@ returns : tie.Need-returns
 returns c =
     let c₃ = c .before .before .before in let c₅ = c₃ .before .before in let c₆ = c₅ .before in
     let s = c₆ in let r = s .args .r .now in
-    rules (fieldsOf 3) r (c₃ .none .ensures) (c .before .before .projection .ensures) (λ b. c .before .none2 .ensures ∙ no-keys false r (λ i. omega (arith, c₅ .shared-slice-known .given i)) (s .pre) (no-count (fieldsOf 3) r refl refl b)) (c .zero-from .ensures)
+    rules (fieldsOf 3) r (c₃ .none .ensures) (c .before .before .projection .ensures)
+    (λ b. c .before .none2 .ensures ∙ no-keys false r (λ i. omega (arith, c₅ .shared-slice-known .given i)) (s .pre)
+    (no-count (fieldsOf 3) r refl refl b)) (c .zero-from .ensures)
 
 pub projection-ok-spec : {M : Type 1} → statement M
 projection-ok-spec =

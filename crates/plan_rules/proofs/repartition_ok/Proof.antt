@@ -22,7 +22,8 @@ returns : tie.Need-returns
 returns c =
     let c₃ = c .before .before .before in let c₄ = c₃ .before in let c₅ = c₄ .before in
     let s = c₅ in let r = s .args .r .now in
-    rules (fieldsOf 5) r (c₃ .repartition .ensures) (c .before .before .repartition2 .ensures) (λ b. c .before .ok .ensures ∙ plain-keys r (λ i. omega (arith, c₄ .shared-slice-known .given i)) (s .pre) b) (c .none .ensures)
+    rules (fieldsOf 5) r (c₃ .repartition .ensures) (c .before .before .repartition2 .ensures)
+    (λ b. c .before .ok .ensures ∙ plain-keys r (λ i. omega (arith, c₄ .shared-slice-known .given i)) (s .pre) b) (c .none .ensures)
 
 pub repartition-ok-spec : {M : Type 1} → statement M
 repartition-ok-spec =

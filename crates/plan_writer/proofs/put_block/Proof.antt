@@ -53,16 +53,20 @@ slice-aggregate-sum : tie.Need-slice-aggregate-sum
 slice-aggregate-sum c =
     let c₃ = c .before .before .before in let c₇ = c₃ .before .before .before .before in let c₁₁ = c₇ .before .before .before .before in
     let c₁₅ = c₁₁ .before .before .before .before in
-    let s = c₁₅ in let b = s .args .b .now in let rs = s .args .rs .now in let H = c₁₁ .put-header .last .0 in let R = c₇ .copy .last .0 in let Z = c₃ .zero .last .0 in
-    let f = f3 b rs H R Z (s .args .n) (s .args .k) (s .pre .0) (s .pre .1) (c₁₁ .put-header .ensures) (c₇ .copy .ensures) (c₃ .zero .ensures) in let g = f .long in
+    let s = c₁₅ in let b = s .args .b .now in let rs = s .args .rs .now in let H = c₁₁ .put-header .last .0 in let R = c₇ .copy .last .0 in
+    let Z = c₃ .zero .last .0 in
+    let f = f3 b rs H R Z (s .args .n) (s .args .k) (s .pre .0) (s .pre .1) (c₁₁ .put-header .ensures) (c₇ .copy .ensures) (c₃ .zero .ensures) in
+    let g = f .long in
     sym (length-take-le 508 (three b (length rs) H R Z) (omega arith))
 
 sum-requires : tie.Need-sum-requires
 sum-requires c κs =
     let c₃ = c .before .before .before in let c₇ = c₃ .before .before .before .before in let c₁₁ = c₇ .before .before .before .before in
     let c₁₅ = c₁₁ .before .before .before .before in
-    let s = c₁₅ in let b = s .args .b .now in let rs = s .args .rs .now in let H = c₁₁ .put-header .last .0 in let R = c₇ .copy .last .0 in let Z = c₃ .zero .last .0 in
-    let f = f3 b rs H R Z (s .args .n) (s .args .k) (s .pre .0) (s .pre .1) (c₁₁ .put-header .ensures) (c₇ .copy .ensures) (c₃ .zero .ensures) in let g = f .long in
+    let s = c₁₅ in let b = s .args .b .now in let rs = s .args .rs .now in let H = c₁₁ .put-header .last .0 in let R = c₇ .copy .last .0 in
+    let Z = c₃ .zero .last .0 in
+    let f = f3 b rs H R Z (s .args .n) (s .args .k) (s .pre .0) (s .pre .1) (c₁₁ .put-header .ensures) (c₇ .copy .ensures) (c₃ .zero .ensures) in
+    let g = f .long in
     let x = length-take-le 508 (three b (length rs) H R Z) (omega arith) in omega arith
 
 sub-put32 : tie.Need-sub-put32
@@ -84,8 +88,10 @@ returns : tie.Need-returns
 returns c =
     let c₄ = c .before .before .before .before in let c₈ = c₄ .before .before .before .before in let c₁₂ = c₈ .before .before .before .before in
     let c₁₆ = c₁₂ .before .before .before .before in let c₂₀ = c₁₆ .before .before .before .before in
-    let s = c₂₀ in let b = s .args .b .now in let rs = s .args .rs .now in let H = c₁₆ .put-header .last .0 in let R = c₁₂ .copy .last .0 in let Z = c₈ .zero .last .0 in
-    put-all b rs H R Z (s .args .n) (s .args .k) (s .pre .0) (s .pre .1) (c₁₆ .put-header .ensures) (c₁₂ .copy .ensures) (c₈ .zero .ensures) (c .before .before .put32 .last .0) (c₄ .sum .result) (c₄ .sum .ensures) (c .before .before .put32 .ensures)
+    let s = c₂₀ in let b = s .args .b .now in let rs = s .args .rs .now in let H = c₁₆ .put-header .last .0 in let R = c₁₂ .copy .last .0 in
+    let Z = c₈ .zero .last .0 in
+    put-all b rs H R Z (s .args .n) (s .args .k) (s .pre .0) (s .pre .1) (c₁₆ .put-header .ensures) (c₁₂ .copy .ensures) (c₈ .zero .ensures)
+    (c .before .before .put32 .last .0) (c₄ .sum .result) (c₄ .sum .ensures) (c .before .before .put32 .ensures)
 
 pub put-block-spec : {M : Type 1} → statement M
 put-block-spec =

@@ -40,7 +40,8 @@ part-result-end-2 : tie.Need-part-result-end-2
 part-result-end-2 c = search needs
 
 returns-2 : tie.Need-returns-2
-returns-2 c = let s = c .before .before in let b = s .args .rs .now in let a : ℕ = s .args .k * 448 in let t = c .before .if1 .left in let d = length-drop a b in cut-end b a ∙ sym (take-all 448 (drop a b) (omega arith))
+returns-2 c = let s = c .before .before in let b = s .args .rs .now in let a : ℕ = s .args .k * 448 in let t = c .before .if1 .left in
+    let d = length-drop a b in cut-end b a ∙ sym (take-all 448 (drop a b) (omega arith))
 
 pub seven-at-spec : {M : Type 1} → statement M
 seven-at-spec =

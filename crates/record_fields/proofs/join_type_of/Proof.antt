@@ -45,7 +45,10 @@ unfolding joinTypeOf
 returns-7 c = ap joinTypeOf (sym (c .match .keys7))
 
 returns-8 : tie.Need-returns-8
-returns-8 c = let r = c .match .rest in last (c .before .args .k) (decLt (c .before .args .k) 7) (decLt (c .before .args .k) 8) (λ h. down 0 (r .0 .0 .0 .0 .0 .0 .1) (down 1 (r .0 .0 .0 .0 .0 .1) (down 2 (r .0 .0 .0 .0 .1) (down 3 (r .0 .0 .0 .1) (down 4 (r .0 .0 .1) (down 5 (r .0 .1) (down 6 (r .1) h)))))))
+returns-8 c = let r = c .match .rest in
+    last (c .before .args .k) (decLt (c .before .args .k) 7) (decLt (c .before .args .k) 8)
+    (λ h. down 0 (r .0 .0 .0 .0 .0 .0 .1)
+    (down 1 (r .0 .0 .0 .0 .0 .1) (down 2 (r .0 .0 .0 .0 .1) (down 3 (r .0 .0 .0 .1) (down 4 (r .0 .0 .1) (down 5 (r .0 .1) (down 6 (r .1) h)))))))
 
 pub join-type-of-spec : {M : Type 1} → statement M
 join-type-of-spec =

@@ -69,7 +69,17 @@ unfolding kindOf
 returns-13 c = ap kindOf (sym (c .match .keys13))
 
 returns-14 : tie.Need-returns-14
-returns-14 c = let r = c .match .rest in last (c .before .args .k) (decLt (c .before .args .k) 14) (λ h. lt-one (down 1 (r .0 .0 .0 .0 .0 .0 .0 .0 .0 .0 .0 .0 .1) (down 2 (r .0 .0 .0 .0 .0 .0 .0 .0 .0 .0 .0 .1) (down 3 (r .0 .0 .0 .0 .0 .0 .0 .0 .0 .0 .1) (down 4 (r .0 .0 .0 .0 .0 .0 .0 .0 .0 .1) (down 5 (r .0 .0 .0 .0 .0 .0 .0 .0 .1) (down 6 (r .0 .0 .0 .0 .0 .0 .0 .1) (down 7 (r .0 .0 .0 .0 .0 .0 .1) (down 8 (r .0 .0 .0 .0 .0 .1) (down 9 (r .0 .0 .0 .0 .1) (down 10 (r .0 .0 .0 .1) (down 11 (r .0 .0 .1) (down 12 (r .0 .1) (down 13 (r .1) h))))))))))))))
+returns-14 c = let r = c .match .rest in
+    last (c .before .args .k) (decLt (c .before .args .k) 14)
+    (λ h. lt-one (down 1 (r .0 .0 .0 .0 .0 .0 .0 .0 .0 .0 .0 .0 .1)
+    (down 2 (r .0 .0 .0 .0 .0 .0 .0 .0 .0 .0 .0 .1)
+    (down 3 (r .0 .0 .0 .0 .0 .0 .0 .0 .0 .0 .1)
+    (down 4 (r .0 .0 .0 .0 .0 .0 .0 .0 .0 .1)
+    (down 5 (r .0 .0 .0 .0 .0 .0 .0 .0 .1)
+    (down 6 (r .0 .0 .0 .0 .0 .0 .0 .1)
+    (down 7 (r .0 .0 .0 .0 .0 .0 .1)
+    (down 8 (r .0 .0 .0 .0 .0 .1)
+    (down 9 (r .0 .0 .0 .0 .1) (down 10 (r .0 .0 .0 .1) (down 11 (r .0 .0 .1) (down 12 (r .0 .1) (down 13 (r .1) h))))))))))))))
 
 pub kind-of-spec : {M : Type 1} → statement M
 kind-of-spec =

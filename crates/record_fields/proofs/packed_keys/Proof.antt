@@ -80,8 +80,18 @@ packed-requires-8 c κs = search needs
 
 returns : tie.Need-returns
 returns c =
-    (λ i. c .before .before .before .before .before .before .before .before .before .before .before .before .before .before .before .before .before .before .before .before .before .packed .ensures i ∷ c .before .before .before .before .before .before .before .before .before .before .before .before .before .before .before .before .before .before .packed2 .ensures i ∷ c .before .before .before .before .before .before .before .before .before .before .before .before .before .before .before .packed3 .ensures i ∷ c .before .before .before .before .before .before .before .before .before .before .before .before .packed4 .ensures i ∷ c .before .before .before .before .before .before .before .before .before .packed5 .ensures i ∷ c .before .before .before .before .before .before .packed6 .ensures i ∷ c .before .before .before .packed7 .ensures i ∷ c .packed8 .ensures i ∷ [])
-    ∙ sym (packed-bytes (c .before .before .before .before .before .before .before .before .before .before .before .before .before .before .before .before .before .before .before .before .before .before .before .before .before .args .r .now) (c .before .before .before .before .before .before .before .before .before .before .before .before .before .before .before .before .before .before .before .before .before .before .before .before .before .pre))
+    (λ i. c .before .before .before .before .before .before .before .before .before .before .before .before .before .before .before .before .before .before
+    .before .before .before .packed .ensures i
+    ∷ c .before .before .before .before .before .before .before .before .before .before .before .before .before .before .before .before .before .before
+    .packed2 .ensures i ∷ c .before .before .before .before .before .before .before .before .before .before .before .before .before .before .before
+    .packed3 .ensures i ∷ c .before .before .before .before .before .before .before .before .before .before .before .before .packed4 .ensures i
+    ∷ c .before .before .before .before .before .before .before .before .before .packed5 .ensures i
+    ∷ c .before .before .before .before .before .before .packed6 .ensures i ∷ c .before .before .before .packed7 .ensures i ∷ c .packed8 .ensures i
+    ∷ [])
+    ∙ sym (packed-bytes (c .before .before .before .before .before .before .before .before .before .before .before .before .before .before .before .before
+    .before .before .before .before .before .before .before .before .before .args .r .now)
+    (c .before .before .before .before .before .before .before .before .before .before .before .before .before .before .before .before .before .before
+    .before .before .before .before .before .before .before .pre))
 
 pub packed-keys-spec : {M : Type 1} → statement M
 packed-keys-spec =

@@ -23,7 +23,8 @@ keys-of-requires : tie.Need-keys-of-requires
 keys-of-requires c κs = search needs
 
 returns : tie.Need-returns
-returns c = subst (λ (l : List Key). Keyed l (c .keys-of .result)) (ap₂ (λ (n : ℕ) (row : List ℕ). map keyOf (take n row)) (c .before .wide .ensures) (c .before .before .before .before .packed-right-keys .ensures)) (c .keys-of .ensures)
+returns c = subst (λ (l : List Key). Keyed l (c .keys-of .result)) (ap₂ (λ (n : ℕ) (row : List ℕ). map keyOf (take n row)) (c .before .wide .ensures)
+    (c .before .before .before .before .packed-right-keys .ensures)) (c .keys-of .ensures)
 
 pub right-key-list-spec : {M : Type 1} → statement M
 right-key-list-spec =

@@ -20,7 +20,8 @@ read32-requires : tie.Need-read32-requires
 read32-requires c κs = search needs
 
 returns : tie.Need-returns
-returns c = let r = c .before .before .before .args .r .now in let p = c .before .before .before .pre in c .read32 .ensures ∙ take-all 32 (drop 32 r) (omega (arith, length-drop 32 r))
+returns c = let r = c .before .before .before .args .r .now in let p = c .before .before .before .pre in
+    c .read32 .ensures ∙ take-all 32 (drop 32 r) (omega (arith, length-drop 32 r))
 
 pub tail-columns-spec : {M : Type 1} → statement M
 tail-columns-spec =

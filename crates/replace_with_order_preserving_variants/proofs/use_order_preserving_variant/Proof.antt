@@ -16,7 +16,9 @@ meets-requires : tie.Need-meets-requires
 meets-requires c κs = search needs
 
 returns : tie.Need-returns
-returns c = let s = c .before .before .before .before .before .before .before .before in variant-is (s .args .m .now) (s .args .r .now) (s .args .h) (s .pre) (s .args .s) _ (c .before .before .before .before .before .summary .ensures) _ (c .before .before .before .before .row .ensures .1) _ (c .before .before .before .keys .ensures) _ (c .before .before .meets .ensures)
+returns c = let s = c .before .before .before .before .before .before .before .before in
+    variant-is (s .args .m .now) (s .args .r .now) (s .args .h) (s .pre) (s .args .s) _ (c .before .before .before .before .before .summary .ensures) _
+    (c .before .before .before .before .row .ensures .1) _ (c .before .before .before .keys .ensures) _ (c .before .before .meets .ensures)
 
 pub use-order-preserving-variant-spec : {M : Type 1} → statement M
 use-order-preserving-variant-spec =

@@ -15,18 +15,28 @@ load-row-requires-2 : tie.Need-load-row-requires-2
 load-row-requires-2 c κs = search needs
 
 hash-joined-requires : tie.Need-hash-joined-requires
-hash-joined-requires c κs = let s = c .before .before .before .before .before .before in rw (c .before .load-row .ensures, c .load-row2 .ensures) (s .pre .1, s .pre .2, s .pre .5)
+hash-joined-requires c κs = let s = c .before .before .before .before .before .before in
+    rw (c .before .load-row .ensures, c .load-row2 .ensures) (s .pre .1, s .pre .2, s .pre .5)
 
 store-requires : tie.Need-store-requires
-store-requires c κs = let s = c .before .before .before .before .before .before .before .before in let r = s .args .r .now in let a = c .before .before .before .load-row .result in let b = c .before .before .load-row2 .result in let t = typeIn r in
-    (s .pre .0, c .before .hash-joined .ensures .fine, streams-less (sem.joinFacts t (sem.hashKept t) (onIn r) (known a) (known b) (b .streams)) (c .before .hash-joined .result) (c .before .hash-joined .ensures) (rw (c .before .before .load-row2 .ensures) (s .pre .6)))
+store-requires c κs = let s = c .before .before .before .before .before .before .before .before in let r = s .args .r .now in
+    let a = c .before .before .before .load-row .result in let b = c .before .before .load-row2 .result in let t = typeIn r in (
+      s .pre .0,
+      c .before .hash-joined .ensures .fine,
+      streams-less (sem.joinFacts t (sem.hashKept t) (onIn r) (known a) (known b) (b .streams))
+          (c .before .hash-joined .result) (c .before .hash-joined .ensures) (rw (c .before .before .load-row2 .ensures) (s .pre .6)),
+    )
 
 same-length : tie.Need-same-length
 same-length c = search needs
 
 returns : tie.Need-returns
-returns c = let s = c .before .before .before .before .before .before .before .before .before .before .before in let r = s .args .r .now in let t = typeIn r in let a = loaded (s .args .a .now) in let b = loaded (s .args .b .now) in
-    stored-says (sem.joinFacts t (sem.hashKept t) (onIn r) (known a) (known b) (b .streams)) (c .before .before .before .before .hash-joined .result) (s .args .own .now) (c .before .before .store .last .0) (rw (c .before .before .before .before .before .before .load-row .ensures, c .before .before .before .before .before .load-row2 .ensures) at (c .before .before .before .before .hash-joined .ensures)) (c .before .before .store .ensures)
+returns c = let s = c .before .before .before .before .before .before .before .before .before .before .before in let r = s .args .r .now in
+    let t = typeIn r in let a = loaded (s .args .a .now) in let b = loaded (s .args .b .now) in
+    stored-says (sem.joinFacts t (sem.hashKept t) (onIn r) (known a) (known b) (b .streams)) (c .before .before .before .before .hash-joined .result)
+    (s .args .own .now) (c .before .before .store .last .0)
+    (rw (c .before .before .before .before .before .before .load-row .ensures, c .before .before .before .before .before .load-row2 .ensures) at
+    (c .before .before .before .before .hash-joined .ensures)) (c .before .before .store .ensures)
 
 pub join-hashed-spec : {M : Type 1} → statement M
 join-hashed-spec =

@@ -28,7 +28,8 @@ same-length : tie.Need-same-length
 same-length c = search needs
 
 returns : tie.Need-returns
-returns c = ap (λ x. x ++ drop 48 (c .before .before .before .before .before .before .before .before .args .own .now)) (c .before .before .copy .ensures ∙ c .before .before .before .before .before .row .ensures)
+returns c = ap (λ x. x ++ drop 48 (c .before .before .before .before .before .before .before .before .args .own .now))
+    (c .before .before .copy .ensures ∙ c .before .before .before .before .before .row .ensures)
 
 pub keep-spec : {M : Type 1} → statement M
 keep-spec =

@@ -16,15 +16,23 @@ projected-requires : tie.Need-projected-requires
 projected-requires c κs = let s = c .before .before .before .before in rw (c .load-row .ensures) (s .pre .1, s .pre .2, s .pre .4, s .pre .5)
 
 store-requires : tie.Need-store-requires
-store-requires c κs = let s = c .before .before .before .before .before .before in let f = c .before .before .load-row .result in let e = c .before .before .load-row .ensures in let g = c .before .projected .result in
-    (s .pre .0, c .before .projected .ensures .fine, streams-less (sem.projFacts (known f) (lentColumns (s .args .r .now) (getD (s .args .r .now) 13 0))) g (c .before .projected .ensures) (rw e (s .pre .6)))
+store-requires c κs = let s = c .before .before .before .before .before .before in let f = c .before .before .load-row .result in
+    let e = c .before .before .load-row .ensures in let g = c .before .projected .result in (
+      s .pre .0,
+      c .before .projected .ensures .fine,
+      streams-less (sem.projFacts (known f) (lentColumns (s .args .r .now) (getD (s .args .r .now) 13 0))) g
+          (c .before .projected .ensures) (rw e (s .pre .6)),
+    )
 
 same-length : tie.Need-same-length
 same-length c = search needs
 
 returns : tie.Need-returns
 returns c = let s = c .before .before .before .before .before .before .before .before .before in
-    stored-says (sem.projFacts (known (loaded (s .args .b .now))) (lentColumns (s .args .r .now) (getD (s .args .r .now) 13 0))) (c .before .before .before .before .projected .result) (s .args .own .now) (c .before .before .store .last .0) (rw (c .before .before .before .before .before .load-row .ensures) at (c .before .before .before .before .projected .ensures)) (c .before .before .store .ensures)
+    stored-says (sem.projFacts (known (loaded (s .args .b .now))) (lentColumns (s .args .r .now) (getD (s .args .r .now) 13 0)))
+    (c .before .before .before .before .projected .result) (s .args .own .now) (c .before .before .store .last .0)
+    (rw (c .before .before .before .before .before .load-row .ensures) at (c .before .before .before .before .projected .ensures))
+    (c .before .before .store .ensures)
 
 pub project-spec : {M : Type 1} → statement M
 project-spec =

@@ -51,15 +51,33 @@ slice-write-own : tie.Need-slice-write-own
 slice-write-own c = search needs
 
 same-length : tie.Need-same-length
-same-length c = length-set (splice (c .before .before .before .before .before .before .before .before .keep .last .0) 8 8 (c .before .before .before .write-row .last .0)) 1 (c .before .before .before .before .before .before .before .before .before .before .before .normal-form .result .len % 256) ∙ splice-length (c .before .before .before .before .before .before .before .before .keep .last .0) (c .before .before .before .write-row .last .0) 8 8 (let k = c .before .before .before .before .before .before .before .before .keep .kept .0 in let p = (c .before .before .before .before .before .before .before .before .before .before .before .before .before .before) .pre .0 in omega arith) (c .before .before .before .write-row .kept .0 ∙ length-part (c .before .before .before .before .before .before .before .before .keep .last .0) 8 8 (let k = c .before .before .before .before .before .before .before .before .keep .kept .0 in let p = (c .before .before .before .before .before .before .before .before .before .before .before .before .before .before) .pre .0 in omega arith)) ∙ c .before .before .before .before .before .before .before .before .keep .kept .0
+same-length c = length-set (splice (c .before .before .before .before .before .before .before .before .keep .last .0) 8 8
+    (c .before .before .before .write-row .last .0)) 1
+    (c .before .before .before .before .before .before .before .before .before .before .before .normal-form .result .len % 256)
+    ∙ splice-length (c .before .before .before .before .before .before .before .before .keep .last .0) (c .before .before .before .write-row .last .0) 8 8
+    (let k = c .before .before .before .before .before .before .before .before .keep .kept .0 in
+    let p = (c .before .before .before .before .before .before .before .before .before .before .before .before .before .before) .pre .0 in
+    omega arith) (c .before .before .before .write-row .kept .0
+    ∙ length-part (c .before .before .before .before .before .before .before .before .keep .last .0) 8 8
+    (let k = c .before .before .before .before .before .before .before .before .keep .kept .0 in
+    let p = (c .before .before .before .before .before .before .before .before .before .before .before .before .before .before) .pre .0 in omega arith))
+    ∙ c .before .before .before .before .before .before .before .before .keep .kept .0
 
 returns : tie.Need-returns
 returns c =
-    let s = (c .before .before .before .before .before .before .before .before .before .before .before .before .before .before) in let b = s .args .b .now in let o = c .before .before .before .before .before .before .before .before .before .before .before .normal-form .result in let f = c .before .before .before .before .before .before .before .before .before .before .before .normal-form .ensures .few in
-    let w = c .before .before .before .write-row .ensures ∙ ap lowBytes (c .before .before .before .before .before .before .before .before .before .before .word-row .ensures) in
-    subst (λ (m : List ℕ). Says (sem.reorder (told b) (keysOf (s .args .keys))) (loaded (set (splice m 8 8 (c .before .before .before .write-row .last .0)) 1 (o .len % 256)))) (sym (c .before .before .before .before .before .before .before .before .keep .ensures))
-    (subst (λ (W : List ℕ). Says (sem.reorder (told b) (keysOf (s .args .keys))) (loaded (set (splice (take 48 b ++ drop 48 (s .args .own .now)) 8 8 W) 1 (o .len % 256)))) (sym w)
-    (order-says b (drop 48 (s .args .own .now)) (s .args .keys) o (o .len % 256) (s .pre .1) (wide (c .before .before .before .before .before .before .before .before .before .before .before)) (c .before .before .before .before .before .before .before .before .before .before .before .normal-form .ensures) (omega arith)))
+    let s = (c .before .before .before .before .before .before .before .before .before .before .before .before .before .before) in
+    let b = s .args .b .now in let o = c .before .before .before .before .before .before .before .before .before .before .before .normal-form .result in
+    let f = c .before .before .before .before .before .before .before .before .before .before .before .normal-form .ensures .few in
+    let w = c .before .before .before .write-row .ensures
+    ∙ ap lowBytes (c .before .before .before .before .before .before .before .before .before .before .word-row .ensures) in
+    subst (λ (m : List ℕ). Says (sem.reorder (told b) (keysOf (s .args .keys)))
+    (loaded (set (splice m 8 8 (c .before .before .before .write-row .last .0)) 1 (o .len % 256))))
+    (sym (c .before .before .before .before .before .before .before .before .keep .ensures))
+    (subst (λ (W : List ℕ). Says (sem.reorder (told b) (keysOf (s .args .keys)))
+    (loaded (set (splice (take 48 b ++ drop 48 (s .args .own .now)) 8 8 W) 1 (o .len % 256)))) (sym w)
+    (order-says b (drop 48 (s .args .own .now)) (s .args .keys) o (o .len % 256) (s .pre .1)
+    (wide (c .before .before .before .before .before .before .before .before .before .before .before))
+    (c .before .before .before .before .before .before .before .before .before .before .before .normal-form .ensures) (omega arith)))
 
 pub reorder-spec : {M : Type 1} → statement M
 reorder-spec =

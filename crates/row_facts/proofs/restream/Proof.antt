@@ -29,10 +29,12 @@ add-own : tie.Need-add-own
 add-own c = search needs
 
 slice-write-own-2 : tie.Need-slice-write-own-2
-slice-write-own-2 c = simp length-set (let k = c .before .before .before .before .keep .kept .0 in let p = c .before .before .before .before .before .before .before .before .pre .0 in omega arith)
+slice-write-own-2 c = simp length-set (let k = c .before .before .before .before .keep .kept .0 in
+    let p = c .before .before .before .before .before .before .before .before .pre .0 in omega arith)
 
 slice-write-own-3 : tie.Need-slice-write-own-3
-slice-write-own-3 c = simp length-set (let k = c .before .before .before .before .keep .kept .0 in let p = c .before .before .before .before .before .before .before .before .pre .0 in omega arith)
+slice-write-own-3 c = simp length-set (let k = c .before .before .before .before .keep .kept .0 in
+    let p = c .before .before .before .before .before .before .before .before .pre .0 in omega arith)
 
 same-length : tie.Need-same-length
 same-length c = search needs
@@ -40,7 +42,9 @@ same-length c = search needs
 returns : tie.Need-returns
 returns c =
     let s = c .before .before .before .before .before .before .before .before in let b = s .args .b .now in let n = c .byte-if .result in
-    subst (λ o. Says (sem.ordered (told b) (s .args .streams) (cond (s .args .keeps) (told b .order) [])) (loaded (set (set (set o 2 (s .args .streams)) 3 0) 1 n))) (sym (c .before .before .before .before .keep .ensures)) (restream-says b (drop 48 (s .args .own .now)) (s .pre .1 .long) (s .pre .1 .fine) (s .args .streams) n (s .args .keeps) (c .byte-if .ensures))
+    subst (λ o. Says (sem.ordered (told b) (s .args .streams) (cond (s .args .keeps) (told b .order) []))
+    (loaded (set (set (set o 2 (s .args .streams)) 3 0) 1 n))) (sym (c .before .before .before .before .keep .ensures))
+    (restream-says b (drop 48 (s .args .own .now)) (s .pre .1 .long) (s .pre .1 .fine) (s .args .streams) n (s .args .keeps) (c .byte-if .ensures))
 
 pub restream-spec : {M : Type 1} → statement M
 restream-spec =

@@ -31,10 +31,14 @@ loop-less : tie.Need-loop-less Inv-loop μ-loop
 loop-less c = search needs
 
 loop-again : tie.Need-loop-again Inv-loop μ-loop
-loop-again c = let s = c .before .before .before .args .s .now in let l = c .before .before .loop in let t = c .before .loop-test .taken in let z = length-take-le 48 s (c .before .before .before .pre) in subst (λ x. Copied (take 48 s) (take 48 s) (l .i + 1) (set (l .out) (l .i) x)) (getD-take 48 s (l .i) 0 t) (copy-more (take 48 s) (take 48 s) (l .out) (l .i) refl (omega arith) (l .inv))
+loop-again c = let s = c .before .before .before .args .s .now in let l = c .before .before .loop in let t = c .before .loop-test .taken in
+    let z = length-take-le 48 s (c .before .before .before .pre) in
+    subst (λ x. Copied (take 48 s) (take 48 s) (l .i + 1) (set (l .out) (l .i) x)) (getD-take 48 s (l .i) 0 t)
+    (copy-more (take 48 s) (take 48 s) (l .out) (l .i) refl (omega arith) (l .inv))
 
 returns : tie.Need-returns Inv-loop μ-loop
-returns c = let s = c .before .before .args .s .now in let l = c .before .loop in let t = c .loop-test .left in let z = length-take-le 48 s (c .before .before .pre) in copy-end (take 48 s) (take 48 s) (l .out) (l .i) refl (omega arith) (l .inv)
+returns c = let s = c .before .before .args .s .now in let l = c .before .loop in let t = c .loop-test .left in
+    let z = length-take-le 48 s (c .before .before .pre) in copy-end (take 48 s) (take 48 s) (l .out) (l .i) refl (omega arith) (l .inv)
 
 pub row-spec : {M : Type 1} → statement M
 row-spec =

@@ -19,7 +19,8 @@ byte-requires-2 : tie.Need-byte-requires-2
 byte-requires-2 c κs = search needs
 
 returns : tie.Need-returns
-returns c = or-above 8 8 32 _ _ (c .before .byte .ensures .1) (c .byte2 .ensures .1) (omega arith) ∙ ap₂ (λ (a b : ℕ). a + 256 * b) (c .before .byte .ensures .0) (c .byte2 .ensures .0)
+returns c = or-above 8 8 32 _ _ (c .before .byte .ensures .1) (c .byte2 .ensures .1) (omega arith) ∙ ap₂ (λ (a b : ℕ). a + 256 * b)
+    (c .before .byte .ensures .0) (c .byte2 .ensures .0)
 
 pub get16-spec : {M : Type 1} → statement M
 get16-spec = tie.close (tie.spec byte-requires add-byte byte-requires-2 returns)

@@ -32,8 +32,11 @@ byte-requires-4 c κs = search needs
 
 returns : tie.Need-returns
 returns c =
-    four-bytes _ _ _ _ (c .before .before .before .byte .ensures .1) (c .before .before .byte2 .ensures .1) (c .before .byte3 .ensures .1) (c .byte4 .ensures .1)
-    ∙ ap₂ (λ (a b : ℕ). a + 16777216 * b) (ap₂ (λ (a b : ℕ). a + 65536 * b) (ap₂ (λ (a b : ℕ). a + 256 * b) (c .before .before .before .byte .ensures .0) (c .before .before .byte2 .ensures .0)) (c .before .byte3 .ensures .0)) (c .byte4 .ensures .0)
+    four-bytes _ _ _ _ (c .before .before .before .byte .ensures .1) (c .before .before .byte2 .ensures .1) (c .before .byte3 .ensures .1)
+    (c .byte4 .ensures .1)
+    ∙ ap₂ (λ (a b : ℕ). a + 16777216 * b)
+    (ap₂ (λ (a b : ℕ). a + 65536 * b) (ap₂ (λ (a b : ℕ). a + 256 * b) (c .before .before .before .byte .ensures .0)
+    (c .before .before .byte2 .ensures .0)) (c .before .byte3 .ensures .0)) (c .byte4 .ensures .0)
 
 pub get32-spec : {M : Type 1} → statement M
 get32-spec =

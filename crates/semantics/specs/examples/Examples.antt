@@ -35,7 +35,8 @@ pub sql-joins :
     (sql Inner byFirst 1 1 lefts rights ≡ pair (num (pos 1)) (num (pos 1)) ∷ [])
     × (sql Left byFirst 1 1 lefts rights ≡ pair (num (pos 1)) (num (pos 1)) ∷ pair (num (pos 2)) null ∷ pair null null ∷ [])
     × (sql Right byFirst 1 1 lefts rights ≡ pair (num (pos 1)) (num (pos 1)) ∷ pair null (num (pos 3)) ∷ pair null null ∷ [])
-    × (sql Full byFirst 1 1 lefts rights ≡ pair (num (pos 1)) (num (pos 1)) ∷ pair (num (pos 2)) null ∷ pair null null ∷ pair null (num (pos 3)) ∷ pair null null ∷ [])
+    × (sql Full byFirst 1 1 lefts rights ≡ pair (num (pos 1)) (num (pos 1)) ∷ pair (num (pos 2)) null ∷ pair null null ∷ pair null (num (pos 3))
+    ∷ pair null null ∷ [])
     × (sql LeftSemi byFirst 1 1 lefts rights ≡ row 1 ∷ [])
     × (sql LeftAnti byFirst 1 1 lefts rights ≡ row 2 ∷ (null ∷ []) ∷ [])
     × (sql RightSemi byFirst 1 1 lefts rights ≡ row 1 ∷ [])
@@ -43,21 +44,25 @@ pub sql-joins :
 sql-joins = (refl, refl, refl, refl, refl, refl, refl, refl)
 
 -- all keys must match
-pub sql-all-keys : sql Inner (record { key = up 0; other = 0 } ∷ record { key = up 1; other = 1 } ∷ []) 2 2 (pair (num (pos 1)) (num (pos 2)) ∷ []) (pair (num (pos 1)) (num (pos 3)) ∷ []) ≡ []
+pub sql-all-keys : sql Inner (record { key = up 0; other = 0 } ∷ record { key = up 1; other = 1 } ∷ []) 2 2 (pair (num (pos 1)) (num (pos 2)) ∷ [])
+    (pair (num (pos 1)) (num (pos 3)) ∷ []) ≡ []
 sql-all-keys = refl
 
 -- like-numbered streams; a missing stream is empty
-pub like-numbered : (zipLeft ((row 1 ∷ []) ∷ (row 2 ∷ []) ∷ []) ((row 3 ∷ []) ∷ []) ≡ (row 1 ∷ [], row 3 ∷ []) ∷ (row 2 ∷ [], []) ∷ []) × (zipRight ((row 1 ∷ []) ∷ []) ((row 3 ∷ []) ∷ (row 4 ∷ []) ∷ []) ≡ (row 1 ∷ [], row 3 ∷ []) ∷ ([], row 4 ∷ []) ∷ [])
+pub like-numbered : (zipLeft ((row 1 ∷ []) ∷ (row 2 ∷ []) ∷ []) ((row 3 ∷ []) ∷ []) ≡ (row 1 ∷ [], row 3 ∷ []) ∷ (row 2 ∷ [], []) ∷ [])
+    × (zipRight ((row 1 ∷ []) ∷ []) ((row 3 ∷ []) ∷ (row 4 ∷ []) ∷ []) ≡ (row 1 ∷ [], row 3 ∷ []) ∷ ([], row 4 ∷ []) ∷ [])
 like-numbered = (refl, refl)
 
 -- every kind with a fetch cuts by it, kind 13 too; skip cuts before fetch (reading 18)
 abbrev cutting : List Op
 cutting =
-    coalesce (AtMost 1) ∷ sortOp false (up 0 ∷ []) (AtMost 1) ∷ mergeOp (up 0 ∷ []) (AtMost 1) ∷ globalLimit 0 (AtMost 1) [] ∷ localLimit (AtMost 1) [] ∷ outputRequirement [] Unspecified (AtMost 1)
+    coalesce (AtMost 1) ∷ sortOp false (up 0 ∷ []) (AtMost 1) ∷ mergeOp (up 0 ∷ []) (AtMost 1) ∷ globalLimit 0 (AtMost 1) [] ∷ localLimit (AtMost 1) []
+    ∷ outputRequirement [] Unspecified (AtMost 1)
     ∷ partialSort false (up 0 ∷ up 1 ∷ []) 1 (AtMost 1) ∷ []
 
 pub cut-off :
-    (map (λ o. cutRows (cuts o) (row 1 ∷ row 2 ∷ row 3 ∷ [])) cutting ≡ (row 1 ∷ []) ∷ (row 1 ∷ []) ∷ (row 1 ∷ []) ∷ (row 1 ∷ []) ∷ (row 1 ∷ []) ∷ (row 1 ∷ []) ∷ (row 1 ∷ []) ∷ [])
+    (map (λ o. cutRows (cuts o) (row 1 ∷ row 2 ∷ row 3 ∷ [])) cutting ≡ (row 1 ∷ []) ∷ (row 1 ∷ []) ∷ (row 1 ∷ []) ∷ (row 1 ∷ []) ∷ (row 1 ∷ [])
+    ∷ (row 1 ∷ []) ∷ (row 1 ∷ []) ∷ [])
     × (cutRows (cuts (globalLimit 1 (AtMost 1) [])) (row 1 ∷ row 2 ∷ row 3 ∷ []) ≡ row 2 ∷ [])
     × (cutRows (cuts (globalLimit 1 Unlimited [])) (row 1 ∷ row 2 ∷ row 3 ∷ []) ≡ row 2 ∷ row 3 ∷ [])
 cut-off = (refl, refl, refl)
@@ -65,15 +70,19 @@ cut-off = (refl, refl, refl)
 -- one node of each kind, in the order of their numbers
 abbrev kinds : List Op
 kinds =
-    sourceOf 2 1 0 [] false ∷ filter ∷ projection (0 ∷ []) ∷ union ∷ repartition false 2 false [] ∷ coalesce Unlimited ∷ sortOp false (up 0 ∷ []) Unlimited ∷ mergeOp (up 0 ∷ []) Unlimited
-    ∷ globalLimit 0 Unlimited [] ∷ localLimit (AtMost 1) [] ∷ sortMergeJoin Inner byFirst ∷ hashJoin Inner byFirst ∷ outputRequirement [] Single Unlimited ∷ partialSort false (up 0 ∷ up 1 ∷ []) 1 Unlimited ∷ []
+    sourceOf 2 1 0 [] false ∷ filter ∷ projection (0 ∷ []) ∷ union ∷ repartition false 2 false [] ∷ coalesce Unlimited ∷ sortOp false (up 0 ∷ []) Unlimited
+    ∷ mergeOp (up 0 ∷ []) Unlimited
+    ∷ globalLimit 0 Unlimited [] ∷ localLimit (AtMost 1) [] ∷ sortMergeJoin Inner byFirst ∷ hashJoin Inner byFirst ∷ outputRequirement [] Single Unlimited
+    ∷ partialSort false (up 0 ∷ up 1 ∷ []) 1 Unlimited ∷ []
 
 -- who lets a limit pass: projection, union, coalesce, merge and limits
-pub limit-pushdown : map supportsLimitPushdown kinds ≡ false ∷ false ∷ true ∷ true ∷ false ∷ true ∷ false ∷ true ∷ true ∷ true ∷ false ∷ false ∷ false ∷ false ∷ []
+pub limit-pushdown : map supportsLimitPushdown kinds ≡ false ∷ false ∷ true ∷ true ∷ false ∷ true ∷ false ∷ true ∷ true ∷ true ∷ false ∷ false ∷ false
+    ∷ false ∷ []
 limit-pushdown = refl
 
 -- who keeps the number of rows: projection, and coalesce and merge without a fetch
-pub cardinality : (map cardinalityEqual kinds ≡ false ∷ false ∷ true ∷ false ∷ false ∷ true ∷ false ∷ true ∷ false ∷ false ∷ false ∷ false ∷ false ∷ false ∷ []) × (map cardinalityEqual (coalesce (AtMost 1) ∷ mergeOp (up 0 ∷ []) (AtMost 1) ∷ []) ≡ false ∷ false ∷ [])
+pub cardinality : (map cardinalityEqual kinds ≡ false ∷ false ∷ true ∷ false ∷ false ∷ true ∷ false ∷ true ∷ false ∷ false ∷ false ∷ false ∷ false ∷ false
+    ∷ []) × (map cardinalityEqual (coalesce (AtMost 1) ∷ mergeOp (up 0 ∷ []) (AtMost 1) ∷ []) ≡ false ∷ false ∷ [])
 cardinality = (refl, refl)
 
 -- a source known ks, endless if u, and its right siblings
@@ -85,7 +94,8 @@ scan ks u r = tree (sourceOf 2 1 0 ks u) none r
 abbrev twoScans : Plan
 twoScans = scan (up 0 ∷ up 1 ∷ []) false (scan (up 0 ∷ []) false none)
 
-pub maintained : map (λ o. maintains o (facts twoScans) 0) kinds ≡ false ∷ true ∷ true ∷ false ∷ true ∷ false ∷ false ∷ true ∷ true ∷ true ∷ true ∷ false ∷ true ∷ false ∷ []
+pub maintained : map (λ o. maintains o (facts twoScans) 0) kinds ≡ false ∷ true ∷ true ∷ false ∷ true ∷ false ∷ false ∷ true ∷ true ∷ true ∷ true ∷ false
+    ∷ true ∷ false ∷ []
 maintained = refl
 
 abbrev joinTypes : List JoinType
@@ -135,12 +145,15 @@ pub right-options :
 right-options = (refl, refl)
 
 -- a limit bounds; kind 13 does not, whatever its fetch
-pub unbounded : (endless (tree filter (scan [] true none) none) ≡ true ∷ []) × (endless (tree (localLimit (AtMost 1) []) (scan [] true none) none) ≡ false ∷ []) × (endless (tree (outputRequirement [] Single (AtMost 1)) (scan [] true none) none) ≡ true ∷ [])
+pub unbounded : (endless (tree filter (scan [] true none) none) ≡ true ∷ [])
+    × (endless (tree (localLimit (AtMost 1) []) (scan [] true none) none) ≡ false ∷ [])
+    × (endless (tree (outputRequirement [] Single (AtMost 1)) (scan [] true none) none) ≡ true ∷ [])
 unbounded = (refl, refl, refl)
 
 -- wanted distributions of the first and the second child
 pub distributions :
     (map (distOf (sortMergeJoin Inner (record { key = up 0; other = 1 } ∷ []))) (0 ∷ 1 ∷ []) ≡ Keyed 1 ∷ Keyed 2 ∷ [])
     × (map (distOf (hashJoin Inner byFirst)) (0 ∷ 1 ∷ []) ≡ Single ∷ Unspecified ∷ [])
-    × (map (λ o. distOf o 0) kinds ≡ Unspecified ∷ Unspecified ∷ Unspecified ∷ Unspecified ∷ Unspecified ∷ Unspecified ∷ Single ∷ Unspecified ∷ Single ∷ Unspecified ∷ Keyed 1 ∷ Single ∷ Single ∷ Single ∷ [])
+    × (map (λ o. distOf o 0) kinds ≡ Unspecified ∷ Unspecified ∷ Unspecified ∷ Unspecified ∷ Unspecified ∷ Unspecified ∷ Single ∷ Unspecified ∷ Single
+    ∷ Unspecified ∷ Keyed 1 ∷ Single ∷ Single ∷ Single ∷ [])
 distributions = (refl, refl, refl)

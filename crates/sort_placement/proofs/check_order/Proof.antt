@@ -19,10 +19,13 @@ cast-passes : tie.Need-cast-passes
 cast-passes c = search needs
 
 returns : tie.Need-returns
-returns c = let s = c .before .before .before .before .before .before .before in let f = s .args .plan .now in let y = c .before .before .before .before .call in let e = (y .ensures .0 ∙ check-number f _) in (e, check-writes f [] (y .result .number) e (s .args .passes .now) (c .before .if1 .taken) (y .result .passes) (y .ensures .1))
+returns c = let s = c .before .before .before .before .before .before .before in let f = s .args .plan .now in
+    let y = c .before .before .before .before .call in let e = (y .ensures .0 ∙ check-number f _) in
+    (e, check-writes f [] (y .result .number) e (s .args .passes .now) (c .before .if1 .taken) (y .result .passes) (y .ensures .1))
 
 returns-2 : tie.Need-returns-2
-returns-2 c = let s = c .before .before .before .before .before .before in let f = s .args .plan .now in let y = c .before .before .before .call in let e = (y .ensures .0 ∙ check-number f _) in (e, check-stays f [] (y .result .number) e (s .args .passes .now) (c .if1 .left))
+returns-2 c = let s = c .before .before .before .before .before .before in let f = s .args .plan .now in let y = c .before .before .before .call in
+    let e = (y .ensures .0 ∙ check-number f _) in (e, check-stays f [] (y .result .number) e (s .args .passes .now) (c .if1 .left))
 
 pub check-order-spec : {M : Type 1} → statement M
 check-order-spec =

@@ -20,55 +20,113 @@ use Rattle.transform_up.proofs.step.Reads as step-reads
 use Rattle.transform_up.proofs.tidied.Reads as tidied-reads
 
 mul-has-room : tie.Need-mul-has-room
-mul-has-room c = let s = c .before .before .before in let p = s .pre in let m = s .args .m .now in let v = s .args .v in let u = s .args .u in let ks = s .args .ks .now in let i = s .args .i in let n = s .args .n in let b = s .args .before in let k = s .args .c .now in let x = p .part in let y = p .many in omega arith
+mul-has-room c = let s = c .before .before .before in let p = s .pre in let m = s .args .m .now in let v = s .args .v in let u = s .args .u in
+    let ks = s .args .ks .now in let i = s .args .i in let n = s .args .n in let b = s .args .before in let k = s .args .c .now in let x = p .part in
+    let y = p .many in omega arith
 
 add-has-room : tie.Need-add-has-room
-add-has-room c = let s = c .before .before .before in let p = s .pre in let m = s .args .m .now in let v = s .args .v in let u = s .args .u in let ks = s .args .ks .now in let i = s .args .i in let n = s .args .n in let b = s .args .before in let k = s .args .c .now in let x = p .part in let y = p .many in let z = p .low in omega arith
+add-has-room c = let s = c .before .before .before in let p = s .pre in let m = s .args .m .now in let v = s .args .v in let u = s .args .u in
+    let ks = s .args .ks .now in let i = s .args .i in let n = s .args .n in let b = s .args .before in let k = s .args .c .now in let x = p .part in
+    let y = p .many in let z = p .low in omega arith
 
 add-has-room-2 : tie.Need-add-has-room-2
-add-has-room-2 c = let s = c .before .before .before in let p = s .pre in let m = s .args .m .now in let v = s .args .v in let u = s .args .u in let ks = s .args .ks .now in let i = s .args .i in let n = s .args .n in let b = s .args .before in let k = s .args .c .now in let x = p .part in let y = p .many in let z = p .low in omega arith
+add-has-room-2 c = let s = c .before .before .before in let p = s .pre in let m = s .args .m .now in let v = s .args .v in let u = s .args .u in
+    let ks = s .args .ks .now in let i = s .args .i in let n = s .args .n in let b = s .args .before in let k = s .args .c .now in let x = p .part in
+    let y = p .many in let z = p .low in omega arith
 
 has-room-requires : tie.Need-has-room-requires
 has-room-requires c κs = search needs
 
 returns : tie.Need-returns
-returns c = let s = c .before .before .before .before .before in let p = s .pre in let m = s .args .m .now in let v = s .args .v in let u = s .args .u in let ks = s .args .ks .now in let i = s .args .i in let n = s .args .n in let b = s .args .before in let k = s .args .c .now in no-room m v u ks i n b k p (sym (c .before .has-room .ensures) ∙ not-true _ (c .if1 .taken))
+returns c = let s = c .before .before .before .before .before in let p = s .pre in let m = s .args .m .now in let v = s .args .v in let u = s .args .u in
+    let ks = s .args .ks .now in let i = s .args .i in let n = s .args .n in let b = s .args .before in let k = s .args .c .now in
+    no-room m v u ks i n b k p (sym (c .before .has-room .ensures) ∙ not-true _ (c .if1 .taken))
 
 record-at-requires : tie.Need-record-at-requires
-record-at-requires c κs = let s = c .before .before .before .before .before .before in let p = s .pre in let m = s .args .m .now in let v = s .args .v in let u = s .args .u in let ks = s .args .ks .now in let i = s .args .i in let n = s .args .n in let b = s .args .before in let k = s .args .c .now in let x = p .arena .slots in let y = p .hint in let z = p .more in omega arith
+record-at-requires c κs = let s = c .before .before .before .before .before .before in let p = s .pre in let m = s .args .m .now in let v = s .args .v in
+    let u = s .args .u in let ks = s .args .ks .now in let i = s .args .i in let n = s .args .n in let b = s .args .before in let k = s .args .c .now in
+    let x = p .arena .slots in let y = p .hint in let z = p .more in omega arith
 
 read64-requires : tie.Need-read64-requires
-read64-requires c κs = let s = c .before .before .before .before .before .before .before in let p = s .pre in let m = s .args .m .now in let v = s .args .v in let u = s .args .u in let ks = s .args .ks .now in let i = s .args .i in let n = s .args .n in let b = s .args .before in let k = s .args .c .now in rw (c .record-at .ensures) (seen m i (let y = p .hint in let z = p .more in p .arena .all i (omega arith) .proper) .long)
+read64-requires c κs = let s = c .before .before .before .before .before .before .before in let p = s .pre in let m = s .args .m .now in
+    let v = s .args .v in let u = s .args .u in let ks = s .args .ks .now in let i = s .args .i in let n = s .args .n in let b = s .args .before in
+    let k = s .args .c .now in rw (c .record-at .ensures) (seen m i (let y = p .hint in let z = p .more in p .arena .all i (omega arith) .proper) .long)
 
 slice-aggregate-rebuilt : tie.Need-slice-aggregate-rebuilt
 slice-aggregate-rebuilt c = search needs
 
 rebuilt-requires : tie.Need-rebuilt-requires
-rebuilt-requires c κs = let s = c .before .before .before .before .before .before .before .before .before .before in let p = s .pre in let m = s .args .m .now in let v = s .args .v in let u = s .args .u in let ks = s .args .ks .now in let i = s .args .i in let n = s .args .n in let b = s .args .before in let k = s .args .c .now in let big = (sym (c .before .before .before .before .before .before .has-room .ensures) ∙ not-false _ (c .before .before .before .before .before .if1 .left)) in rw (c .before .before .read64 .ensures, c .before .before .before .record-at .ensures) (finish-over m v u ks i n b k p big)
+rebuilt-requires c κs = let s = c .before .before .before .before .before .before .before .before .before .before in let p = s .pre in
+    let m = s .args .m .now in let v = s .args .v in let u = s .args .u in let ks = s .args .ks .now in let i = s .args .i in let n = s .args .n in
+    let b = s .args .before in let k = s .args .c .now in
+    let big = (sym (c .before .before .before .before .before .before .has-room .ensures)
+    ∙ not-false _ (c .before .before .before .before .before .if1 .left)) in
+    rw (c .before .before .read64 .ensures, c .before .before .before .record-at .ensures) (finish-over m v u ks i n b k p big)
 
 slice-aggregate-step : tie.Need-slice-aggregate-step
 slice-aggregate-step c = search needs
 
 step-requires : tie.Need-step-requires
-step-requires c κs = let s = c .before .before .before .before .before .before .before .before .before .before .before .before .before in let p = s .pre in let m = s .args .m .now in let v = s .args .v in let u = s .args .u in let ks = s .args .ks .now in let i = s .args .i in let n = s .args .n in let b = s .args .before in let k = s .args .c .now in let big = (sym (c .before .before .before .before .before .before .before .before .before .has-room .ensures) ∙ not-false _ (c .before .before .before .before .before .before .before .before .if1 .left)) in finish-opened m v u ks i n b k p big _ (rw (c .before .before .before .before .before .read64 .ensures, c .before .before .before .before .before .before .record-at .ensures) at (c .before .before .rebuilt .ensures))
+step-requires c κs = let s = c .before .before .before .before .before .before .before .before .before .before .before .before .before in let p = s .pre in
+    let m = s .args .m .now in let v = s .args .v in let u = s .args .u in let ks = s .args .ks .now in let i = s .args .i in let n = s .args .n in
+    let b = s .args .before in let k = s .args .c .now in
+    let big = (sym (c .before .before .before .before .before .before .before .before .before .has-room .ensures)
+    ∙ not-false _ (c .before .before .before .before .before .before .before .before .if1 .left)) in
+    finish-opened m v u ks i n b k p big _
+    (rw (c .before .before .before .before .before .read64 .ensures, c .before .before .before .before .before .before .record-at .ensures) at
+    (c .before .before .rebuilt .ensures))
 
 nodes-requires : tie.Need-nodes-requires
 nodes-requires c κs = let g = c .before .before .before .step .ensures in here _ _ _ (g .arena) (g .here)
 
 add-total : tie.Need-add-total
-add-total c = let s = c .before .before .before .before .before .before .before .before .before .before .before .before .before .before .before .before .before .before in let p = s .pre in let m = s .args .m .now in let v = s .args .v in let u = s .args .u in let ks = s .args .ks .now in let i = s .args .i in let n = s .args .n in let b = s .args .before in let k = s .args .c .now in let g = c .before .before .before .before .step .ensures in let h = g .here in let f = g .arena .all (c .before .before .before .before .step .result .root / 2) (omega arith) .proper .few in let e = c .nodes .ensures in let y = p .many in omega arith
+add-total c = let s = c .before .before .before .before .before .before .before .before .before .before .before .before .before .before .before .before
+    .before .before in let p = s .pre in let m = s .args .m .now in let v = s .args .v in let u = s .args .u in let ks = s .args .ks .now in
+    let i = s .args .i in let n = s .args .n in let b = s .args .before in let k = s .args .c .now in
+    let g = c .before .before .before .before .step .ensures in let h = g .here in
+    let f = g .arena .all (c .before .before .before .before .step .result .root / 2) (omega arith) .proper .few in let e = c .nodes .ensures in
+    let y = p .many in omega arith
 
 sub-total : tie.Need-sub-total
-sub-total c = let s = c .before .before .before .before .before .before .before .before .before .before .before .before .before .before .before .before .before .before in let p = s .pre in let m = s .args .m .now in let v = s .args .v in let u = s .args .u in let ks = s .args .ks .now in let i = s .args .i in let n = s .args .n in let b = s .args .before in let k = s .args .c .now in let x = p .part in omega arith
+sub-total c = let s = c .before .before .before .before .before .before .before .before .before .before .before .before .before .before .before .before
+    .before .before in let p = s .pre in let m = s .args .m .now in let v = s .args .v in let u = s .args .u in let ks = s .args .ks .now in
+    let i = s .args .i in let n = s .args .n in let b = s .args .before in let k = s .args .c .now in let x = p .part in omega arith
 
 same-length : tie.Need-same-length
 same-length c = search needs
 
 returns-2 : tie.Need-returns-2
-returns-2 c = let s = c .before .before .before .before .before .before .before .before .before .before .before .before .before .before .before .before .before .before .before in let p = s .pre in let m = s .args .m .now in let v = s .args .v in let u = s .args .u in let ks = s .args .ks .now in let i = s .args .i in let n = s .args .n in let b = s .args .before in let k = s .args .c .now in let big = (sym (c .before .before .before .before .before .before .before .before .before .before .before .before .before .before .before .has-room .ensures) ∙ not-false _ (c .before .before .before .before .before .before .before .before .before .before .before .before .before .before .if1 .left)) in finish-many m v u ks i n b k p big _ (rw (c .before .before .before .before .before .before .before .before .before .before .before .read64 .ensures, c .before .before .before .before .before .before .before .before .before .before .before .before .record-at .ensures) at (c .before .before .before .before .before .before .before .before .rebuilt .ensures)) (s .args .w) _ (c .before .before .before .before .before .step .kept .1 .0) _ (c .before .before .before .before .before .step .ensures) _ (c .before .nodes .ensures) (c .if2 .taken)
+returns-2 c = let s = c .before .before .before .before .before .before .before .before .before .before .before .before .before .before .before .before
+    .before .before .before in let p = s .pre in let m = s .args .m .now in let v = s .args .v in let u = s .args .u in let ks = s .args .ks .now in
+    let i = s .args .i in let n = s .args .n in let b = s .args .before in let k = s .args .c .now in
+    let big = (sym (c .before .before .before .before .before .before .before .before .before .before .before .before .before .before .before .has-room
+    .ensures) ∙ not-false _ (c .before .before .before .before .before .before .before .before .before .before .before .before .before .before .if1 .left))
+    in finish-many m v u ks i n b k p big _
+    (rw (
+      c .before .before .before .before .before .before .before .before .before .before .before .read64 .ensures,
+      c .before .before .before .before .before .before .before .before .before .before .before .before .record-at .ensures,
+    ) at
+    (c .before .before .before .before .before .before .before .before .rebuilt .ensures)) (s .args .w) _
+    (c .before .before .before .before .before .step .kept .1 .0) _ (c .before .before .before .before .before .step .ensures) _ (c .before .nodes .ensures)
+    (c .if2 .taken)
 
 tidied-requires : tie.Need-tidied-requires
-tidied-requires c κs = let s = c .before .before .before .before .before .before .before .before .before .before .before .before .before .before .before .before .before .before .before .before .before in let p = s .pre in let m = s .args .m .now in let v = s .args .v in let u = s .args .u in let ks = s .args .ks .now in let i = s .args .i in let n = s .args .n in let b = s .args .before in let k = s .args .c .now in let big = (sym (c .before .before .before .before .before .before .before .before .before .before .before .before .before .before .before .before .before .has-room .ensures) ∙ not-false _ (c .before .before .before .before .before .before .before .before .before .before .before .before .before .before .before .before .if1 .left)) in finish-tidies m v u ks i n b k p big _ (rw (c .before .before .before .before .before .before .before .before .before .before .before .before .before .read64 .ensures, c .before .before .before .before .before .before .before .before .before .before .before .before .before .before .record-at .ensures) at (c .before .before .before .before .before .before .before .before .before .before .rebuilt .ensures)) (s .args .w) _ (c .before .before .before .before .before .before .before .step .kept .1 .0) _ (c .before .before .before .before .before .before .before .step .ensures) _ (c .before .before .before .nodes .ensures) (omega (arith, c .before .before .if2 .left))
+tidied-requires c κs = let s =
+    c .before .before .before .before .before .before .before .before .before .before .before .before .before .before .before .before .before .before
+    .before .before .before in let p = s .pre in let m = s .args .m .now in let v = s .args .v in let u = s .args .u in let ks = s .args .ks .now in
+    let i = s .args .i in let n = s .args .n in let b = s .args .before in let k = s .args .c .now in
+    let big = (sym (c .before .before .before .before .before .before .before .before .before .before .before .before .before .before .before .before
+    .before .has-room .ensures) ∙ not-false _
+    (c .before .before .before .before .before .before .before .before .before .before .before .before .before .before .before .before .if1 .left)) in
+    finish-tidies m v u ks i n b k p big _
+    (rw (
+      c .before .before .before .before .before .before .before .before .before .before .before .before .before .read64 .ensures,
+      c .before .before .before .before .before .before .before .before .before .before .before .before .before .before .record-at .ensures,
+    ) at
+    (c .before .before .before .before .before .before .before .before .before .before .rebuilt .ensures)) (s .args .w) _
+    (c .before .before .before .before .before .before .before .step .kept .1 .0) _
+    (c .before .before .before .before .before .before .before .step .ensures) _ (c .before .before .before .nodes .ensures)
+    (omega (arith, c .before .before .if2 .left))
 
 same-length-2 : tie.Need-same-length-2
 same-length-2 c = search needs
@@ -77,7 +135,25 @@ same-length-3 : tie.Need-same-length-3
 same-length-3 c = search needs
 
 returns-3 : tie.Need-returns-3
-returns-3 c = let s = c .before .before .before .before .before .before .before .before .before .before .before .before .before .before .before .before .before .before .before .before .before .before .before .before .before .before in let p = s .pre in let m = s .args .m .now in let v = s .args .v in let u = s .args .u in let ks = s .args .ks .now in let i = s .args .i in let n = s .args .n in let b = s .args .before in let k = s .args .c .now in let big = (sym (c .before .before .before .before .before .before .before .before .before .before .before .before .before .before .before .before .before .before .before .before .before .before .has-room .ensures) ∙ not-false _ (c .before .before .before .before .before .before .before .before .before .before .before .before .before .before .before .before .before .before .before .before .before .if1 .left)) in finish-ends m v u ks i n b k p big _ (rw (c .before .before .before .before .before .before .before .before .before .before .before .before .before .before .before .before .before .before .read64 .ensures, c .before .before .before .before .before .before .before .before .before .before .before .before .before .before .before .before .before .before .before .record-at .ensures) at (c .before .before .before .before .before .before .before .before .before .before .before .before .before .before .before .rebuilt .ensures)) (s .args .w) _ (c .before .before .before .before .before .before .before .before .before .before .before .before .step .kept .1 .0) _ (c .before .before .before .before .before .before .before .before .before .before .before .before .step .ensures) _ (c .before .before .before .before .before .before .before .before .nodes .ensures) (omega (arith, c .before .before .before .before .before .before .before .if2 .left)) _ _ (c .before .before .before .before .tidied .ensures)
+returns-3 c = let s = c .before .before .before .before .before .before .before .before .before .before .before .before .before .before .before .before
+    .before .before .before .before .before .before .before .before .before .before in let p = s .pre in let m = s .args .m .now in let v = s .args .v in
+    let u = s .args .u in let ks = s .args .ks .now in let i = s .args .i in let n = s .args .n in let b = s .args .before in let k = s .args .c .now in
+    let big = (sym (c .before .before .before .before .before .before .before .before .before .before .before .before .before .before .before .before
+    .before .before .before .before .before .before .has-room .ensures)
+    ∙ not-false _ (c .before .before .before .before .before .before .before .before .before .before .before .before .before .before .before .before .before
+    .before .before .before .before .if1 .left)) in
+    finish-ends m v u ks i n b k p big _
+    (rw (
+      c .before .before .before .before .before .before .before .before .before .before .before .before .before .before .before .before .before .before
+          .read64 .ensures,
+      c .before .before .before .before .before .before .before .before .before .before .before .before .before .before .before .before
+          .before .before .before .record-at .ensures,
+    ) at
+    (c .before .before .before .before .before .before .before .before .before .before .before .before .before .before .before .rebuilt .ensures))
+    (s .args .w) _ (c .before .before .before .before .before .before .before .before .before .before .before .before .step .kept .1 .0) _
+    (c .before .before .before .before .before .before .before .before .before .before .before .before .step .ensures) _
+    (c .before .before .before .before .before .before .before .before .nodes .ensures)
+    (omega (arith, c .before .before .before .before .before .before .before .if2 .left)) _ _ (c .before .before .before .before .tidied .ensures)
 
 pub finish-spec : {M : Type 1} → statement M
 finish-spec =

@@ -218,7 +218,8 @@ preserve-preferred = refl
 pub preserve-not : preserved (settings false true false) (sortEach 0 (spread false (src 2 (by 0)))) ≡ answered (sortEach 0 (spread false (src 2 (by 0))))
 preserve-not = refl
 
-pub preserve-endless : preserved (settings false false false) (sortEach 0 (spread false (endlessSrc 2 (by 0)))) ≡ answered (spread true (endlessSrc 2 (by 0)))
+pub preserve-endless : preserved (settings false false false) (sortEach 0 (spread false (endlessSrc 2 (by 0)))) ≡ answered
+    (spread true (endlessSrc 2 (by 0)))
 preserve-endless = refl
 
 -- a fetched coalesce carries no connection, so that even a sort by a constant stays over it; one without a fetch does

@@ -65,7 +65,8 @@ pub push-remapped :
 push-remapped = refl
 
 -- no sort goes past a filter; of two fetches the least stays; a fetch does not go past a union
-pub push-blocked : pushed (on (sortOp false (by 0) (AtMost 3)) (on filter (src 1 []))) ≡ answered (on (sortOp false (by 0) (AtMost 3)) (on filter (src 1 [])))
+pub push-blocked : pushed (on (sortOp false (by 0) (AtMost 3)) (on filter (src 1 []))) ≡ answered
+    (on (sortOp false (by 0) (AtMost 3)) (on filter (src 1 [])))
 push-blocked = refl
 
 pub push-least-fetch :
@@ -92,8 +93,10 @@ abbrev sortTwo : Plan → Plan
 sortTwo f = on (sortOp false (byTwo 0 1) Unlimited) f
 
 pub push-merge-join :
-    (pushed (output (byTwo 0 1) (joined Inner (src 1 []) (src 1 []))) ≡ answered (output (byTwo 0 1) (joined Inner (sortTwo (src 1 [])) (sort 0 (src 1 [])))))
-    × (pushed (output (byTwo 3 4) (joined Right (src 1 []) (src 1 []))) ≡ answered (output (byTwo 3 4) (joined Right (sort 0 (src 1 [])) (sortTwo (src 1 [])))))
+    (pushed (output (byTwo 0 1) (joined Inner (src 1 []) (src 1 []))) ≡ answered
+    (output (byTwo 0 1) (joined Inner (sortTwo (src 1 [])) (sort 0 (src 1 [])))))
+    × (pushed (output (byTwo 3 4) (joined Right (src 1 []) (src 1 []))) ≡ answered
+    (output (byTwo 3 4) (joined Right (sort 0 (src 1 [])) (sortTwo (src 1 [])))))
     × (pushed (output (by 1) (joined Inner (src 1 []) (src 1 []))) ≡ answered (output (by 1) (sort 1 (joined Inner (src 1 []) (src 1 [])))))
 push-merge-join = (refl, refl, refl)
 
@@ -201,7 +204,8 @@ literal-own-fetch = refl
 
 -- not: the child of an unnecessary sort is not rebuilt
 pub literal-rebuilt :
-    literal (stack (single (by 1) ∷ sortOp false (by 1) Unlimited ∷ repartition true 2 false [] ∷ sortOp false (byTwo 1 0) (AtMost 2) ∷ []) (pair 2 (by 0) 0))
+    literal (stack (single (by 1) ∷ sortOp false (by 1) Unlimited ∷ repartition true 2 false [] ∷ sortOp false (byTwo 1 0) (AtMost 2) ∷ [])
+    (pair 2 (by 0) 0))
     ≡ gives (answered (stack (single (by 1) ∷ repartition false 2 false [] ∷ sortOp true (byTwo 1 0) (AtMost 2) ∷ []) (pair 2 (by 0) 0)))
 literal-rebuilt = refl
 
@@ -213,7 +217,8 @@ pub literal-reset : literal reset ≡ gives (answered reset)
 literal-reset = refl
 
 -- not: the root's child loses what assign_initial_requirements gave it
-pub literal-root-child : literal (sort 1 (pair 2 [] 0)) ≡ gives (answered (stack (mergeOp (by 1) Unlimited ∷ sortOp true (by 1) Unlimited ∷ []) (pair 2 [] 0)))
+pub literal-root-child : literal (sort 1 (pair 2 [] 0)) ≡ gives
+    (answered (stack (mergeOp (by 1) Unlimited ∷ sortOp true (by 1) Unlimited ∷ []) (pair 2 [] 0)))
 literal-root-child = refl
 
 -- not: the node itself, or those to its right, are not counted

@@ -46,7 +46,8 @@ pub worked :
     × (exprSourceSide joined (up 0 ∷ up 5 ∷ []) Inner 3 ≡ noSide)
     × (exprSourceSide joined (by 1) Inner 3 ≡ leftSide (by 1))
     × (ensured (on (sortOp false (by 2) Unlimited) (src 1 (up 2 ∷ up 0 ∷ []))) ≡ answered (src 1 (up 2 ∷ up 0 ∷ [])))
-    × (ensured (on (sortOp false (by 2) (AtMost 5)) (src 1 (up 2 ∷ up 0 ∷ []))) ≡ answered (on (globalLimit 0 (AtMost 5) (by 2)) (src 1 (up 2 ∷ up 0 ∷ []))))
+    × (ensured (on (sortOp false (by 2) (AtMost 5)) (src 1 (up 2 ∷ up 0 ∷ []))) ≡ answered
+    (on (globalLimit 0 (AtMost 5) (by 2)) (src 1 (up 2 ∷ up 0 ∷ []))))
 worked = (refl, refl, refl, refl, refl, refl, refl, refl, refl, refl, refl, refl, refl, refl)
 
 -- single with keyed, the other way round, is single too
@@ -58,28 +59,35 @@ single-stays s = refl
 abbrev spmBetter : Settings
 spmBetter = settings false true false
 
-pub preserve-merge : preserved spmBetter (on (sortOp false (by 2) (AtMost 5)) (on filter (on (coalesce Unlimited) (src 2 (by 2))))) ≡ answered (on filter (on (mergeOp (by 2) (AtMost 5)) (src 2 (by 2))))
+pub preserve-merge : preserved spmBetter (on (sortOp false (by 2) (AtMost 5)) (on filter (on (coalesce Unlimited) (src 2 (by 2))))) ≡ answered
+    (on filter (on (mergeOp (by 2) (AtMost 5)) (src 2 (by 2))))
 preserve-merge = refl
 
 -- plan_list's example: whole sort [2] over two streams known [2,0] becomes the merge [2]
-pub ensure-merge : ensured (on (sortOp false (by 2) Unlimited) (src 2 (up 2 ∷ up 0 ∷ []))) ≡ answered (on (mergeOp (by 2) Unlimited) (src 2 (up 2 ∷ up 0 ∷ [])))
+pub ensure-merge : ensured (on (sortOp false (by 2) Unlimited) (src 2 (up 2 ∷ up 0 ∷ []))) ≡ answered
+    (on (mergeOp (by 2) Unlimited) (src 2 (up 2 ∷ up 0 ∷ [])))
 ensure-merge = refl
 
 -- ---- 01, 'Traps'
 -- analyze_immediate_sort_removal: the merge has the sort's own keys, though column 1 is constant and the known order is [2]
-pub ensure-own-keys : ensured (on (sortOp false (up 2 ∷ up 1 ∷ []) Unlimited) (tree (sourceOf 3 2 2 (by 2) false) none none)) ≡ answered (on (mergeOp (up 2 ∷ up 1 ∷ []) Unlimited) (tree (sourceOf 3 2 2 (by 2) false) none none))
+pub ensure-own-keys : ensured (on (sortOp false (up 2 ∷ up 1 ∷ []) Unlimited) (tree (sourceOf 3 2 2 (by 2) false) none none)) ≡ answered
+    (on (mergeOp (up 2 ∷ up 1 ∷ []) Unlimited) (tree (sourceOf 3 2 2 (by 2) false) none none))
 ensure-own-keys = refl
 
 -- ---- small trees that tell wrong walks apart
-pub parallelize-sort : parallelized (on (sortOp false (by 0) Unlimited) (on (coalesce Unlimited) (on (repartition false 4 false []) (src 1 [])))) ≡ answered (on (mergeOp (by 0) Unlimited) (on (sortOp true (by 0) Unlimited) (on (repartition false 4 false []) (src 1 []))))
+pub parallelize-sort : parallelized (on (sortOp false (by 0) Unlimited) (on (coalesce Unlimited) (on (repartition false 4 false []) (src 1 [])))) ≡ answered
+    (on (mergeOp (by 0) Unlimited) (on (sortOp true (by 0) Unlimited) (on (repartition false 4 false []) (src 1 []))))
 parallelize-sort = refl
 
 -- a repartition that has become idle goes, and its child stays: sort[0] / rr2 / coalesce / filter / s2
-pub parallelize-idle : parallelized (on (sortOp false (by 0) Unlimited) (on (repartition false 2 false []) (on (coalesce Unlimited) (on filter (src 2 []))))) ≡ answered (on (mergeOp (by 0) Unlimited) (on (sortOp true (by 0) Unlimited) (on filter (src 2 []))))
+pub parallelize-idle : parallelized
+    (on (sortOp false (by 0) Unlimited) (on (repartition false 2 false []) (on (coalesce Unlimited) (on filter (src 2 []))))) ≡ answered
+    (on (mergeOp (by 0) Unlimited) (on (sortOp true (by 0) Unlimited) (on filter (src 2 []))))
 parallelize-idle = refl
 
 -- a union's children keep their places
-pub union-order : (ensure (besides (src 1 []) (src 2 [])) ≡ besides (src 1 []) (src 2 [])) × (ensured (besides (src 1 []) (src 2 [])) ≡ answered (besides (src 1 []) (src 2 [])))
+pub union-order : (ensure (besides (src 1 []) (src 2 [])) ≡ besides (src 1 []) (src 2 []))
+    × (ensured (besides (src 1 []) (src 2 [])) ≡ answered (besides (src 1 []) (src 2 [])))
 union-order = (refl, refl)
 
 -- both sides of a sort-merge join are sorted, and no removal goes through it
@@ -92,21 +100,25 @@ sorted f = on (sortOp false (by 0) Unlimited) f
 pub ensure-sides : ensured (mergeJoin (src 1 []) (src 1 [])) ≡ answered (mergeJoin (sorted (src 1 [])) (sorted (src 1 [])))
 ensure-sides = refl
 
-pub ensure-join : ensured (on (coalesce Unlimited) (mergeJoin (sorted (src 1 [])) (sorted (src 1 [])))) ≡ answered (on (coalesce Unlimited) (mergeJoin (sorted (src 1 [])) (sorted (src 1 []))))
+pub ensure-join : ensured (on (coalesce Unlimited) (mergeJoin (sorted (src 1 [])) (sorted (src 1 [])))) ≡ answered
+    (on (coalesce Unlimited) (mergeJoin (sorted (src 1 [])) (sorted (src 1 []))))
 ensure-join = refl
 
 -- a projection that meets the order required of it stays: 13[0] / projection[0,1] / s1[0]
-pub push-projection : pushed (on (outputRequirement (by 0) Unspecified Unlimited) (on (projection (0 ∷ 1 ∷ [])) (src 1 (by 0)))) ≡ answered (on (outputRequirement (by 0) Unspecified Unlimited) (on (projection (0 ∷ 1 ∷ [])) (src 1 (by 0))))
+pub push-projection : pushed (on (outputRequirement (by 0) Unspecified Unlimited) (on (projection (0 ∷ 1 ∷ [])) (src 1 (by 0)))) ≡ answered
+    (on (outputRequirement (by 0) Unspecified Unlimited) (on (projection (0 ∷ 1 ∷ [])) (src 1 (by 0))))
 push-projection = refl
 
 -- ---- the readings
 -- 1: an idle mark that comes alive stays: rr1 p / sort[0] / s2
-pub push-alive : pushed (on (repartition true 1 false []) (on (sortOp false (by 0) Unlimited) (src 2 []))) ≡ answered (on (repartition true 1 false []) (on (sortOp true (by 0) Unlimited) (src 2 [])))
+pub push-alive : pushed (on (repartition true 1 false []) (on (sortOp false (by 0) Unlimited) (src 2 []))) ≡ answered
+    (on (repartition true 1 false []) (on (sortOp true (by 0) Unlimited) (src 2 [])))
 push-alive = refl
 
 -- 2: a rejected alternative leaves the tree as it was, sort[0] f3 / coalesce / sort[1] / s1; its order-breaking variant has a coalesce with
 -- fetch 3 below the sort
-pub preserve-rejected : preserved spmBetter (on (sortOp false (by 0) (AtMost 3)) (on (coalesce Unlimited) (on (sortOp false (by 1) Unlimited) (src 1 [])))) ≡ answered (on (sortOp false (by 0) (AtMost 3)) (on (coalesce Unlimited) (on (sortOp false (by 1) Unlimited) (src 1 []))))
+pub preserve-rejected : preserved spmBetter (on (sortOp false (by 0) (AtMost 3)) (on (coalesce Unlimited) (on (sortOp false (by 1) Unlimited) (src 1 []))))
+    ≡ answered (on (sortOp false (by 0) (AtMost 3)) (on (coalesce Unlimited) (on (sortOp false (by 1) Unlimited) (src 1 []))))
 preserve-rejected = refl
 
 -- the coalesce of that tree, connected, over the sort
@@ -116,11 +128,14 @@ coalesced = node (coalesce Unlimited) true (bare (on (sortOp false (by 1) Unlimi
 abbrev planT : Tree → Plan
 planT t = strip (plant t none)
 
-pub broken : planT (planWithOrderBreakingVariants (planWithOrderPreservingVariants false true (AtMost 3) coalesced)) ≡ on (coalesce (AtMost 3)) (on (sortOp false (by 1) Unlimited) (src 1 []))
+pub broken : planT (planWithOrderBreakingVariants (planWithOrderPreservingVariants false true (AtMost 3) coalesced)) ≡ on (coalesce (AtMost 3))
+    (on (sortOp false (by 1) Unlimited) (src 1 []))
 broken = refl
 
 -- 3: a projection's fetch is its input's: sort[1] / projection[0,1] / sort[0] p f4 / s2
-pub ensure-projection : ensured (on (sortOp false (by 1) Unlimited) (on (projection (0 ∷ 1 ∷ [])) (on (sortOp true (by 0) (AtMost 4)) (src 2 [])))) ≡ answered (on (sortOp false (by 1) Unlimited) (on (mergeOp (by 0) (AtMost 4)) (on (projection (0 ∷ 1 ∷ [])) (on (sortOp true (by 0) (AtMost 4)) (src 2 [])))))
+pub ensure-projection : ensured (on (sortOp false (by 1) Unlimited) (on (projection (0 ∷ 1 ∷ [])) (on (sortOp true (by 0) (AtMost 4)) (src 2 []))))
+    ≡ answered (on (sortOp false (by 1) Unlimited)
+    (on (mergeOp (by 0) (AtMost 4)) (on (projection (0 ∷ 1 ∷ [])) (on (sortOp true (by 0) (AtMost 4)) (src 2 [])))))
 ensure-projection = refl
 
 -- 4: one step can add half as many nodes as the tree has: 13 single [1] / (rr2 p / 13 single)^61 / sort[0] p f / s2
@@ -139,11 +154,13 @@ abbrev merges : ℕ → Plan
 merges zero = src 1 (by 0)
 merges (suc n) = on (mergeOp (by 0) Unlimited) (merges n)
 
-pub whole-plan : (size (besides (chain 30) (merges 60)) ≡ 125) × (size (ensure (besides (chain 30) (merges 60))) ≡ 97) × (ensured (besides (chain 30) (merges 60)) ≡ refused TooManyNodes)
+pub whole-plan : (size (besides (chain 30) (merges 60)) ≡ 125) × (size (ensure (besides (chain 30) (merges 60))) ≡ 97)
+    × (ensured (besides (chain 30) (merges 60)) ≡ refused TooManyNodes)
 whole-plan = (refl, refl, refl)
 
 -- 8: pushing is followed as written, though the answer may fail the order check
-pub push-two : pushed (on (sortOp false (by 1) Unlimited) (on (sortOp false (by 0) Unlimited) (src 2 []))) ≡ answered (on (mergeOp (by 1) Unlimited) (on (sortOp true (by 0) Unlimited) (on (sortOp true (by 1) Unlimited) (src 2 []))))
+pub push-two : pushed (on (sortOp false (by 1) Unlimited) (on (sortOp false (by 0) Unlimited) (src 2 []))) ≡ answered
+    (on (mergeOp (by 1) Unlimited) (on (sortOp true (by 0) Unlimited) (on (sortOp true (by 1) Unlimited) (src 2 []))))
 push-two = refl
 
 pub push-filter : pushed (on filter (on (sortOp false (by 0) Unlimited) (src 2 []))) ≡ answered (on filter (on (sortOp true (by 0) Unlimited) (src 2 [])))
@@ -156,7 +173,8 @@ push-fetch = refl
 abbrev twoSides : Plan → Plan
 twoSides r = on (hashJoin Inner (record { key = up 0; other = 0 } ∷ [])) (tree (sourceOf 2 1 2 [] false) none r)
 
-pub push-again : pushed (on (outputRequirement (up 3 ∷ up 1 ∷ []) Single Unlimited) (twoSides (src 2 []))) ≡ answered (on (outputRequirement (up 3 ∷ up 1 ∷ []) Single Unlimited) (on (mergeOp (by 3) Unlimited) (twoSides (on (sortOp true (by 1) Unlimited) (src 2 [])))))
+pub push-again : pushed (on (outputRequirement (up 3 ∷ up 1 ∷ []) Single Unlimited) (twoSides (src 2 []))) ≡ answered
+    (on (outputRequirement (up 3 ∷ up 1 ∷ []) Single Unlimited) (on (mergeOp (by 3) Unlimited) (twoSides (on (sortOp true (by 1) Unlimited) (src 2 [])))))
 push-again = refl
 
 -- pushing does not keep the order check, and order-preserving neither: 13[0] / rr2 / sort[0] / rr3 / s2[0], spr better
@@ -167,7 +185,8 @@ pub push-breaks : (check sortedTwice ≡ true) × (check (push sortedTwice) ≡ 
 push-breaks = (refl, refl)
 
 abbrev sortedBelow : Plan
-sortedBelow = on (outputRequirement (by 0) Unspecified Unlimited) (on (repartition false 2 false []) (on (sortOp false (by 0) Unlimited) (on (repartition false 3 false []) (src 2 (by 0)))))
+sortedBelow = on (outputRequirement (by 0) Unspecified Unlimited)
+    (on (repartition false 2 false []) (on (sortOp false (by 0) Unlimited) (on (repartition false 3 false []) (src 2 (by 0)))))
 
 pub preserve-breaks : (check sortedBelow ≡ true) × (check (preserve (settings true false false) sortedBelow) ≡ false)
 preserve-breaks = (refl, refl)
@@ -180,21 +199,26 @@ constant = tree (sourceOf 2 1 1 [] false) none none
 pub push-constant : pushed (on (sortOp false (by 0) Unlimited) constant) ≡ refused ConstantSort
 push-constant = refl
 
-pub push-panic : pushed (on (outputRequirement (up 0 ∷ up 1 ∷ []) Unspecified Unlimited) (on (mergeOp (by 0) Unlimited) constant)) ≡ answered (on (outputRequirement (up 0 ∷ up 1 ∷ []) Unspecified Unlimited) (on (sortOp false (by 1) Unlimited) (on (mergeOp (by 0) Unlimited) constant)))
+pub push-panic : pushed (on (outputRequirement (up 0 ∷ up 1 ∷ []) Unspecified Unlimited) (on (mergeOp (by 0) Unlimited) constant)) ≡ answered
+    (on (outputRequirement (up 0 ∷ up 1 ∷ []) Unspecified Unlimited) (on (sortOp false (by 1) Unlimited) (on (mergeOp (by 0) Unlimited) constant)))
 push-panic = refl
 
 -- lost fetches: coalesce / merge[0] f2 / sort[0] p / s2; sort[0] f2 / merge[0] / rr1 / s2
-pub ensure-lost : ensured (on (coalesce Unlimited) (on (mergeOp (by 0) (AtMost 2)) (on (sortOp true (by 0) Unlimited) (src 2 [])))) ≡ answered (on (coalesce Unlimited) (src 2 []))
+pub ensure-lost : ensured (on (coalesce Unlimited) (on (mergeOp (by 0) (AtMost 2)) (on (sortOp true (by 0) Unlimited) (src 2 [])))) ≡ answered
+    (on (coalesce Unlimited) (src 2 []))
 ensure-lost = refl
 
-pub preserve-lost : preserved (settings false false false) (on (sortOp false (by 0) (AtMost 2)) (on (mergeOp (by 0) Unlimited) (on (repartition false 1 false []) (src 2 [])))) ≡ answered (on (mergeOp (by 0) Unlimited) (on (repartition false 1 false []) (src 2 [])))
+pub preserve-lost : preserved (settings false false false)
+    (on (sortOp false (by 0) (AtMost 2)) (on (mergeOp (by 0) Unlimited) (on (repartition false 1 false []) (src 2 [])))) ≡ answered
+    (on (mergeOp (by 0) Unlimited) (on (repartition false 1 false []) (src 2 [])))
 preserve-lost = refl
 
 -- 22, and a partial sort over an unbounded child
 pub partial-all : partiallySorted 0 (on (sortOp false (by 2) Unlimited) (endlessSrc 1 (up 2 ∷ up 0 ∷ []))) ≡ refused AllKeysMet
 partial-all = refl
 
-pub partial-prefix : partiallySorted 0 (on (sortOp false (up 2 ∷ up 1 ∷ []) Unlimited) (endlessSrc 1 (up 2 ∷ up 0 ∷ []))) ≡ answered (on (partialSort false (up 2 ∷ up 1 ∷ []) 1 Unlimited) (endlessSrc 1 (up 2 ∷ up 0 ∷ [])))
+pub partial-prefix : partiallySorted 0 (on (sortOp false (up 2 ∷ up 1 ∷ []) Unlimited) (endlessSrc 1 (up 2 ∷ up 0 ∷ []))) ≡ answered
+    (on (partialSort false (up 2 ∷ up 1 ∷ []) 1 Unlimited) (endlessSrc 1 (up 2 ∷ up 0 ∷ [])))
 partial-prefix = refl
 
 pub partial-nowhere : partiallySorted 2 (on (sortOp false (by 2) Unlimited) (endlessSrc 1 [])) ≡ refused NoSuchNode

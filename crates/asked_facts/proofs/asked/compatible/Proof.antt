@@ -21,7 +21,8 @@ fronts-requires c κs = search needs
 returns : tie.Need-returns
 returns c =
     let s = (c .before .before .before .before) .args in let F = told (s .b .now) in
-    ap (λ n. eqb (c .before .fronts .result) n) (sym (length-keys (s .second .len) (s .second .word))) ∙ all-fronts F (keysOf (c .before .before .normal-form .result)) (keysOf (s .second)) (c .before .fronts .result) (c .before .fronts .ensures)
+    ap (λ n. eqb (c .before .fronts .result) n) (sym (length-keys (s .second .len) (s .second .word)))
+    ∙ all-fronts F (keysOf (c .before .before .normal-form .result)) (keysOf (s .second)) (c .before .fronts .result) (c .before .fronts .ensures)
     ∙ ap (λ (l : List Key). sem.prefixb (sem.nf F [] (keysOf (s .second))) l) (c .before .before .normal-form .ensures .is)
 
 pub compatible-spec : {M : Type 1} → statement M

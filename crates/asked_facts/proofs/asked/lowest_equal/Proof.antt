@@ -15,7 +15,8 @@ wide-requires : tie.Need-wide-requires
 wide-requires c κs = search needs
 
 returns : tie.Need-returns
-returns c = let s = c .before .before .before in let e = c .wide .ensures ∙ lowest-is (s .args .b .now) (s .args .c) (s .pre .0) (s .pre .1) in (e, lowest-below (s .args .b .now) (s .args .c) (c .wide .result) (s .pre .0) (s .pre .1) e)
+returns c = let s = c .before .before .before in let e = c .wide .ensures ∙ lowest-is (s .args .b .now) (s .args .c) (s .pre .0) (s .pre .1) in
+    (e, lowest-below (s .args .b .now) (s .args .c) (c .wide .result) (s .pre .0) (s .pre .1) e)
 
 pub lowest-equal-spec : {M : Type 1} → statement M
 lowest-equal-spec = tie.close (tie.spec add-wide shared-slice-read-wide wide-requires returns)

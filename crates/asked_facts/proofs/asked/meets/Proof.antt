@@ -14,7 +14,8 @@ met-keys-requires : tie.Need-met-keys-requires
 met-keys-requires c κs = search needs
 
 returns : tie.Need-returns
-returns c = let s = (c .before .before .before) .args in ap (λ n. eqb (c .before .met-keys .result) n) (sym (length-keys (s .k .len) (s .k .word))) ∙ all-fronts (told (s .b .now)) (knownOrder (told (s .b .now))) (keysOf (s .k)) (c .before .met-keys .result) (c .before .met-keys .ensures)
+returns c = let s = (c .before .before .before) .args in ap (λ n. eqb (c .before .met-keys .result) n) (sym (length-keys (s .k .len) (s .k .word)))
+    ∙ all-fronts (told (s .b .now)) (knownOrder (told (s .b .now))) (keysOf (s .k)) (c .before .met-keys .result) (c .before .met-keys .ensures)
 
 pub meets-spec : {M : Type 1} → statement M
 meets-spec = tie.close (tie.spec met-keys-requires returns)

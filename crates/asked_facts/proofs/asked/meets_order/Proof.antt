@@ -17,7 +17,8 @@ meets-requires : tie.Need-meets-requires
 meets-requires c κs = search needs
 
 returns-2 : tie.Need-returns-2
-returns-2 c = let s = (c .before .before .before .before .before) .args in some-met (s .b .now) (s .o) _ (c .meets .result) (c .before .before .o .given .1) (c .meets .ensures)
+returns-2 c = let s = (c .before .before .before .before .before) .args in
+    some-met (s .b .now) (s .o) _ (c .meets .result) (c .before .before .o .given .1) (c .meets .ensures)
 
 pub meets-order-spec : {M : Type 1} → statement M
 meets-order-spec = tie.close (tie.spec enum-known-o enum-told returns meets-requires returns-2)

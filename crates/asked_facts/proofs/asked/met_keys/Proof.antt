@@ -14,7 +14,8 @@ fronts-requires : tie.Need-fronts-requires
 fronts-requires c κs = search needs
 
 returns : tie.Need-returns
-returns c = subst (λ (k : Keys). Fronts (told ((c .before .before .before) .args .b .now)) (keysOf k) (keysOf ((c .before .before .before) .args .k)) (c .fronts .result)) (c .before .order-keys .ensures) (c .fronts .ensures)
+returns c = subst (λ (k : Keys). Fronts (told ((c .before .before .before) .args .b .now)) (keysOf k) (keysOf ((c .before .before .before) .args .k))
+    (c .fronts .result)) (c .before .order-keys .ensures) (c .fronts .ensures)
 
 pub met-keys-spec : {M : Type 1} → statement M
 met-keys-spec = tie.close (tie.spec order-keys-requires fronts-requires returns)

@@ -25,7 +25,9 @@ get32-requires : tie.Need-get32-requires Inv-loop μ-loop
 get32-requires c κs = search needs
 
 loop-holds : tie.Need-loop-holds Inv-loop μ-loop
-loop-holds c = let s = c .before .before .before in normal-none _ _ (s .args .k) (c .before .no-keys .result) (c .get32 .result) (s .pre .1) (c .before .no-keys .ensures .0) (c .before .no-keys .ensures .1) (constants-are (s .args .b .now) (c .get32 .result) (s .pre .0) (c .get32 .ensures))
+loop-holds c = let s = c .before .before .before in
+    normal-none _ _ (s .args .k) (c .before .no-keys .result) (c .get32 .result) (s .pre .1) (c .before .no-keys .ensures .0)
+    (c .before .no-keys .ensures .1) (constants-are (s .args .b .now) (c .get32 .result) (s .pre .0) (c .get32 .ensures))
 
 column-requires : tie.Need-column-requires Inv-loop μ-loop
 column-requires c κs = search needs
@@ -43,7 +45,8 @@ with-column-requires : tie.Need-with-column-requires Inv-loop μ-loop
 with-column-requires c κs = c .before .before .before .lowest-equal .ensures .1
 
 appended-requires : tie.Need-appended-requires Inv-loop μ-loop
-appended-requires c κs = let l = c .before .before .before .before .before .before .before .loop in let f = l .inv .few in (l .inv .builds .tight, omega (arith, c .before .before .before .before .before .before .loop-test .taken))
+appended-requires c κs = let l = c .before .before .before .before .before .before .before .loop in let f = l .inv .few in
+    (l .inv .builds .tight, omega (arith, c .before .before .before .before .before .before .loop-test .taken))
 
 sub-left : tie.Need-sub-left Inv-loop μ-loop
 sub-left c = search needs
@@ -53,10 +56,14 @@ loop-less c = search needs
 
 loop-again : tie.Need-loop-again Inv-loop μ-loop
 loop-again c =
-    let s = c .before .before .before .before .before .before .before .before .before .args in let l = c .before .before .before .before .before .loop in let h = c .before .before .before .before .loop-test .taken in
+    let s = c .before .before .before .before .before .before .before .before .before .args in let l = c .before .before .before .before .before .loop in
+    let h = c .before .before .before .before .loop-test .taken in
     let e = c .before .before .lowest-equal .ensures .0 ∙ ap (cl (told (s .b .now))) (c .before .before .before .column .ensures) in
-    ⊎-elim (λ w. rw (w .4, w .5) (kept _ _ _ (l .out) (l .seen) (l .rest) (l .left) (l .inv) h (c .before .before .lowest-equal .result) e (sym (c .before .has .ensures) ∙ not-true _ (w .0 .taken)) (w .1 .result) (w .1 .ensures) (w .2 .result) (w .2 .ensures) (w .3 .result) (w .3 .ensures)))
-    (λ w. rw (w .1, w .2) (skipped _ _ _ (l .out) (l .seen) (l .rest) (l .left) (l .inv) h (c .before .before .lowest-equal .result) e (sym (c .before .has .ensures) ∙ not-false _ (w .0 .left))))
+    ⊎-elim (λ w. rw (w .4, w .5) (kept _ _ _ (l .out) (l .seen) (l .rest) (l .left) (l .inv) h (c .before .before .lowest-equal .result) e
+    (sym (c .before .has .ensures) ∙ not-true _ (w .0 .taken)) (w .1 .result) (w .1 .ensures) (w .2 .result) (w .2 .ensures) (w .3 .result)
+    (w .3 .ensures)))
+    (λ w. rw (w .1, w .2) (skipped _ _ _ (l .out) (l .seen) (l .rest) (l .left) (l .inv) h (c .before .before .lowest-equal .result) e
+    (sym (c .before .has .ensures) ∙ not-false _ (w .0 .left))))
     (c .if1 .came)
 
 returns : tie.Need-returns Inv-loop μ-loop

@@ -28,7 +28,9 @@ connects-requires : tie.Need-connects-requires Inv-loop μ-loop
 connects-requires c κs = c .before .before .before .before .before .pre
 
 returns : tie.Need-returns Inv-loop μ-loop
-returns c = let s = c .before .before .before .before .before .before .before in passed-found (λ i. not (singles (decode (s .args .r .now)) i)) (s .args .ks .now) (c .before .before .before .before .loop .j) (c .before .before .before .before .loop .inv .1) (c .before .before .before .loop-test .taken) (sym (c .before .connects .ensures) ∙ c .if1 .taken)
+returns c = let s = c .before .before .before .before .before .before .before in
+    passed-found (λ i. not (singles (decode (s .args .r .now)) i)) (s .args .ks .now) (c .before .before .before .before .loop .j)
+    (c .before .before .before .before .loop .inv .1) (c .before .before .before .loop-test .taken) (sym (c .before .connects .ensures) ∙ c .if1 .taken)
 
 add-j : tie.Need-add-j Inv-loop μ-loop
 add-j c = omega arith
@@ -37,10 +39,15 @@ loop-less : tie.Need-loop-less Inv-loop μ-loop
 loop-less c = let x = c .before .before .before .loop-test .taken in omega arith
 
 loop-again : tie.Need-loop-again Inv-loop μ-loop
-loop-again c = let s = c .before .before .before .before .before .before .before in let x = c .before .before .before .loop-test .taken in (omega arith, passed-more (λ i. not (singles (decode (s .args .r .now)) i)) (s .args .ks .now) (c .before .before .before .before .loop .j) (c .before .before .before .before .loop .inv .1) x (sym (c .before .connects .ensures) ∙ c .if1 .left))
+loop-again c = let s = c .before .before .before .before .before .before .before in let x = c .before .before .before .loop-test .taken in (
+  omega arith,
+  passed-more (λ i. not (singles (decode (s .args .r .now)) i)) (s .args .ks .now) (c .before .before .before .before .loop .j)
+      (c .before .before .before .before .loop .inv .1) x (sym (c .before .connects .ensures) ∙ c .if1 .left),
+)
 
 returns-2 : tie.Need-returns-2 Inv-loop μ-loop
-returns-2 c = let s = c .before .before .before .before in passed-all (λ i. not (singles (decode (s .args .r .now)) i)) (s .args .ks .now) (c .before .loop .j) (c .before .loop .inv .1) (c .loop-test .left)
+returns-2 c = let s = c .before .before .before .before in
+    passed-all (λ i. not (singles (decode (s .args .r .now)) i)) (s .args .ks .now) (c .before .loop .j) (c .before .loop .inv .1) (c .loop-test .left)
 
 pub any-connects-spec : {M : Type 1} → statement M
 any-connects-spec =

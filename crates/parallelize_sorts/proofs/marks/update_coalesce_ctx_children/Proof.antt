@@ -17,13 +17,17 @@ is-bottleneck-requires : tie.Need-is-bottleneck-requires
 is-bottleneck-requires c κs = search needs
 
 returns-2 : tie.Need-returns-2
-returns-2 c = λ m. (c .is-bottleneck) .ensures ∙ coalesce-marked (decode ((c .before .before .before .before .before .before) .args .r .now)) ((c .before .before .before .before .before .before) .args .ks .now) m ((c .before .before .before .if1) .left) (sym ((c .before .before .is-coalesce-partitions) .ensures) ∙ (c .before .if2) .taken)
+returns-2 c = λ m. (c .is-bottleneck) .ensures ∙ coalesce-marked (decode ((c .before .before .before .before .before .before) .args .r .now))
+    ((c .before .before .before .before .before .before) .args .ks .now) m ((c .before .before .before .if1) .left)
+    (sym ((c .before .before .is-coalesce-partitions) .ensures) ∙ (c .before .if2) .taken)
 
 any-connects-requires : tie.Need-any-connects-requires
 any-connects-requires c κs = search needs
 
 returns-3 : tie.Need-returns-3
-returns-3 c = λ m. (c .any-connects) .ensures m ∙ other-marked (decode ((c .before .before .before .before .before .before) .args .r .now)) ((c .before .before .before .before .before .before) .args .ks .now) m ((c .before .before .before .if1) .left) (sym ((c .before .before .is-coalesce-partitions) .ensures) ∙ (c .before .if2) .left)
+returns-3 c = λ m. (c .any-connects) .ensures m ∙ other-marked (decode ((c .before .before .before .before .before .before) .args .r .now))
+    ((c .before .before .before .before .before .before) .args .ks .now) m ((c .before .before .before .if1) .left)
+    (sym ((c .before .before .is-coalesce-partitions) .ensures) ∙ (c .before .if2) .left)
 
 pub update-coalesce-ctx-children-spec : {M : Type 1} → statement M
 update-coalesce-ctx-children-spec =

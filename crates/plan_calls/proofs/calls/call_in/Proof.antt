@@ -27,10 +27,21 @@ same-length : tie.Need-same-length
 same-length c = search needs
 
 returns : tie.Need-returns
-returns c = let s = c .before .before .before .before .before .before .before .before .before .before in let f = s .args .plan .now in let m = s .args .m .now in let k = s .args .c .now in let rd = c .before .before .before .before .read in let q = rd .ensures in let n = c .before .number in file-refused (s .args .k) f (s .args .out .now) (n .result) (n .ensures ∙ ap numberOf (q .refusal)) (c .if1 .taken) (length m)
+returns c = let s = c .before .before .before .before .before .before .before .before .before .before in let f = s .args .plan .now in
+    let m = s .args .m .now in let k = s .args .c .now in let rd = c .before .before .before .before .read in let q = rd .ensures in
+    let n = c .before .number in file-refused (s .args .k) f (s .args .out .now) (n .result) (n .ensures ∙ ap numberOf (q .refusal)) (c .if1 .taken)
+    (length m)
 
 perform-requires : tie.Need-perform-requires
-perform-requires c κs = let s = c .before .before .before .before .before .before .before .before .before .before .before .before .before in let f = s .args .plan .now in let m = s .args .m .now in let k = s .args .c .now in let rd = c .before .before .before .before .before .before .before .read in let q = rd .ensures in let n = c .before .before .before .before .number in let by : AllBytes f = record { below = λ i g. omega (arith, c .before .before .before .before .before .before .before .before .before .before .before .before .shared-slice-known .given i) } in let e = is-accepted f (rd .result .refusal) (q .refusal) (sym (n .ensures) ∙ c .before .before .before .if1 .left) in file-loads f m k (s .pre) by e (rd .last .1 .0) (rd .kept .1 .0) (rd .result .used) (rd .result .root) (q .holds e)
+perform-requires c κs = let s = c .before .before .before .before .before .before .before .before .before .before .before .before .before in
+    let f = s .args .plan .now in let m = s .args .m .now in let k = s .args .c .now in
+    let rd = c .before .before .before .before .before .before .before .read in let q = rd .ensures in let n = c .before .before .before .before .number in
+    let by : AllBytes f = record {
+      below = λ i g. omega
+          (arith, c .before .before .before .before .before .before .before .before .before .before .before .before .shared-slice-known .given i);
+    } in
+    let e = is-accepted f (rd .result .refusal) (q .refusal) (sym (n .ensures) ∙ c .before .before .before .if1 .left) in
+    file-loads f m k (s .pre) by e (rd .last .1 .0) (rd .kept .1 .0) (rd .result .used) (rd .result .root) (q .holds e)
 
 same-length-2 : tie.Need-same-length-2
 same-length-2 c = search needs
@@ -42,7 +53,26 @@ same-length-4 : tie.Need-same-length-4
 same-length-4 c = search needs
 
 returns-2 : tie.Need-returns-2
-returns-2 c = let s = c .before .before .before .before .before .before .before .before .before .before .before .before .before .before .before .before .before .before .before .before in let f = s .args .plan .now in let m = s .args .m .now in let k = s .args .c .now in let rd = c .before .before .before .before .before .before .before .before .before .before .before .before .before .before .read in let q = rd .ensures in let n = c .before .before .before .before .before .before .before .before .before .before .before .number in let by : AllBytes f = record { below = λ i g. omega (arith, c .before .before .before .before .before .before .before .before .before .before .before .before .before .before .before .before .before .before .before .shared-slice-known .given i) } in let e = is-accepted f (rd .result .refusal) (q .refusal) (sym (n .ensures) ∙ c .before .before .before .before .before .before .before .before .before .before .if1 .left) in file-called f m k (s .pre) by e (rd .last .1 .0) (rd .kept .1 .0) (rd .result .used) (rd .result .root) (q .holds e) (s .args .k) (c .before .before .before .before .before .before .perform .result) (s .args .out .now) (c .before .before .before .before .before .before .perform .last .1 .1 .1 .1 .0) (length m) (subst (λ x. CalledAs (c .before .before .before .before .before .before .perform .result) (resultOf (s .args .k) (planT (treeOf (rd .last .1 .0) (rd .result .root)))) (s .args .out .now) (c .before .before .before .before .before .before .perform .last .1 .1 .1 .1 .0) x) (rd .kept .1 .0) (c .before .before .before .before .before .before .perform .ensures))
+returns-2 c = let s = c .before .before .before .before .before .before .before .before .before .before .before .before .before .before .before .before
+    .before .before .before .before in let f = s .args .plan .now in let m = s .args .m .now in let k = s .args .c .now in
+    let rd = c .before .before .before .before .before .before .before .before .before .before .before .before .before .before .read in
+    let q = rd .ensures in let n = c .before .before .before .before .before .before .before .before .before .before .before .number in
+    let by : AllBytes f = record {
+      below = λ i g. omega (
+        arith,
+        c .before .before .before .before .before .before .before .before .before .before .before .before .before .before .before .before .before
+            .before .before .shared-slice-known .given i,
+      );
+    } in
+    let e = is-accepted f (rd .result .refusal) (q .refusal)
+    (sym (n .ensures) ∙ c .before .before .before .before .before .before .before .before .before .before .if1 .left) in
+    file-called f m k (s .pre) by e (rd .last .1 .0) (rd .kept .1 .0) (rd .result .used) (rd .result .root) (q .holds e) (s .args .k)
+    (c .before .before .before .before .before .before .perform .result) (s .args .out .now)
+    (c .before .before .before .before .before .before .perform .last .1 .1 .1 .1 .0) (length m)
+    (subst (λ x. CalledAs (c .before .before .before .before .before .before .perform .result)
+    (resultOf (s .args .k) (planT (treeOf (rd .last .1 .0) (rd .result .root)))) (s .args .out .now)
+    (c .before .before .before .before .before .before .perform .last .1 .1 .1 .1 .0) x) (rd .kept .1 .0)
+    (c .before .before .before .before .before .before .perform .ensures))
 
 pub call-in-spec : {M : Type 1} → statement M
 call-in-spec =

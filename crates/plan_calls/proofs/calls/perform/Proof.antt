@@ -33,19 +33,22 @@ enum-told-3 : tie.Need-enum-told-3
 enum-told-3 c = search needs
 
 push-in-requires : tie.Need-push-in-requires
-push-in-requires c κs = let p = c .before .before .before .before .before .before .before .pre in record { loaded = p .loaded; here = p .here; plan = p .plan; size = p .size }
+push-in-requires c κs = let p = c .before .before .before .before .before .before .before .pre in
+    record { loaded = p .loaded; here = p .here; plan = p .plan; size = p .size }
 
 enum-known-k-2 : tie.Need-enum-known-k-2
 enum-known-k-2 c = search needs
 
 sort-partially-requires : tie.Need-sort-partially-requires
-sort-partially-requires c κs = let p = c .before .before .before .before .before .before .before .before .pre in (record { loaded = p .loaded; here = p .here; plan = p .plan; size = p .size }, p .few)
+sort-partially-requires c κs = let p = c .before .before .before .before .before .before .before .before .pre in
+    (record { loaded = p .loaded; here = p .here; plan = p .plan; size = p .size }, p .few)
 
 same-length : tie.Need-same-length
 same-length c = search needs
 
 returns : tie.Need-returns
-returns c = rw (c .before .before .before .before .enum-told .given .1) (c .before .before .check-in .ensures (c .before .before .before .before .before .before .before .before .before .args .out .now))
+returns c = rw (c .before .before .before .before .enum-told .given .1)
+    (c .before .before .check-in .ensures (c .before .before .before .before .before .before .before .before .before .args .out .now))
 
 same-length-2 : tie.Need-same-length-2
 same-length-2 c = search needs
@@ -54,7 +57,8 @@ same-length-3 : tie.Need-same-length-3
 same-length-3 c = search needs
 
 returns-2 : tie.Need-returns-2
-returns-2 c = rw (c .before .before .before .before .before .enum-told2 .given .1) (c .before .before .write-out .ensures (length (c .before .before .before .before .before .before .before .before .before .before .args .m .now)))
+returns-2 c = rw (c .before .before .before .before .before .enum-told2 .given .1)
+    (c .before .before .write-out .ensures (length (c .before .before .before .before .before .before .before .before .before .before .args .m .now)))
 
 same-length-4 : tie.Need-same-length-4
 same-length-4 c = search needs
@@ -66,7 +70,8 @@ same-length-6 : tie.Need-same-length-6
 same-length-6 c = search needs
 
 returns-3 : tie.Need-returns-3
-returns-3 c = rw (c .before .before .before .before .before .before .before .before .before .before .before .k .given .1) (c .before .before .before .before .before .before .walk-in .ensures)
+returns-3 c = rw (c .before .before .before .before .before .before .before .before .before .before .before .k .given .1)
+    (c .before .before .before .before .before .before .walk-in .ensures)
 
 same-length-7 : tie.Need-same-length-7
 same-length-7 c = search needs
@@ -75,7 +80,9 @@ same-length-8 : tie.Need-same-length-8
 same-length-8 c = search needs
 
 returns-4 : tie.Need-returns-4
-returns-4 c = rw (c .before .before .before .before .before .before .before .enum-told3 .given .1) (c .before .before .before .before .push-in .ensures (length (c .before .before .before .before .before .before .before .before .before .before .before .before .args .m .now)))
+returns-4 c = rw (c .before .before .before .before .before .before .before .enum-told3 .given .1)
+    (c .before .before .before .before .push-in .ensures
+    (length (c .before .before .before .before .before .before .before .before .before .before .before .before .args .m .now)))
 
 same-length-9 : tie.Need-same-length-9
 same-length-9 c = search needs
@@ -84,7 +91,8 @@ same-length-10 : tie.Need-same-length-10
 same-length-10 c = search needs
 
 returns-5 : tie.Need-returns-5
-returns-5 c = rw (c .before .before .before .before .before .before .before .before .k2 .given .1) (c .before .before .before .before .sort-partially .ensures)
+returns-5 c = rw (c .before .before .before .before .before .before .before .before .k2 .given .1)
+    (c .before .before .before .before .sort-partially .ensures)
 
 pub perform-spec : {M : Type 1} → statement M
 perform-spec =

@@ -20,7 +20,13 @@ get32-requires : tie.Need-get32-requires
 get32-requires c κs = search needs
 
 returns : tie.Need-returns
-returns c = let e₀ = c .before .get16 .ensures in let e₁ = c .get32 .ensures in λ i. record { passes = eqb (getD (c .before .before .before .before .before .args .b .now) 104 0) 1; endless = eqb (getD (c .before .before .before .before .before .args .b .now) 105 0) 1; nodes = e₀ i; fetch = e₁ i }
+returns c = let e₀ = c .before .get16 .ensures in let e₁ = c .get32 .ensures in
+    λ i. record {
+      passes = eqb (getD (c .before .before .before .before .before .args .b .now) 104 0) 1;
+      endless = eqb (getD (c .before .before .before .before .before .args .b .now) 105 0) 1;
+      nodes = e₀ i;
+      fetch = e₁ i;
+    }
 
 pub load-summary-spec : {M : Type 1} → statement M
 load-summary-spec =

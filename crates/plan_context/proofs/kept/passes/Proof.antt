@@ -14,7 +14,8 @@ shared-slice-read-result : tie.Need-shared-slice-read-result
 shared-slice-read-result c = search needs
 
 returns : tie.Need-returns
-returns c = let s = c .before .before .before in ap (λ b. eqb (getD b 104 0) 1) (c .before .row .ensures .0) ∙ s .pre .holds .summary .passes ∙ check-plan (treeOf (s .args .m .now) (s .args .h))
+returns c = let s = c .before .before .before in ap (λ b. eqb (getD b 104 0) 1) (c .before .row .ensures .0) ∙ s .pre .holds .summary .passes
+    ∙ check-plan (treeOf (s .args .m .now) (s .args .h))
 
 pub passes-spec : {M : Type 1} → statement M
 passes-spec = tie.close (tie.spec row-requires shared-slice-read-result returns)

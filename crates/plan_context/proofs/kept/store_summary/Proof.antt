@@ -63,7 +63,9 @@ same-length c = simp length-set
 
 returns : tie.Need-returns
 returns c = let b = c .before .before .args .b .now in let p = c .before .before .pre .0 in
-    sets-eq (summaryBytes (c .before .before .args .s)) b 104 (omega arith) ∙ ap (λ (x : List ℕ). (take summaryFrom b ++ summaryBytes (c .before .before .args .s)) ++ x) (drop-of-length-le b {i = 112} (omega arith)) ∙ append-nil (take summaryFrom b ++ summaryBytes (c .before .before .args .s))
+    sets-eq (summaryBytes (c .before .before .args .s)) b 104 (omega arith)
+    ∙ ap (λ (x : List ℕ). (take summaryFrom b ++ summaryBytes (c .before .before .args .s)) ++ x) (drop-of-length-le b {i = 112} (omega arith))
+    ∙ append-nil (take summaryFrom b ++ summaryBytes (c .before .before .args .s))
 
 pub store-summary-spec : {M : Type 1} → statement M
 store-summary-spec =

@@ -13,7 +13,9 @@ load-summary-requires : tie.Need-load-summary-requires
 load-summary-requires c κs = search needs
 
 returns : tie.Need-returns
-returns c = let s = c .before .before .before in subst (Sums (treeOf (s .args .m .now) (s .args .h))) (sym (c .load-summary .ensures ∙ ap summaryIn (c .before .row .ensures .0))) (sums-mark (marked (s .args .h)) _ _ (s .pre .holds .summary))
+returns c = let s = c .before .before .before in
+    subst (Sums (treeOf (s .args .m .now) (s .args .h))) (sym (c .load-summary .ensures ∙ ap summaryIn (c .before .row .ensures .0)))
+    (sums-mark (marked (s .args .h)) _ _ (s .pre .holds .summary))
 
 pub summary-spec : {M : Type 1} → statement M
 summary-spec = tie.close (tie.spec row-requires load-summary-requires returns)

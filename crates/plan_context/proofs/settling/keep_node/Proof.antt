@@ -20,8 +20,14 @@ same-length : tie.Need-same-length
 same-length c = search needs
 
 returns : tie.Need-returns
-returns c = let s = c .before .before .before .before .before .before .before .before .before .before .before .before in let x = c .before .before .before .before .before .before .node-into in let y = c .before .before .store-summary in let l = x .kept .0 ∙ s .pre .0 .room in
-    (subst (Says (sem.factsOp (decode (s .args .r .now)) (kidsOf (s .args .r .now) (loaded (s .args .first .now)) (loaded (s .args .second .now))))) (sym (ap loaded (y .ensures) ∙ facts-stay (x .last .0) (s .args .s) l)) (x .ensures), ap summaryIn (y .ensures) ∙ summary-back (x .last .0) (s .args .s) l (s .pre .1) (search needs))
+returns c = let s = c .before .before .before .before .before .before .before .before .before .before .before .before in
+    let x = c .before .before .before .before .before .before .node-into in let y = c .before .before .store-summary in
+    let l = x .kept .0 ∙ s .pre .0 .room in (
+      subst (Says (sem.factsOp (decode (s .args .r .now)) (kidsOf (s .args .r .now) (loaded (s .args .first .now)) (loaded (s .args .second .now)))))
+          (sym (ap loaded (y .ensures) ∙ facts-stay (x .last .0) (s .args .s) l)) (x .ensures),
+      ap summaryIn (y .ensures) ∙ summary-back (x .last .0)
+          (s .args .s) l (s .pre .1) (search needs),
+    )
 
 pub keep-node-spec : {M : Type 1} → statement M
 keep-node-spec = tie.close (tie.spec node-into-requires store-summary-requires same-length returns)

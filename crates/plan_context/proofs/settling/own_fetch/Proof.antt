@@ -12,7 +12,8 @@ get32-requires : tie.Need-get32-requires
 get32-requires c κs = search needs
 
 returns : tie.Need-returns
-returns c = let s = c .before .before .before .before in c .get32 .ensures ∙ sym (ap (λ b. cond b (le32 (s .args .r .now) 4) 4294967295) (c .before .if1 .taken))
+returns c = let s = c .before .before .before .before in
+    c .get32 .ensures ∙ sym (ap (λ b. cond b (le32 (s .args .r .now) 4) 4294967295) (c .before .if1 .taken))
 
 returns-2 : tie.Need-returns-2
 returns-2 c = let s = c .before .before .before in sym (ap (λ b. cond b (le32 (s .args .r .now) 4) 4294967295) (c .if1 .left))

@@ -16,7 +16,8 @@ own-fetch-requires : tie.Need-own-fetch-requires
 own-fetch-requires c κs = search needs
 
 returns-2 : tie.Need-returns-2
-returns-2 c = let s = c .before .before .before .before in c .own-fetch .ensures ∙ sym (ap (λ b. cond b (s .args .input) (fetchIn (s .args .r .now))) (ne-eqb _ 3 (c .before .if1 .left)))
+returns-2 c = let s = c .before .before .before .before in
+    c .own-fetch .ensures ∙ sym (ap (λ b. cond b (s .args .input) (fetchIn (s .args .r .now))) (ne-eqb _ 3 (c .before .if1 .left)))
 
 pub plan-fetch-spec : {M : Type 1} → statement M
 plan-fetch-spec = tie.close (tie.spec shared-slice-read-if1 returns own-fetch-requires returns-2)

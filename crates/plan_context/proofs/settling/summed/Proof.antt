@@ -19,7 +19,15 @@ add-t16 : tie.Need-add-t16
 add-t16 c = search needs
 
 returns : tie.Need-returns
-returns c = let s = c .before .before .before .before .before .before .before in let r = s .args .r .now in λ i. record { passes = s .args .met && s .args .s .passes; endless = not (eqb (getD r 0 0) 9 || eqb (getD r 0 0) 10) && (c .before .before .before .before .is-endless .ensures i || s .args .s .endless); nodes = s .args .s .nodes + 1; fetch = c .before .before .before .plan-fetch .ensures i }
+returns c = let s = c .before .before .before .before .before .before .before in let r = s .args .r .now in
+    λ i. record {
+      passes = s .args .met && s .args .s .passes;
+      endless = not (eqb (getD r 0 0) 9 || eqb (getD r 0 0) 10)
+          && (c .before .before .before .before .is-endless .ensures i || s .args .s .endless);
+      nodes = s .args .s .nodes + 1;
+      fetch =
+          c .before .before .before .plan-fetch .ensures i;
+    }
 
 pub summed-spec : {M : Type 1} → statement M
 summed-spec =

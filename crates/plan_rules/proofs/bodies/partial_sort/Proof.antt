@@ -22,7 +22,8 @@ returns : tie.Need-returns
 returns c =
     let c₄ = c .before .before .before .before in
     let s = c₄ in let r = s .args .r .now in
-    ap₂ _&&_ (ap (λ (a : ℕ). leb a 8 && leb 1 a) (c .before .get16 .ensures)) (ap₂ (λ (a b : ℕ). leb 1 a && ltb a b) (c .get162 .ensures) (c .before .before .byte .ensures .0))
+    ap₂ _&&_ (ap (λ (a : ℕ). leb a 8 && leb 1 a) (c .before .get16 .ensures))
+    (ap₂ (λ (a b : ℕ). leb 1 a && ltb a b) (c .get162 .ensures) (c .before .before .byte .ensures .0))
     ∙ body-partial-sort r (omega (arith, c .before .before .byte .ensures .0, c .before .before .byte .ensures .1))
 
 pub partial-sort-spec : {M : Type 1} → statement M

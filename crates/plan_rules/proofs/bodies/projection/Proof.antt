@@ -20,7 +20,8 @@ get16-requires c κs = search needs
 returns : tie.Need-returns
 returns c =
     let c₄ = c .before .before .before .before in
-    let r = c₄ .args .r .now in ap (λ (a : ℕ). (eqb (getD r 12 0) 0 && (leb 1 (getD r 13 0) && leb (getD r 13 0) 32)) && eqb a 0) (c .get16 .ensures) ∙ body-projection r
+    let r = c₄ .args .r .now in ap (λ (a : ℕ). (eqb (getD r 12 0) 0 && (leb 1 (getD r 13 0) && leb (getD r 13 0) 32)) && eqb a 0) (c .get16 .ensures)
+    ∙ body-projection r
 
 pub projection-spec : {M : Type 1} → statement M
 projection-spec =

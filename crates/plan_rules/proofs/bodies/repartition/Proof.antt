@@ -20,7 +20,8 @@ returns : tie.Need-returns
 returns c =
     let c₃ = c .before .before .before in
     let r = c₃ .args .r .now in let h : Bool = eqb (bitAnd (getD r 3 0 / 2) 1) 1 in
-    ap (λ (a : ℕ). (h && (leb a 8 && leb 1 a)) || (not h && eqb a 0)) (c .get32 .ensures) ∙ body-repartition r h (ap (λ (b : ℕ). eqb b 1) (and-mask (getD r 3 0 / 2) 1))
+    ap (λ (a : ℕ). (h && (leb a 8 && leb 1 a)) || (not h && eqb a 0)) (c .get32 .ensures)
+    ∙ body-repartition r h (ap (λ (b : ℕ). eqb b 1) (and-mask (getD r 3 0 / 2) 1))
 
 pub repartition-spec : {M : Type 1} → statement M
 repartition-spec = tie.close (tie.spec shared-slice-read-hash get32-requires returns)

@@ -20,7 +20,8 @@ get16-requires c κs = search needs
 returns : tie.Need-returns
 returns c =
     let c₄ = c .before .before .before .before in
-    let r = c₄ .args .r .now in ap (λ (a : ℕ). (leb (getD r 12 0) 8 && (leb 1 (getD r 13 0) && leb (getD r 13 0) 32)) && eqb a 0) (c .get16 .ensures) ∙ body-source r
+    let r = c₄ .args .r .now in ap (λ (a : ℕ). (leb (getD r 12 0) 8 && (leb 1 (getD r 13 0) && leb (getD r 13 0) 32)) && eqb a 0) (c .get16 .ensures)
+    ∙ body-source r
 
 pub source-spec : {M : Type 1} → statement M
 source-spec = tie.close (tie.spec shared-slice-read-n shared-slice-read-w get16-requires returns)

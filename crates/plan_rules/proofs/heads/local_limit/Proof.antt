@@ -21,7 +21,8 @@ get32-requires-2 c κs = search needs
 returns : tie.Need-returns
 returns c =
     let c₄ = c .before .before .before .before in
-    ap₂ _&&_ (ap (λ (a : ℕ). eqb a 0) (c .before .before .get16 .ensures)) (ap₂ (λ (a b : ℕ). not (eqb a noFetch) && eqb b 0) (c .before .get32 .ensures) (c .get322 .ensures))
+    ap₂ _&&_ (ap (λ (a : ℕ). eqb a 0) (c .before .before .get16 .ensures)) (ap₂ (λ (a b : ℕ). not (eqb a noFetch) && eqb b 0) (c .before .get32 .ensures)
+    (c .get322 .ensures))
     ∙ head-local-limit (c₄ .args .r .now)
 
 pub local-limit-spec : {M : Type 1} → statement M

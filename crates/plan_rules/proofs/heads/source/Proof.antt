@@ -21,7 +21,8 @@ returns : tie.Need-returns
 returns c =
     let c₄ = c .before .before .before .before in
     let s = c₄ in let r = s .args .r .now in
-    ap (λ (a : ℕ). ((leb 1 (getD r 2 0) && leb (getD r 2 0) 64) && (eqb (getD r 3 0) 0 || eqb (getD r 3 0) 4)) && eqb a 0) (c .get64 .ensures) ∙ head-source r (s .pre)
+    ap (λ (a : ℕ). ((leb 1 (getD r 2 0) && leb (getD r 2 0) 64) && (eqb (getD r 3 0) 0 || eqb (getD r 3 0) 4)) && eqb a 0) (c .get64 .ensures)
+    ∙ head-source r (s .pre)
 
 pub source-spec : {M : Type 1} → statement M
 source-spec = tie.close (tie.spec shared-slice-read-s shared-slice-read-m get64-requires returns)

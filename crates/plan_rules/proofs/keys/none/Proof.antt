@@ -18,7 +18,8 @@ returns : tie.Need-returns
 returns c =
     let c₃ = c .before .before .before in
     let r = c₃ .args .r .now in
-    ap₂ _&&_ (ap (λ (a : ℕ). eqb a 0) (c .before .get64 .ensures) ∙ value-zero (part 16 8 r)) (ap (λ (a : ℕ). eqb a 0) (c .get642 .ensures) ∙ value-zero (part 24 8 r))
+    ap₂ _&&_ (ap (λ (a : ℕ). eqb a 0) (c .before .get64 .ensures) ∙ value-zero (part 16 8 r)) (ap (λ (a : ℕ). eqb a 0) (c .get642 .ensures)
+    ∙ value-zero (part 24 8 r))
 
 pub none-spec : {M : Type 1} → statement M
 none-spec = tie.close (tie.spec get64-requires get64-requires-2 returns)

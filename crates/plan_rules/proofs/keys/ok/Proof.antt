@@ -29,7 +29,8 @@ returns : tie.Need-returns
 returns c =
     let c₃ = c .before .before .before in let c₄ = c₃ .before in let c₆ = c₄ .before .before in let c₇ = c₆ .before in
     let s = c₇ in let r = s .args .r .now in let n : ℕ = getD r 12 0 in
-    ap₂ _&&_ (c .four .ensures ∙ ap₂ (λ (x o : ℕ). eqb (bitAnd x o) 0 && eqb (x / 2 ^ (16 * n)) 0) (c₄ .get64 .ensures) (c .before .before .no-options .ensures)) (ap (λ (y : ℕ). eqb y 0) (c₃ .get642 .ensures))
+    ap₂ _&&_ (c .four .ensures ∙ ap₂ (λ (x o : ℕ). eqb (bitAnd x o) 0 && eqb (x / 2 ^ (16 * n)) 0) (c₄ .get64 .ensures)
+    (c .before .before .no-options .ensures)) (ap (λ (y : ℕ). eqb y 0) (c₃ .get642 .ensures))
     ∙ few-keys (s .args .plain) r (λ i. omega (arith, c₆ .shared-slice-known .given i)) (s .pre) (c .before .if1 .taken)
 
 four-requires-2 : tie.Need-four-requires-2
@@ -40,7 +41,8 @@ returns-2 c =
     let c₃ = c .before .before .before in let c₄ = c₃ .before in let c₆ = c₄ .before .before in let c₇ = c₆ .before in
     let s = c₇ in let r = s .args .r .now in let n : ℕ = getD r 12 0 in
     ap₂ _&&_ (ap₂ (λ (x o : ℕ). eqb (bitAnd x o) 0) (c₄ .get64 .ensures) (c .before .before .no-options .ensures))
-    (c .four2 .ensures ∙ ap₂ (λ (x o : ℕ). eqb (bitAnd x o) 0 && eqb (x / 2 ^ (16 * (n - 4))) 0) (c₃ .get642 .ensures) (c .before .before .no-options .ensures))
+    (c .four2 .ensures ∙ ap₂ (λ (x o : ℕ). eqb (bitAnd x o) 0 && eqb (x / 2 ^ (16 * (n - 4))) 0) (c₃ .get642 .ensures)
+    (c .before .before .no-options .ensures))
     ∙ many-keys (s .args .plain) r (λ i. omega (arith, c₆ .shared-slice-known .given i)) (s .pre) (c .before .if1 .left)
 
 pub ok-spec : {M : Type 1} → statement M

@@ -20,7 +20,8 @@ returns : tie.Need-returns
 returns c =
     let c₄ = c .before .before .before .before in
     let s = c₄ in
-    ap₂ _&&_ (ap (λ (a : ℕ). eqb a 0) (c .before .before .get64 .ensures)) (ap₂ (λ (a b : ℕ). eqb a 0 && eqb b 0) (c .before .get642 .ensures) (c .get643 .ensures)) ∙ last-three (s .args .r .now) (s .pre)
+    ap₂ _&&_ (ap (λ (a : ℕ). eqb a 0) (c .before .before .get64 .ensures))
+    (ap₂ (λ (a b : ℕ). eqb a 0 && eqb b 0) (c .before .get642 .ensures) (c .get643 .ensures)) ∙ last-three (s .args .r .now) (s .pre)
 
 pub last-zero-spec : {M : Type 1} → statement M
 last-zero-spec = tie.close (tie.spec get64-requires get64-requires-2 get64-requires-3 returns)

@@ -20,7 +20,8 @@ zero-from-requires c κs = search needs
 returns : tie.Need-returns
 returns c =
     let c₅ = c .before .before .before .before .before in
-    ap₂ _&&_ (ap (λ (x : ℕ). leb 1 (ones x) && leb (ones x) 8) (c .before .get32 .ensures)) (c .zero-from .ensures) ∙ tail-keyed (c₅ .args .r .now) (c .before .before .if1 .taken)
+    ap₂ _&&_ (ap (λ (x : ℕ). leb 1 (ones x) && leb (ones x) 8) (c .before .get32 .ensures)) (c .zero-from .ensures) ∙ tail-keyed (c₅ .args .r .now)
+    (c .before .before .if1 .taken)
 
 none-requires : tie.Need-none-requires
 none-requires c κs = search needs

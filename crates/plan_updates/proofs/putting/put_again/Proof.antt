@@ -5,10 +5,13 @@ use Rattle.plan_updates.proofs.putting.put_again.Statement.{statement}
 use Rattle.plan_updates.proofs.putting.put_again.Tie as tie
 
 same-record-requires : tie.Need-same-record-requires
-same-record-requires c κs = let s = c .before .before .before .before in let m = s .args .m .now in let u = s .args .u in let r = s .args .r .now in let ks = s .args .ks .now in again-asks m u r ks (s .pre .0) (s .args .i) (s .pre .1)
+same-record-requires c κs = let s = c .before .before .before .before in let m = s .args .m .now in let u = s .args .u in let r = s .args .r .now in
+    let ks = s .args .ks .now in again-asks m u r ks (s .pre .0) (s .args .i) (s .pre .1)
 
 same-children-requires : tie.Need-same-children-requires
-same-children-requires c κs = let s = c .before .before .before .before .before .before .before in let m = s .args .m .now in let u = s .args .u in let r = s .args .r .now in let ks = s .args .ks .now in again-counts m u r ks (s .pre .0) (s .args .i) (s .pre .1) (sym (c .before .before .same-record .ensures) ∙ c .before .if1 .taken)
+same-children-requires c κs = let s = c .before .before .before .before .before .before .before in let m = s .args .m .now in let u = s .args .u in
+    let r = s .args .r .now in let ks = s .args .ks .now in
+    again-counts m u r ks (s .pre .0) (s .args .i) (s .pre .1) (sym (c .before .before .same-record .ensures) ∙ c .before .if1 .taken)
 
 mul-t12 : tie.Need-mul-t12
 mul-t12 c = search needs
@@ -17,7 +20,10 @@ same-length : tie.Need-same-length
 same-length c = search needs
 
 returns : tie.Need-returns
-returns c = let s = c .before .before .before .before .before .before .before .before .before in let m = s .args .m .now in let u = s .args .u in let r = s .args .r .now in let ks = s .args .ks .now in again-grown m u r ks (s .pre .0) (s .args .i) (s .pre .1) (sym (c .before .before .before .before .same-record .ensures) ∙ c .before .before .before .if1 .taken) (sym (c .before .same-children .ensures) ∙ c .if2 .taken)
+returns c = let s = c .before .before .before .before .before .before .before .before .before in let m = s .args .m .now in let u = s .args .u in
+    let r = s .args .r .now in let ks = s .args .ks .now in
+    again-grown m u r ks (s .pre .0) (s .args .i) (s .pre .1) (sym (c .before .before .before .before .same-record .ensures)
+    ∙ c .before .before .before .if1 .taken) (sym (c .before .same-children .ensures) ∙ c .if2 .taken)
 
 put-requires : tie.Need-put-requires
 put-requires c κs = search needs

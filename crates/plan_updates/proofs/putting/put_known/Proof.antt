@@ -4,7 +4,8 @@ use Rattle.plan_updates.proofs.putting.put_known.Statement.{statement}
 use Rattle.plan_updates.proofs.putting.put_known.Tie as tie
 
 append-requires : tie.Need-append-requires
-append-requires c κs = let s = c .before .before .before .before .before in let m = s .args .m .now in let u = s .args .u in let r = s .args .r .now in let ks = s .args .ks .now in put-appends m u r ks (s .pre .0)
+append-requires c κs = let s = c .before .before .before .before .before in let m = s .args .m .now in let u = s .args .u in let r = s .args .r .now in
+    let ks = s .args .ks .now in put-appends m u r ks (s .pre .0)
 
 mul-at : tie.Need-mul-at
 mul-at c = search needs
@@ -31,7 +32,9 @@ same-length : tie.Need-same-length
 same-length c = search needs
 
 returns : tie.Need-returns
-returns c = let s = c .before .before .before .before .before .before .before .before .before .before .before .before in let m = s .args .m .now in let u = s .args .u in let r = s .args .r .now in let ks = s .args .ks .now in let a = c .before .before .before .before .before .before .append in let d = c .before .before .copy in
+returns c = let s = c .before .before .before .before .before .before .before .before .before .before .before .before in let m = s .args .m .now in
+    let u = s .args .u in let r = s .args .r .now in let ks = s .args .ks .now in let a = c .before .before .before .before .before .before .append in
+    let d = c .before .before .copy in
     rw (d .ensures) (known-grown m u r ks (s .pre .0) _ (a .kept .0) (a .ensures) (s .args .b .now) (s .pre .1) (s .pre .2) (s .pre .3))
 
 pub put-known-spec : {M : Type 1} → statement M

@@ -27,7 +27,8 @@ shared-slice-read-all : tie.Need-shared-slice-read-all Inv-loop μ-loop
 shared-slice-read-all c = search needs
 
 child-requires : tie.Need-child-requires Inv-loop μ-loop
-child-requires c κs = let s = c .before .before .before .before .before in let t = c .before .loop-test .taken in let e = s .pre .1 in let f = s .pre .2 in (s .pre .0, omega arith, omega arith)
+child-requires c κs = let s = c .before .before .before .before .before in let t = c .before .loop-test .taken in let e = s .pre .1 in let f = s .pre .2 in
+    (s .pre .0, omega arith, omega arith)
 
 add-j : tie.Need-add-j Inv-loop μ-loop
 add-j c = search needs
@@ -36,10 +37,15 @@ loop-less : tie.Need-loop-less Inv-loop μ-loop
 loop-less c = search needs
 
 loop-again : tie.Need-loop-again Inv-loop μ-loop
-loop-again c = let s = c .before .before .before .before .before .before in let q = length-kids (s .args .m .now) (s .args .i) in let p = comparing-more (s .args .ks .now) (slot (s .args .m .now) (s .args .i) .kids) (c .before .before .before .loop .j) (c .before .before .before .loop .all) (s .pre .1 ∙ sym q) (c .before .before .loop-test .taken) (c .before .before .before .loop .inv) in subst (λ x. Comparing (s .args .ks .now) (slot (s .args .m .now) (s .args .i) .kids) (c .before .before .before .loop .j + 1) (c .before .before .before .loop .all && eqb (getD (s .args .ks .now) (c .before .before .before .loop .j) 0) x)) (sym (c .child .ensures)) p
+loop-again c = let s = c .before .before .before .before .before .before in let q = length-kids (s .args .m .now) (s .args .i) in
+    let p = comparing-more (s .args .ks .now) (slot (s .args .m .now) (s .args .i) .kids) (c .before .before .before .loop .j)
+    (c .before .before .before .loop .all) (s .pre .1 ∙ sym q) (c .before .before .loop-test .taken) (c .before .before .before .loop .inv) in
+    subst (λ x. Comparing (s .args .ks .now) (slot (s .args .m .now) (s .args .i) .kids) (c .before .before .before .loop .j + 1)
+    (c .before .before .before .loop .all && eqb (getD (s .args .ks .now) (c .before .before .before .loop .j) 0) x)) (sym (c .child .ensures)) p
 
 returns : tie.Need-returns Inv-loop μ-loop
-returns c = let s = c .before .before .before .before in let q = length-kids (s .args .m .now) (s .args .i) in comparing-all _ _ (c .before .loop .j) (c .before .loop .all) (s .pre .1 ∙ sym q) (c .loop-test .left) (c .before .loop .inv)
+returns c = let s = c .before .before .before .before in let q = length-kids (s .args .m .now) (s .args .i) in
+    comparing-all _ _ (c .before .loop .j) (c .before .loop .all) (s .pre .1 ∙ sym q) (c .loop-test .left) (c .before .loop .inv)
 
 pub same-children-spec : {M : Type 1} → statement M
 same-children-spec =

@@ -38,10 +38,18 @@ loop-less : tie.Need-loop-less Inv-loop μ-loop
 loop-less c = search needs
 
 loop-again : tie.Need-loop-again Inv-loop μ-loop
-loop-again c = let s = c .before .before .before .before .before .before .before in let la : length (c .before .before .before .before .read64 .result) ≡ 64 = ap length (c .before .before .before .before .read64 .ensures) ∙ s .pre .2 in let lb : length (c .before .before .read642 .result) ≡ 64 = ap length (c .before .before .read642 .ensures ∙ c .before .before .before .record-at .ensures) ∙ s .pre .1 in let t = c .loop-test .taken in comparing-more _ _ (c .before .loop .j) (c .before .loop .all) (la ∙ sym lb) (omega arith) (c .before .loop .inv)
+loop-again c = let s = c .before .before .before .before .before .before .before in
+    let la : length (c .before .before .before .before .read64 .result) ≡ 64 = ap length (c .before .before .before .before .read64 .ensures) ∙ s .pre .2 in
+    let lb : length (c .before .before .read642 .result) ≡ 64 =
+    ap length (c .before .before .read642 .ensures ∙ c .before .before .before .record-at .ensures) ∙ s .pre .1 in let t = c .loop-test .taken in
+    comparing-more _ _ (c .before .loop .j) (c .before .loop .all) (la ∙ sym lb) (omega arith) (c .before .loop .inv)
 
 returns : tie.Need-returns Inv-loop μ-loop
-returns c = let s = c .before .before .before .before .before .before .before in let la : length (c .before .before .before .before .read64 .result) ≡ 64 = ap length (c .before .before .before .before .read64 .ensures) ∙ s .pre .2 in let lb : length (c .before .before .read642 .result) ≡ 64 = ap length (c .before .before .read642 .ensures ∙ c .before .before .before .record-at .ensures) ∙ s .pre .1 in let t = c .loop-test .left in comparing-all _ _ (c .before .loop .j) (c .before .loop .all) (la ∙ sym lb) (omega arith) (c .before .loop .inv) ∙ ap₂ same (c .before .before .before .before .read64 .ensures) (c .before .before .read642 .ensures ∙ c .before .before .before .record-at .ensures)
+returns c = let s = c .before .before .before .before .before .before .before in let la : length (c .before .before .before .before .read64 .result) ≡ 64 =
+    ap length (c .before .before .before .before .read64 .ensures) ∙ s .pre .2 in let lb : length (c .before .before .read642 .result) ≡ 64 =
+    ap length (c .before .before .read642 .ensures ∙ c .before .before .before .record-at .ensures) ∙ s .pre .1 in let t = c .loop-test .left in
+    comparing-all _ _ (c .before .loop .j) (c .before .loop .all) (la ∙ sym lb) (omega arith) (c .before .loop .inv)
+    ∙ ap₂ same (c .before .before .before .before .read64 .ensures) (c .before .before .read642 .ensures ∙ c .before .before .before .record-at .ensures)
 
 pub same-record-spec : {M : Type 1} → statement M
 same-record-spec =

@@ -15,7 +15,8 @@ cardinality-equal-requires : tie.Need-cardinality-equal-requires
 cardinality-equal-requires c κs = search needs
 
 returns : tie.Need-returns
-returns c = ap₂ _&&_ (c .before .before .some-fetch .ensures) (ap not (ap₂ _&&_ (c .before .supports-limit-pushdown .ensures) (c .cardinality-equal .ensures)))
+returns c = ap₂ _&&_ (c .before .before .some-fetch .ensures)
+    (ap not (ap₂ _&&_ (c .before .supports-limit-pushdown .ensures) (c .cardinality-equal .ensures)))
 
 pub fetch-blocks-spec : {M : Type 1} → statement M
 fetch-blocks-spec =

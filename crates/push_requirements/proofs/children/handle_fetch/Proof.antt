@@ -22,16 +22,23 @@ is-projection-requires : tie.Need-is-projection-requires
 is-projection-requires c κs = search needs
 
 handle-projection-pushdown-requires : tie.Need-handle-projection-pushdown-requires
-handle-projection-pushdown-requires c κs = let s = c .before .before .before .before .before .before in (s .pre .0, code-kind (s .args .r .now) Projection (sym (c .before .is-projection .ensures) ∙ c .if2 .taken), s .pre .2)
+handle-projection-pushdown-requires c κs = let s = c .before .before .before .before .before .before in
+    (s .pre .0, code-kind (s .args .r .now) Projection (sym (c .before .is-projection .ensures) ∙ c .if2 .taken), s .pre .2)
 
 returns-2 : tie.Need-returns-2
-returns-2 c = λ fs m. let s = c .before .before .before .before .before .before .before in let r = s .args .r .now in let e = op-of r Projection (code-kind r Projection (sym (c .before .before .is-projection .ensures) ∙ c .before .if2 .taken)) in cond-yes m _ _ _ _ (sym (c .before .before .before .before .order-allows .ensures) ∙ not-false _ (c .before .before .before .if1 .left)) (subst⁻¹ (λ (o : Op). Pushes m (walk.childRequired o fs (keysOf (s .args .parent))) (c .handle-projection-pushdown .result)) e (c .handle-projection-pushdown .ensures _ m e))
+returns-2 c = λ fs m. let s = c .before .before .before .before .before .before .before in let r = s .args .r .now in
+    let e = op-of r Projection (code-kind r Projection (sym (c .before .before .is-projection .ensures) ∙ c .before .if2 .taken)) in
+    cond-yes m _ _ _ _ (sym (c .before .before .before .before .order-allows .ensures) ∙ not-false _ (c .before .before .before .if1 .left))
+    (subst⁻¹ (λ (o : Op). Pushes m (walk.childRequired o fs (keysOf (s .args .parent))) (c .handle-projection-pushdown .result)) e
+    (c .handle-projection-pushdown .ensures _ m e))
 
 handle-custom-pushdown-requires : tie.Need-handle-custom-pushdown-requires
 handle-custom-pushdown-requires c κs = search needs
 
 returns-3 : tie.Need-returns-3
-returns-3 c = λ fs m. cond-yes m _ _ _ _ (sym (c .before .before .before .before .order-allows .ensures) ∙ not-false _ (c .before .before .before .if1 .left)) (cond-no m _ _ _ _ (sym (c .before .before .is-projection .ensures) ∙ c .before .if2 .left) (c .handle-custom-pushdown .ensures m))
+returns-3 c = λ fs m. cond-yes m _ _ _ _ (sym (c .before .before .before .before .order-allows .ensures)
+    ∙ not-false _ (c .before .before .before .if1 .left)) (cond-no m _ _ _ _ (sym (c .before .before .is-projection .ensures) ∙ c .before .if2 .left)
+    (c .handle-custom-pushdown .ensures m))
 
 pub handle-fetch-spec : {M : Type 1} → statement M
 handle-fetch-spec =

@@ -16,7 +16,8 @@ enum-told : tie.Need-enum-told
 enum-told c = search needs
 
 returns : tie.Need-returns
-returns c = λ m. merge-stop (told (c .before .before .before .before .args .own .now)) (keysOf (c .before .before .before .before .args .parent)) _ m (c .before .before .known-order .ensures) (c .enum-told .given .1)
+returns c = λ m. merge-stop (told (c .before .before .before .before .args .own .now)) (keysOf (c .before .before .before .before .args .parent)) _ m
+    (c .before .before .known-order .ensures) (c .enum-told .given .1)
 
 compatible-requires : tie.Need-compatible-requires
 compatible-requires c κs = search needs
@@ -25,10 +26,16 @@ handle-custom-pushdown-requires : tie.Need-handle-custom-pushdown-requires
 handle-custom-pushdown-requires c κs = search needs
 
 returns-2 : tie.Need-returns-2
-returns-2 c = λ m. merge-goes (told (c .before .before .before .before .before .before .before .before .args .own .now)) (keysOf (c .before .before .before .before .before .before .before .before .args .parent)) _ _ m (c .before .before .before .before .before .before .known-order .ensures) (c .before .before .before .before .order .given .1) _ (c .before .before .compatible .ensures) (c .before .if1 .taken) _ (c .handle-custom-pushdown .ensures m)
+returns-2 c = λ m. merge-goes (told (c .before .before .before .before .before .before .before .before .args .own .now))
+    (keysOf (c .before .before .before .before .before .before .before .before .args .parent)) _ _ m
+    (c .before .before .before .before .before .before .known-order .ensures) (c .before .before .before .before .order .given .1) _
+    (c .before .before .compatible .ensures) (c .before .if1 .taken) _ (c .handle-custom-pushdown .ensures m)
 
 returns-3 : tie.Need-returns-3
-returns-3 c = λ m. merge-differs (told (c .before .before .before .before .before .before .before .args .own .now)) (keysOf (c .before .before .before .before .before .before .before .args .parent)) _ _ m (c .before .before .before .before .before .known-order .ensures) (c .before .before .before .order .given .1) _ (c .before .compatible .ensures) (c .if1 .left)
+returns-3 c = λ m. merge-differs (told (c .before .before .before .before .before .before .before .args .own .now))
+    (keysOf (c .before .before .before .before .before .before .before .args .parent)) _ _ m
+    (c .before .before .before .before .before .known-order .ensures) (c .before .before .before .order .given .1) _ (c .before .compatible .ensures)
+    (c .if1 .left)
 
 pub handle-merge-spec : {M : Type 1} → statement M
 handle-merge-spec =

@@ -17,10 +17,12 @@ remap-requirement-through-projection-requires :
 remap-requirement-through-projection-requires c κs = search needs
 
 order-of-requires : tie.Need-order-of-requires
-order-of-requires c κs = let s = c .before .before in c .remap-requirement-through-projection .ensures _ (op-of (s .args .r .now) Projection (s .pre .1)) .few
+order-of-requires c κs = let s = c .before .before in
+    c .remap-requirement-through-projection .ensures _ (op-of (s .args .r .now) Projection (s .pre .1)) .few
 
 returns : tie.Need-returns
-returns c = λ cols m e. alike m _ _ (subst (λ (l : List Key). Ordered l (c .order-of .result)) (c .before .remap-requirement-through-projection .ensures cols e .is) (c .order-of .ensures))
+returns c = λ cols m e. alike m _ _
+    (subst (λ (l : List Key). Ordered l (c .order-of .result)) (c .before .remap-requirement-through-projection .ensures cols e .is) (c .order-of .ensures))
 
 pub handle-projection-pushdown-spec : {M : Type 1} → statement M
 handle-projection-pushdown-spec =

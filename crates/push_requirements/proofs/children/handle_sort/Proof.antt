@@ -18,10 +18,17 @@ handle-custom-pushdown-requires : tie.Need-handle-custom-pushdown-requires
 handle-custom-pushdown-requires c κs = search needs
 
 returns : tie.Need-returns
-returns c = λ m. go-on m _ _ _ (sym (c .before .before .compatible .ensures ∙ ap (sem.compatible (told (c .before .before .before .before .before .before .args .a .now)) (keysOf (c .before .before .before .before .before .before .args .parent))) (c .before .before .before .keys .ensures .is)) ∙ c .before .if1 .taken) (c .handle-custom-pushdown .ensures m)
+returns c = λ m. go-on m _ _ _
+    (sym (c .before .before .compatible .ensures
+    ∙ ap (sem.compatible (told (c .before .before .before .before .before .before .args .a .now))
+    (keysOf (c .before .before .before .before .before .before .args .parent))) (c .before .before .before .keys .ensures .is)) ∙ c .before .if1 .taken)
+    (c .handle-custom-pushdown .ensures m)
 
 returns-2 : tie.Need-returns-2
-returns-2 c = λ m. go-stop m _ _ (sym (c .before .compatible .ensures ∙ ap (sem.compatible (told (c .before .before .before .before .before .args .a .now)) (keysOf (c .before .before .before .before .before .args .parent))) (c .before .before .keys .ensures .is)) ∙ c .if1 .left)
+returns-2 c = λ m. go-stop m _ _
+    (sym (c .before .compatible .ensures
+    ∙ ap (sem.compatible (told (c .before .before .before .before .before .args .a .now))
+    (keysOf (c .before .before .before .before .before .args .parent))) (c .before .before .keys .ensures .is)) ∙ c .if1 .left)
 
 pub handle-sort-spec : {M : Type 1} → statement M
 handle-sort-spec =

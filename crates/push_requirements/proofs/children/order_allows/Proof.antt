@@ -16,13 +16,16 @@ enum-told : tie.Need-enum-told
 enum-told c = search needs
 
 returns : tie.Need-returns
-returns c = order-allows-none (told (c .before .before .before .before .args .own .now)) (keysOf (c .before .before .before .before .args .parent)) _ (c .before .before .known-order .ensures) (c .enum-told .given .1)
+returns c = order-allows-none (told (c .before .before .before .before .args .own .now)) (keysOf (c .before .before .before .before .args .parent)) _
+    (c .before .before .known-order .ensures) (c .enum-told .given .1)
 
 compatible-requires : tie.Need-compatible-requires
 compatible-requires c κs = search needs
 
 returns-2 : tie.Need-returns-2
-returns-2 c = order-allows-some (told (c .before .before .before .before .before .before .args .own .now)) (keysOf (c .before .before .before .before .before .before .args .parent)) _ _ (c .before .before .before .before .known-order .ensures) (c .before .before .order .given .1) _ (c .compatible .ensures)
+returns-2 c = order-allows-some (told (c .before .before .before .before .before .before .args .own .now))
+    (keysOf (c .before .before .before .before .before .before .args .parent)) _ _ (c .before .before .before .before .known-order .ensures)
+    (c .before .before .order .given .1) _ (c .compatible .ensures)
 
 pub order-allows-spec : {M : Type 1} → statement M
 order-allows-spec =

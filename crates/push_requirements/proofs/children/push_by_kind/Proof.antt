@@ -25,7 +25,8 @@ enum-told-3 : tie.Need-enum-told-3
 enum-told-3 c = search needs
 
 handle-projection-pushdown-requires : tie.Need-handle-projection-pushdown-requires
-handle-projection-pushdown-requires c κs = let s = c .before .before .before .before .before .before .before .before in (s .pre .proper, (sym (c .before .before .kind-of .ensures) ∙ c .enum-told3 .given .1), s .pre .few)
+handle-projection-pushdown-requires c κs = let s = c .before .before .before .before .before .before .before .before in
+    (s .pre .proper, (sym (c .before .before .kind-of .ensures) ∙ c .enum-told3 .given .1), s .pre .few)
 
 enum-told-4 : tie.Need-enum-told-4
 enum-told-4 c = search needs
@@ -70,7 +71,11 @@ join-type-requires : tie.Need-join-type-requires
 join-type-requires c κs = c .before .before .before .before .before .before .before .before .pre .proper
 
 try-pushdown-requirements-to-join-requires : tie.Need-try-pushdown-requirements-to-join-requires
-try-pushdown-requirements-to-join-requires c κs = let s = c .before .before .before .before .before .before .before .before .before in (s .pre .merged _ (c .join-type .ensures .0 (sym (c .before .before .before .kind-of .ensures) ∙ c .before .enum-told11 .given .1)), s .pre .few, s .pre .inside)
+try-pushdown-requirements-to-join-requires c κs = let s = c .before .before .before .before .before .before .before .before .before in (
+  s .pre .merged _ (c .join-type .ensures .0 (sym (c .before .before .before .kind-of .ensures) ∙ c .before .enum-told11 .given .1)),
+  s .pre .few,
+  s .pre .inside,
+)
 
 enum-told-12 : tie.Need-enum-told-12
 enum-told-12 c = search needs
@@ -85,7 +90,15 @@ width-requires-2 : tie.Need-width-requires-2
 width-requires-2 c κs = c .before .before .before .before .before .before .before .before .before .before .pre .second
 
 handle-hash-join-requires : tie.Need-handle-hash-join-requires
-handle-hash-join-requires c κs = let s = c .before .before .before .before .before .before .before .before .before .before .before in let x = c .before .width .ensures in let y = c .width2 .ensures .0 in let z = s .pre .hashed _ (c .before .before .join-type2 .ensures .1 (sym (c .before .before .before .before .before .kind-of .ensures) ∙ c .before .before .before .enum-told12 .given .1)) in (s .pre .few, x .1, λ d. let l = hash-room (c .before .before .join-type2 .result) _ _ _ z d in omega (arith, x .0, y))
+handle-hash-join-requires c κs = let s = c .before .before .before .before .before .before .before .before .before .before .before in
+    let x = c .before .width .ensures in let y = c .width2 .ensures .0 in
+    let z = s .pre .hashed _ (c .before .before .join-type2 .ensures .1 (sym (c .before .before .before .before .before .kind-of .ensures)
+    ∙ c .before .before .before .enum-told12 .given .1)) in (
+      s .pre .few,
+      x .1,
+      λ d. let l = hash-room (c .before .before .join-type2 .result) _ _ _ z d in
+          omega (arith, x .0, y),
+    )
 
 enum-told-13 : tie.Need-enum-told-13
 enum-told-13 c = search needs
@@ -97,46 +110,69 @@ enum-told-14 : tie.Need-enum-told-14
 enum-told-14 c = search needs
 
 returns : tie.Need-returns
-returns c = λ o fs m s. let r = c .before .before .before .before .before .before .before .before .args .r .now in by-kind r fs m _ _ Source (sym (c .before .before .kind-of .ensures) ∙ c .enum-told .given .1) tt
+returns c = λ o fs m s. let r = c .before .before .before .before .before .before .before .before .args .r .now in
+    by-kind r fs m _ _ Source (sym (c .before .before .kind-of .ensures) ∙ c .enum-told .given .1) tt
 
 returns-2 : tie.Need-returns-2
-returns-2 c = λ o fs m s. let r = c .before .before .before .before .before .before .before .before .args .r .now in by-kind r fs m _ _ Filter (sym (c .before .before .kind-of .ensures) ∙ c .enum-told2 .given .1) tt
+returns-2 c = λ o fs m s. let r = c .before .before .before .before .before .before .before .before .args .r .now in
+    by-kind r fs m _ _ Filter (sym (c .before .before .kind-of .ensures) ∙ c .enum-told2 .given .1) tt
 
 returns-3 : tie.Need-returns-3
-returns-3 c = λ o fs m s. let r = c .before .before .before .before .before .before .before .before .before .args .r .now in by-kind r fs m _ _ Projection (sym (c .before .before .before .kind-of .ensures) ∙ c .before .enum-told3 .given .1) (c .handle-projection-pushdown .ensures _ m (op-of r Projection (sym (c .before .before .before .kind-of .ensures) ∙ c .before .enum-told3 .given .1)))
+returns-3 c = λ o fs m s. let r = c .before .before .before .before .before .before .before .before .before .args .r .now in
+    by-kind r fs m _ _ Projection (sym (c .before .before .before .kind-of .ensures) ∙ c .before .enum-told3 .given .1)
+    (c .handle-projection-pushdown .ensures _ m (op-of r Projection (sym (c .before .before .before .kind-of .ensures) ∙ c .before .enum-told3 .given .1)))
 
 returns-4 : tie.Need-returns-4
-returns-4 c = λ o fs m s. let r = c .before .before .before .before .before .before .before .before .before .args .r .now in by-kind r fs m _ _ Union (sym (c .before .before .before .kind-of .ensures) ∙ c .before .enum-told4 .given .1) (c .handle-custom-pushdown .ensures m)
+returns-4 c = λ o fs m s. let r = c .before .before .before .before .before .before .before .before .before .args .r .now in
+    by-kind r fs m _ _ Union (sym (c .before .before .before .kind-of .ensures) ∙ c .before .enum-told4 .given .1) (c .handle-custom-pushdown .ensures m)
 
 returns-5 : tie.Need-returns-5
-returns-5 c = λ o fs m s. let r = c .before .before .before .before .before .before .before .before .args .r .now in by-kind r fs m _ _ Repartition (sym (c .before .before .kind-of .ensures) ∙ c .enum-told5 .given .1) tt
+returns-5 c = λ o fs m s. let r = c .before .before .before .before .before .before .before .before .args .r .now in
+    by-kind r fs m _ _ Repartition (sym (c .before .before .kind-of .ensures) ∙ c .enum-told5 .given .1) tt
 
 returns-6 : tie.Need-returns-6
-returns-6 c = λ o fs m s. let r = c .before .before .before .before .before .before .before .before .args .r .now in by-kind r fs m _ _ Coalesce (sym (c .before .before .kind-of .ensures) ∙ c .enum-told6 .given .1) tt
+returns-6 c = λ o fs m s. let r = c .before .before .before .before .before .before .before .before .args .r .now in
+    by-kind r fs m _ _ Coalesce (sym (c .before .before .kind-of .ensures) ∙ c .enum-told6 .given .1) tt
 
 returns-7 : tie.Need-returns-7
-returns-7 c = λ o fs m s. let r = c .before .before .before .before .before .before .before .before .before .args .r .now in by-sort r fs m _ _ o _ _ _ s (sym (c .before .before .before .kind-of .ensures) ∙ c .before .enum-told7 .given .1) (c .handle-sort .ensures m)
+returns-7 c = λ o fs m s. let r = c .before .before .before .before .before .before .before .before .before .args .r .now in
+    by-sort r fs m _ _ o _ _ _ s (sym (c .before .before .before .kind-of .ensures) ∙ c .before .enum-told7 .given .1) (c .handle-sort .ensures m)
 
 returns-8 : tie.Need-returns-8
-returns-8 c = λ o fs m s. let r = c .before .before .before .before .before .before .before .before .before .args .r .now in by-merge r fs m _ _ o _ _ _ s (sym (c .before .before .before .kind-of .ensures) ∙ c .before .enum-told8 .given .1) (c .push-past-merge .ensures m)
+returns-8 c = λ o fs m s. let r = c .before .before .before .before .before .before .before .before .before .args .r .now in
+    by-merge r fs m _ _ o _ _ _ s (sym (c .before .before .before .kind-of .ensures) ∙ c .before .enum-told8 .given .1) (c .push-past-merge .ensures m)
 
 returns-9 : tie.Need-returns-9
-returns-9 c = λ o fs m s. let r = c .before .before .before .before .before .before .before .before .before .args .r .now in by-kind r fs m _ _ GlobalLimit (sym (c .before .before .before .kind-of .ensures) ∙ c .before .enum-told9 .given .1) (c .handle-custom-pushdown2 .ensures m)
+returns-9 c = λ o fs m s. let r = c .before .before .before .before .before .before .before .before .before .args .r .now in
+    by-kind r fs m _ _ GlobalLimit (sym (c .before .before .before .kind-of .ensures) ∙ c .before .enum-told9 .given .1)
+    (c .handle-custom-pushdown2 .ensures m)
 
 returns-10 : tie.Need-returns-10
-returns-10 c = λ o fs m s. let r = c .before .before .before .before .before .before .before .before .before .args .r .now in by-kind r fs m _ _ LocalLimit (sym (c .before .before .before .kind-of .ensures) ∙ c .before .enum-told10 .given .1) (c .handle-custom-pushdown3 .ensures m)
+returns-10 c = λ o fs m s. let r = c .before .before .before .before .before .before .before .before .before .args .r .now in
+    by-kind r fs m _ _ LocalLimit (sym (c .before .before .before .kind-of .ensures) ∙ c .before .enum-told10 .given .1)
+    (c .handle-custom-pushdown3 .ensures m)
 
 returns-11 : tie.Need-returns-11
-returns-11 c = λ o fs m s. let r = c .before .before .before .before .before .before .before .before .before .before .args .r .now in by-join r fs m _ _ o _ _ _ s (c .before .join-type .result) (c .before .join-type .ensures .0 (sym (c .before .before .before .before .kind-of .ensures) ∙ c .before .before .enum-told11 .given .1)) (c .try-pushdown-requirements-to-join .ensures)
+returns-11 c = λ o fs m s. let r = c .before .before .before .before .before .before .before .before .before .before .args .r .now in
+    by-join r fs m _ _ o _ _ _ s (c .before .join-type .result)
+    (c .before .join-type .ensures .0 (sym (c .before .before .before .before .kind-of .ensures) ∙ c .before .before .enum-told11 .given .1))
+    (c .try-pushdown-requirements-to-join .ensures)
 
 returns-12 : tie.Need-returns-12
-returns-12 c = λ o fs m s. let r = c .before .before .before .before .before .before .before .before .before .before .before .before .args .r .now in by-hash r fs m _ _ o _ _ _ s (c .before .before .before .join-type2 .result) (c .before .before .before .join-type2 .ensures .1 (sym (c .before .before .before .before .before .before .kind-of .ensures) ∙ c .before .before .before .before .enum-told12 .given .1)) _ _ (c .before .before .width .ensures .0) (c .before .width2 .ensures .0) (c .handle-hash-join .ensures m)
+returns-12 c = λ o fs m s. let r = c .before .before .before .before .before .before .before .before .before .before .before .before .args .r .now in
+    by-hash r fs m _ _ o _ _ _ s (c .before .before .before .join-type2 .result)
+    (c .before .before .before .join-type2 .ensures .1 (sym (c .before .before .before .before .before .before .kind-of .ensures)
+    ∙ c .before .before .before .before .enum-told12 .given .1)) _ _ (c .before .before .width .ensures .0) (c .before .width2 .ensures .0)
+    (c .handle-hash-join .ensures m)
 
 returns-13 : tie.Need-returns-13
-returns-13 c = λ o fs m s. let r = c .before .before .before .before .before .before .before .before .before .args .r .now in by-requirement r fs m _ _ o _ _ _ s (sym (c .before .before .before .kind-of .ensures) ∙ c .before .enum-told13 .given .1) (c .push-past-output-requirement .ensures m)
+returns-13 c = λ o fs m s. let r = c .before .before .before .before .before .before .before .before .before .args .r .now in
+    by-requirement r fs m _ _ o _ _ _ s (sym (c .before .before .before .kind-of .ensures) ∙ c .before .enum-told13 .given .1)
+    (c .push-past-output-requirement .ensures m)
 
 returns-14 : tie.Need-returns-14
-returns-14 c = λ o fs m s. let r = c .before .before .before .before .before .before .before .before .args .r .now in by-kind r fs m _ _ PartialSort (sym (c .before .before .kind-of .ensures) ∙ c .enum-told14 .given .1) tt
+returns-14 c = λ o fs m s. let r = c .before .before .before .before .before .before .before .before .args .r .now in
+    by-kind r fs m _ _ PartialSort (sym (c .before .before .kind-of .ensures) ∙ c .enum-told14 .given .1) tt
 
 pub push-by-kind-spec : {M : Type 1} → statement M
 push-by-kind-spec =

@@ -16,7 +16,8 @@ handle-merge-requires : tie.Need-handle-merge-requires
 handle-merge-requires c κs = search needs
 
 returns-2 : tie.Need-returns-2
-returns-2 c = λ m. cond-no m _ _ _ _ (sym (c .before .before .pushdown-would-violate-requirements .ensures) ∙ c .before .if1 .left) (c .handle-merge .ensures m)
+returns-2 c = λ m. cond-no m _ _ _ _ (sym (c .before .before .pushdown-would-violate-requirements .ensures) ∙ c .before .if1 .left)
+    (c .handle-merge .ensures m)
 
 pub push-past-merge-spec : {M : Type 1} → statement M
 push-past-merge-spec =

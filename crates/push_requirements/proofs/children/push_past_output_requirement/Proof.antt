@@ -18,7 +18,8 @@ handle-custom-pushdown-requires : tie.Need-handle-custom-pushdown-requires
 handle-custom-pushdown-requires c κs = search needs
 
 returns-2 : tie.Need-returns-2
-returns-2 c = λ m. cond-no m _ _ _ _ (sym (c .before .before .pushdown-would-violate-requirements .ensures) ∙ c .before .if1 .left) (c .handle-custom-pushdown .ensures m)
+returns-2 c = λ m. cond-no m _ _ _ _ (sym (c .before .before .pushdown-would-violate-requirements .ensures) ∙ c .before .if1 .left)
+    (c .handle-custom-pushdown .ensures m)
 
 pub push-past-output-requirement-spec : {M : Type 1} → statement M
 push-past-output-requirement-spec =

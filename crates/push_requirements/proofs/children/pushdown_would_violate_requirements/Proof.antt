@@ -18,13 +18,16 @@ enum-told : tie.Need-enum-told
 enum-told c = search needs
 
 returns : tie.Need-returns
-returns c = violates-none (decode (c .before .before .before .before .args .r .now)) (keysOf (c .before .before .before .before .args .parent)) _ (c .before .before .wanted-order .ensures) (c .enum-told .given .1)
+returns c = violates-none (decode (c .before .before .before .before .args .r .now)) (keysOf (c .before .before .before .before .args .parent)) _
+    (c .before .before .wanted-order .ensures) (c .enum-told .given .1)
 
 none-equal-requires : tie.Need-none-equal-requires
 none-equal-requires c κs = search needs
 
 returns-2 : tie.Need-returns-2
-returns-2 c = violates-some (decode (c .before .before .before .before .before .before .args .r .now)) (keysOf (c .before .before .before .before .before .before .args .parent)) _ _ (c .before .before .before .before .wanted-order .ensures) (c .before .before .k .given .1) _ (c .none-equal .ensures)
+returns-2 c = violates-some (decode (c .before .before .before .before .before .before .args .r .now))
+    (keysOf (c .before .before .before .before .before .before .args .parent)) _ _ (c .before .before .before .before .wanted-order .ensures)
+    (c .before .before .k .given .1) _ (c .none-equal .ensures)
 
 pub pushdown-would-violate-requirements-spec : {M : Type 1} → statement M
 pushdown-would-violate-requirements-spec =

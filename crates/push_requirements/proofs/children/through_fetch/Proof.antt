@@ -17,7 +17,11 @@ maintains-requires : tie.Need-maintains-requires
 maintains-requires c κs = search needs
 
 returns : tie.Need-returns
-returns c = λ o fs ts m R s e. ap₂ _&&_ (c .before .before .some-fetch .ensures) (ap (λ (x : Bool). x && c .maintains .result) (c .before .supports-limit-pushdown .ensures)) ∙ through-is (decode (c .before .before .before .before .before .before .args .r .now)) fs ts m (s .long) (s .count) (c .before .before .before .before .before .before .args .limit) e (c .maintains .result) (λ l. c .maintains .ensures fs (first-among _ o fs m _ _ R s l))
+returns c = λ o fs ts m R s e. ap₂ _&&_ (c .before .before .some-fetch .ensures)
+    (ap (λ (x : Bool). x && c .maintains .result) (c .before .supports-limit-pushdown .ensures))
+    ∙ through-is (decode (c .before .before .before .before .before .before .args .r .now)) fs ts m (s .long) (s .count)
+    (c .before .before .before .before .before .before .args .limit) e (c .maintains .result)
+    (λ l. c .maintains .ensures fs (first-among _ o fs m _ _ R s l))
 
 pub through-fetch-spec : {M : Type 1} → statement M
 through-fetch-spec =

@@ -17,7 +17,8 @@ enum-told : tie.Need-enum-told
 enum-told c = search needs
 
 returns : tie.Need-returns
-returns c = let s = c .before .before .before in let b = s .args .b .now in let u = s .args .u in let h = s .args .h in let o = s .args .order in top-none b u h o _ (λ (l : List Key). newMerge l (s .args .fetch)) (s .pre) (c .enum-told .given .1) refl refl
+returns c = let s = c .before .before .before in let b = s .args .b .now in let u = s .args .u in let h = s .args .h in let o = s .args .order in
+    top-none b u h o _ (λ (l : List Key). newMerge l (s .args .fetch)) (s .pre) (c .enum-told .given .1) refl refl
 
 merge-record-requires : tie.Need-merge-record-requires
 merge-record-requires c κs = let s = c .before .before .before .before in top-few (s .args .order) _ (s .pre .real) (c .before .order .given .1)
@@ -26,13 +27,20 @@ slice-aggregate-put-over : tie.Need-slice-aggregate-put-over
 slice-aggregate-put-over c = search needs
 
 put-over-requires : tie.Need-put-over-requires
-put-over-requires c κs = let s = c .before .before .before .before .before .before .before in let b = s .args .b .now in let u = s .args .u in let h = s .args .h in let o = s .args .order in top-puts b u h o _ (s .pre) (mergeOp (keysOf (c .before .before .before .before .order .given .0 .0)) (s .args .fetch)) (merge-is o _ (s .pre .real) (c .before .before .before .before .order .given .1) (s .args .fetch)) _ (c .before .before .merge-record .ensures)
+put-over-requires c κs = let s = c .before .before .before .before .before .before .before in let b = s .args .b .now in let u = s .args .u in
+    let h = s .args .h in let o = s .args .order in
+    top-puts b u h o _ (s .pre) (mergeOp (keysOf (c .before .before .before .before .order .given .0 .0)) (s .args .fetch))
+    (merge-is o _ (s .pre .real) (c .before .before .before .before .order .given .1) (s .args .fetch)) _ (c .before .before .merge-record .ensures)
 
 same-length : tie.Need-same-length
 same-length c = search needs
 
 returns-2 : tie.Need-returns-2
-returns-2 c = let s = c .before .before .before .before .before .before .before .before .before .before in let b = s .args .b .now in let u = s .args .u in let h = s .args .h in let o = s .args .order in top-grown b u h o _ (s .pre) (mergeOp (keysOf (c .before .before .before .before .before .before .before .order .given .0 .0)) (s .args .fetch)) (merge-is o _ (s .pre .real) (c .before .before .before .before .before .before .before .order .given .1) (s .args .fetch)) _ (c .before .before .before .before .before .merge-record .ensures) _ (c .before .before .put-over .result) (c .before .before .put-over .ensures)
+returns-2 c = let s = c .before .before .before .before .before .before .before .before .before .before in let b = s .args .b .now in let u = s .args .u in
+    let h = s .args .h in let o = s .args .order in
+    top-grown b u h o _ (s .pre) (mergeOp (keysOf (c .before .before .before .before .before .before .before .order .given .0 .0)) (s .args .fetch))
+    (merge-is o _ (s .pre .real) (c .before .before .before .before .before .before .before .order .given .1) (s .args .fetch)) _
+    (c .before .before .before .before .before .merge-record .ensures) _ (c .before .before .put-over .result) (c .before .before .put-over .ensures)
 
 pub merge-over-spec : {M : Type 1} → statement M
 merge-over-spec =

@@ -12,7 +12,8 @@ record-at-requires : tie.Need-record-at-requires
 record-at-requires c κs = search needs
 
 preserve-mark-requires : tie.Need-preserve-mark-requires
-preserve-mark-requires c κs = let s = c .before .before .before in let a = s .args .a .now in let ua = s .args .ua in let i = s .args .i in let g = s .pre .0 in let l = s .pre .1 in subst⁻¹ Proper (c .before .record-at .ensures) (proper-at a ua i g l)
+preserve-mark-requires c κs = let s = c .before .before .before in let a = s .args .a .now in let ua = s .args .ua in let i = s .args .i in
+    let g = s .pre .0 in let l = s .pre .1 in subst⁻¹ Proper (c .before .record-at .ensures) (proper-at a ua i g l)
 
 child-row-requires : tie.Need-child-row-requires
 child-row-requires c κs = search needs
@@ -21,16 +22,24 @@ counts-requires : tie.Need-counts-requires
 counts-requires c κs = search needs
 
 with-mark-requires : tie.Need-with-mark-requires
-with-mark-requires c κs = let s = c .before .before .before .before .before .before in let a = s .args .a .now in let ua = s .args .ua in let i = s .args .i in let g = s .pre .0 in let l = s .pre .1 in ap length (c .before .before .before .before .record-at .ensures) ∙ shown a ua i g l .long
+with-mark-requires c κs = let s = c .before .before .before .before .before .before in let a = s .args .a .now in let ua = s .args .ua in
+    let i = s .args .i in let g = s .pre .0 in let l = s .pre .1 in ap length (c .before .before .before .before .record-at .ensures)
+    ∙ shown a ua i g l .long
 
 returns : tie.Need-returns
-returns c = let s = c .before .before .before .before .before .before .before in let a = s .args .a .now in let ua = s .args .ua in let i = s .args .i in let g = s .pre .0 in let l = s .pre .1 in record-rebuilt a ua i g l _ _ (c .before .before .child-row .ensures) (c .before .before .before .before .before .record-at .ensures) _ (c .before .before .before .before .if1 .taken) (c .before .before .before .preserve-mark .result) (c .before .counts .result) (c .before .before .before .preserve-mark .ensures) (c .before .counts .ensures) _ (c .with-mark .ensures)
+returns c = let s = c .before .before .before .before .before .before .before in let a = s .args .a .now in let ua = s .args .ua in let i = s .args .i in
+    let g = s .pre .0 in let l = s .pre .1 in
+    record-rebuilt a ua i g l _ _ (c .before .before .child-row .ensures) (c .before .before .before .before .before .record-at .ensures) _
+    (c .before .before .before .before .if1 .taken) (c .before .before .before .preserve-mark .result) (c .before .counts .result)
+    (c .before .before .before .preserve-mark .ensures) (c .before .counts .ensures) _ (c .with-mark .ensures)
 
 read64-requires : tie.Need-read64-requires
-read64-requires c κs = let s = c .before .before .before in let a = s .args .a .now in let ua = s .args .ua in let i = s .args .i in let g = s .pre .0 in let l = s .pre .1 in ap length (c .before .record-at .ensures) ∙ shown a ua i g l .long
+read64-requires c κs = let s = c .before .before .before in let a = s .args .a .now in let ua = s .args .ua in let i = s .args .i in let g = s .pre .0 in
+    let l = s .pre .1 in ap length (c .before .record-at .ensures) ∙ shown a ua i g l .long
 
 returns-2 : tie.Need-returns-2
-returns-2 c = let s = c .before .before .before .before in let a = s .args .a .now in let ua = s .args .ua in let i = s .args .i in let g = s .pre .0 in let l = s .pre .1 in record-kept a ua i g l _ (c .before .before .record-at .ensures) _ (c .before .if1 .left) _ (c .read64 .ensures)
+returns-2 c = let s = c .before .before .before .before in let a = s .args .a .now in let ua = s .args .ua in let i = s .args .i in let g = s .pre .0 in
+    let l = s .pre .1 in record-kept a ua i g l _ (c .before .before .record-at .ensures) _ (c .before .if1 .left) _ (c .read64 .ensures)
 
 pub record-by-spec : {M : Type 1} → statement M
 record-by-spec =

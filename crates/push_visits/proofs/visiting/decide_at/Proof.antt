@@ -30,15 +30,27 @@ kept-at-requires : tie.Need-kept-at-requires
 kept-at-requires c κs = search needs
 
 fetch-at-requires : tie.Need-fetch-at-requires
-fetch-at-requires c κs = let s = c .before .before .before .before .before in let a = s .args .a .now in let ua = s .args .ua in let h = s .args .h in let i = h / 2 in let g = s .pre .from in let z = s .pre .here in let l : i < ua = omega arith in here a ua h g z
+fetch-at-requires c κs = let s = c .before .before .before .before .before in let a = s .args .a .now in let ua = s .args .ua in let h = s .args .h in
+    let i = h / 2 in let g = s .pre .from in let z = s .pre .here in let l : i < ua = omega arith in here a ua h g z
 
 pushdown-sorts-helper-requires : tie.Need-pushdown-sorts-helper-requires
-pushdown-sorts-helper-requires c κs = let s = c .before .before .before .before .before .before in let a = s .args .a .now in let ua = s .args .ua in let h = s .args .h in let i = h / 2 in let g = s .pre .from in let z = s .pre .here in let l : i < ua = omega arith in subst⁻¹ (λ (x : List ℕ). Visited x (c .before .kept-at .result .now) (c .before .before .before .before .child-row .result .now) (c .before .before .before .child-row2 .result .now) (s .args .v .req .order)) (c .before .before .record-at .ensures) (visited-at a ua i g l _ _ _ (c .before .kept-at .ensures) (c .before .before .before .before .child-row .ensures) (c .before .before .before .child-row2 .ensures) (s .args .v) h (s .pre) refl)
+pushdown-sorts-helper-requires c κs = let s = c .before .before .before .before .before .before in let a = s .args .a .now in let ua = s .args .ua in
+    let h = s .args .h in let i = h / 2 in let g = s .pre .from in let z = s .pre .here in let l : i < ua = omega arith in
+    subst⁻¹ (λ (x : List ℕ). Visited x (c .before .kept-at .result .now) (c .before .before .before .before .child-row .result .now)
+    (c .before .before .before .child-row2 .result .now) (s .args .v .req .order)) (c .before .before .record-at .ensures)
+    (visited-at a ua i g l _ _ _ (c .before .kept-at .ensures) (c .before .before .before .before .child-row .ensures)
+    (c .before .before .before .child-row2 .ensures) (s .args .v) h (s .pre) refl)
 
 returns : tie.Need-returns
-returns c = let s = c .before .before .before .before .before .before .before in let a = s .args .a .now in let ua = s .args .ua in let h = s .args .h in let i = h / 2 in let g = s .pre .from in let z = s .pre .here in let l : i < ua = omega arith in let q = visitOf (s .args .v) in let c' = planAt a h in
-    subst (λ (x : List ℕ). Seen (decode x) (decode x) (sem.facts c') (walk.childCount c') (told (c .before .before .kept-at .result .now)) (told (c .before .before .before .before .before .child-row .result .now)) (told (c .before .before .before .before .child-row2 .result .now)) → c .before .fetch-at .result ≡ fetchOp (decode x) (fetches c') → Decides (decode x) c' (walk.pushdownSortsHelper q (decode x) c') (c .pushdown-sorts-helper .result)) (c .before .before .before .record-at .ensures)
-    (c .pushdown-sorts-helper .ensures c') (seen-at a ua i g l _ _ _ (c .before .before .kept-at .ensures) (c .before .before .before .before .before .child-row .ensures) (c .before .before .before .before .child-row2 .ensures)) (fetch-in a ua i g l h refl (c .before .fetch-at .result) (c .before .fetch-at .ensures))
+returns c = let s = c .before .before .before .before .before .before .before in let a = s .args .a .now in let ua = s .args .ua in let h = s .args .h in
+    let i = h / 2 in let g = s .pre .from in let z = s .pre .here in let l : i < ua = omega arith in let q = visitOf (s .args .v) in let c' = planAt a h in
+    subst (λ (x : List ℕ). Seen (decode x) (decode x) (sem.facts c') (walk.childCount c') (told (c .before .before .kept-at .result .now))
+    (told (c .before .before .before .before .before .child-row .result .now)) (told (c .before .before .before .before .child-row2 .result .now))
+    → c .before .fetch-at .result ≡ fetchOp (decode x) (fetches c') → Decides (decode x) c' (walk.pushdownSortsHelper q (decode x) c')
+    (c .pushdown-sorts-helper .result)) (c .before .before .before .record-at .ensures)
+    (c .pushdown-sorts-helper .ensures c')
+    (seen-at a ua i g l _ _ _ (c .before .before .kept-at .ensures) (c .before .before .before .before .before .child-row .ensures)
+    (c .before .before .before .before .child-row2 .ensures)) (fetch-in a ua i g l h refl (c .before .fetch-at .result) (c .before .fetch-at .ensures))
 
 pub decide-at-spec : {M : Type 1} → statement M
 decide-at-spec =

@@ -31,10 +31,13 @@ loop-less : tie.Need-loop-less Inv-loop μ-loop
 loop-less c = let x = c .before .before .loop-test .taken in omega arith
 
 loop-again : tie.Need-loop-again Inv-loop μ-loop
-loop-again c = let l = c .before .before .before .loop in any-more (c .before .before .before .before .before .args .ks .now) (l .j) (l .any) _ (c .before .before .loop-test .taken) (c .is-marked .ensures) (l .inv)
+loop-again c = let l = c .before .before .before .loop in
+    any-more (c .before .before .before .before .before .args .ks .now) (l .j) (l .any) _ (c .before .before .loop-test .taken) (c .is-marked .ensures)
+    (l .inv)
 
 returns : tie.Need-returns Inv-loop μ-loop
-returns c = let l = c .before .loop in any-all (c .before .before .before .args .ks .now) (l .j) (l .any) (let x = c .loop-test .left in omega arith) (l .inv)
+returns c = let l = c .before .loop in any-all (c .before .before .before .args .ks .now) (l .j) (l .any) (let x = c .loop-test .left in
+    omega arith) (l .inv)
 
 pub any-marked-spec : {M : Type 1} → statement M
 any-marked-spec =

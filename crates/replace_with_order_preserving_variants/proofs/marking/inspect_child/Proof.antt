@@ -16,13 +16,17 @@ maintains-input-order-requires : tie.Need-maintains-input-order-requires
 maintains-input-order-requires c κs = search needs
 
 is-coalesce-partitions-requires : tie.Need-is-coalesce-partitions-requires
-is-coalesce-partitions-requires c κs = let s = c .before .before .before in let m = s .args .m .now in let i = s .args .i in let a = s .pre .0 in subst Proper (sym (c .before .record-at .ensures)) (slot-proper m i a)
+is-coalesce-partitions-requires c κs = let s = c .before .before .before in let m = s .args .m .now in let i = s .args .i in let a = s .pre .0 in
+    subst Proper (sym (c .before .record-at .ensures)) (slot-proper m i a)
 
 is-repartition-requires : tie.Need-is-repartition-requires
-is-repartition-requires c κs = let s = c .before .before .before .before in let m = s .args .m .now in let i = s .args .i in let a = s .pre .0 in subst Proper (sym (c .before .before .record-at .ensures)) (slot-proper m i a)
+is-repartition-requires c κs = let s = c .before .before .before .before in let m = s .args .m .now in let i = s .args .i in let a = s .pre .0 in
+    subst Proper (sym (c .before .before .record-at .ensures)) (slot-proper m i a)
 
 returns : tie.Need-returns
-returns c = let s = c .before .before .before .before .before in let a = s .pre .0 in ap₂ _||_ (c .before .before .maintains-input-order .ensures) (ap₂ _||_ (c .before .is-coalesce-partitions .ensures ∙ ap (λ x. eqb (code (decode x)) 6) (c .before .before .before .record-at .ensures)) (c .is-repartition .ensures ∙ ap (λ x. eqb (code (decode x)) 5) (c .before .before .before .record-at .ensures)))
+returns c = ap₂ _||_ (c .before .before .maintains-input-order .ensures)
+    (ap₂ _||_ (c .before .is-coalesce-partitions .ensures ∙ ap (λ x. eqb (code (decode x)) 6) (c .before .before .before .record-at .ensures))
+    (c .is-repartition .ensures ∙ ap (λ x. eqb (code (decode x)) 5) (c .before .before .before .record-at .ensures)))
 
 pub inspect-child-spec : {M : Type 1} → statement M
 inspect-child-spec =

@@ -21,13 +21,18 @@ row-requires : tie.Need-row-requires
 row-requires c κs = let s = c .before .before .before in let m = s .args .m .now in let i = s .args .i in let a = s .pre .0 in own-here m i a
 
 row-requires-2 : tie.Need-row-requires-2
-row-requires-2 c κs = let s = c .before .before .before .before in let m = s .args .m .now in let i = s .args .i in let a = s .pre .0 in kid-here m i a (s .args .j) (s .pre .1) _ (c .before .before .child .ensures)
+row-requires-2 c κs = let s = c .before .before .before .before in let m = s .args .m .now in let i = s .args .i in let a = s .pre .0 in
+    kid-here m i a (s .args .j) (s .pre .1) _ (c .before .before .child .ensures)
 
 maintains-requires : tie.Need-maintains-requires
-maintains-requires c κs = let s = c .before .before .before .before .before in let m = s .args .m .now in let i = s .args .i in let a = s .pre .0 in (subst Proper (sym (c .before .before .record-at .ensures)) (slot-proper m i a), c .before .row .ensures .1 .row, c .row2 .ensures .1 .row)
+maintains-requires c κs = let s = c .before .before .before .before .before in let m = s .args .m .now in let i = s .args .i in let a = s .pre .0 in
+    (subst Proper (sym (c .before .before .record-at .ensures)) (slot-proper m i a), c .before .row .ensures .1 .row, c .row2 .ensures .1 .row)
 
 returns : tie.Need-returns
-returns c = let s = c .before .before .before .before .before .before in let m = s .args .m .now in let i = s .args .i in let a = s .pre .0 in (rw (c .before .before .before .record-at .ensures) at (c .maintains .ensures)) (known (forest m (slot m i .kids))) (among m i a (s .args .j) (s .pre .1) _ (c .before .before .before .before .child .ensures) _ _ (c .before .before .row .ensures .1) (c .before .row2 .ensures .1))
+returns c = let s = c .before .before .before .before .before .before in let m = s .args .m .now in let i = s .args .i in let a = s .pre .0 in
+    (rw (c .before .before .before .record-at .ensures) at (c .maintains .ensures)) (known (forest m (slot m i .kids)))
+    (among m i a (s .args .j) (s .pre .1) _ (c .before .before .before .before .child .ensures) _ _ (c .before .before .row .ensures .1)
+    (c .before .row2 .ensures .1))
 
 pub maintains-input-order-spec : {M : Type 1} → statement M
 maintains-input-order-spec =

@@ -40,8 +40,20 @@ partially-sorted-below t =
 
 -- what the calls ask and give
 abbrev calls : ℕ → partially-sorted-lts.Claims
-calls t =
-    (replace-node-reads.Asked, replace-node-reads.Learnt, locate-reads.Asked, locate-reads.Learnt, child-count-reads.Asked, child-count-reads.Learnt, child-reads.Asked, child-reads.Learnt, partially-sorted-below t, partially-sorted.Post, put-child-reads.Asked, put-child-reads.Learnt)
+calls t = (
+  replace-node-reads.Asked,
+  replace-node-reads.Learnt,
+  locate-reads.Asked,
+  locate-reads.Learnt,
+  child-count-reads.Asked,
+  child-count-reads.Learnt,
+  child-reads.Asked,
+  child-reads.Learnt,
+  partially-sorted-below t,
+  partially-sorted.Post,
+  put-child-reads.Asked,
+  put-child-reads.Learnt,
+)
 
 partially-sorted-replace-node-requires : (t : ℕ) → partially-sorted-lts.Need-replace-node-requires (calls t) (partially-sorted-at t) partially-sorted.Post
 partially-sorted-replace-node-requires t c κs = let s = c .before .before .before in s .pre .1
@@ -50,7 +62,9 @@ partially-sorted-same-length : (t : ℕ) → partially-sorted-lts.Need-same-leng
 partially-sorted-same-length t c = c .before .before .replace-node .kept .0
 
 partially-sorted-returns : (t : ℕ) → partially-sorted-lts.Need-returns (calls t) (partially-sorted-at t) partially-sorted.Post
-partially-sorted-returns t c = let s = c .before .before .before .before .before .before in subst (λ i. Answers (s .args .m .now) (s .args .u) (c .before .before .replace-node .last .0) (s .args .h) i (c .before .before .replace-node .result)) (sym (c .before .before .before .before .if1 .taken)) (c .before .before .replace-node .ensures)
+partially-sorted-returns t c = let s = c .before .before .before .before .before .before in
+    subst (λ i. Answers (s .args .m .now) (s .args .u) (c .before .before .replace-node .last .0) (s .args .h) i (c .before .before .replace-node .result))
+    (sym (c .before .before .before .before .if1 .taken)) (c .before .before .replace-node .ensures)
 
 partially-sorted-sub-locate : (t : ℕ) → partially-sorted-lts.Need-sub-locate (calls t) (partially-sorted-at t) partially-sorted.Post
 partially-sorted-sub-locate t c = let z = c .before .if1 .left in omega arith
@@ -59,16 +73,22 @@ partially-sorted-locate-requires : (t : ℕ) → partially-sorted-lts.Need-locat
 partially-sorted-locate-requires t c κs = let s = c .before .before .before in standing (s .args .m .now) (s .args .u) (s .args .h) (s .pre .1)
 
 partially-sorted-child-count-requires : (t : ℕ) → partially-sorted-lts.Need-child-count-requires (calls t) (partially-sorted-at t) partially-sorted.Post
-partially-sorted-child-count-requires t c κs = let s = c .before .before .before .before .before in slot-room (s .args .m .now) (s .args .u) (s .args .h) (standing (s .args .m .now) (s .args .u) (s .args .h) (s .pre .1))
+partially-sorted-child-count-requires t c κs = let s = c .before .before .before .before .before in
+    slot-room (s .args .m .now) (s .args .u) (s .args .h) (standing (s .args .m .now) (s .args .u) (s .args .h) (s .pre .1))
 
 partially-sorted-same-length-2 : (t : ℕ) → partially-sorted-lts.Need-same-length-2 (calls t) (partially-sorted-at t) partially-sorted.Post
 partially-sorted-same-length-2 t c = refl
 
 partially-sorted-returns-2 : (t : ℕ) → partially-sorted-lts.Need-returns-2 (calls t) (partially-sorted-at t) partially-sorted.Post
-partially-sorted-returns-2 t c = let s = c .before .before .before .before .before .before .before in step-past (s .args .m .now) (s .args .u) (s .args .h) (s .pre .1) (s .args .n) (c .before .before .before .before .before .if1 .left) _ (c .before .before .before .locate .ensures) _ (c .before .child-count .ensures) (c .if2 .taken) (s .args .m .now)
+partially-sorted-returns-2 t c = let s = c .before .before .before .before .before .before .before in
+    step-past (s .args .m .now) (s .args .u) (s .args .h) (s .pre .1) (s .args .n) (c .before .before .before .before .before .if1 .left) _
+    (c .before .before .before .locate .ensures) _ (c .before .child-count .ensures) (c .if2 .taken) (s .args .m .now)
 
 partially-sorted-child-requires : (t : ℕ) → partially-sorted-lts.Need-child-requires (calls t) (partially-sorted-at t) partially-sorted.Post
-partially-sorted-child-requires t c κs = let s = c .before .before .before .before .before .before .before .before in kid-asks (s .args .m .now) (s .args .u) (s .args .h) (standing (s .args .m .now) (s .args .u) (s .args .h) (s .pre .1)) _ (step-low (s .args .m .now) (s .args .u) (s .args .h) (s .pre .1) (s .args .n) (c .before .before .before .before .before .before .if1 .left) _ (c .before .before .before .before .locate .ensures) _ (c .before .before .child-count .ensures) (c .before .if2 .left))
+partially-sorted-child-requires t c κs = let s = c .before .before .before .before .before .before .before .before in
+    kid-asks (s .args .m .now) (s .args .u) (s .args .h) (standing (s .args .m .now) (s .args .u) (s .args .h) (s .pre .1)) _
+    (step-low (s .args .m .now) (s .args .u) (s .args .h) (s .pre .1) (s .args .n) (c .before .before .before .before .before .before .if1 .left) _
+    (c .before .before .before .before .locate .ensures) _ (c .before .before .child-count .ensures) (c .before .if2 .left))
 
 partially-sorted-partially-sorted-requires :
     (t : ℕ) → partially-sorted-lts.Need-partially-sorted-requires (
@@ -85,7 +105,11 @@ partially-sorted-partially-sorted-requires :
       put-child-reads.Asked,
       put-child-reads.Learnt,
     ) (partially-sorted-at t) partially-sorted.Post
-partially-sorted-partially-sorted-requires t c κs = let s = c .before .before .before .before .before .before .before .before .before .before in let q = step-asks (s .args .m .now) (s .args .u) (s .args .h) (s .pre .1) (s .args .n) (c .before .before .before .before .before .before .before .before .if1 .left) _ (c .before .before .before .before .before .before .locate .ensures) _ (c .before .before .before .before .child-count .ensures) (c .before .before .before .if2 .left) _ (c .before .child .ensures) in let q₀ = q .0 in let g = s .pre .0 in (omega arith, q .1)
+partially-sorted-partially-sorted-requires t c κs = let s = c .before .before .before .before .before .before .before .before .before .before in
+    let q = step-asks (s .args .m .now) (s .args .u) (s .args .h) (s .pre .1) (s .args .n)
+    (c .before .before .before .before .before .before .before .before .if1 .left) _ (c .before .before .before .before .before .before .locate .ensures) _
+    (c .before .before .before .before .child-count .ensures) (c .before .before .before .if2 .left) _ (c .before .child .ensures) in let q₀ = q .0 in
+    let g = s .pre .0 in (omega arith, q .1)
 
 partially-sorted-enum-told : (t : ℕ) → partially-sorted-lts.Need-enum-told (calls t) (partially-sorted-at t) partially-sorted.Post
 partially-sorted-enum-told t c = search needs
@@ -97,25 +121,59 @@ partially-sorted-enum-known-below : (t : ℕ) → partially-sorted-lts.Need-enum
 partially-sorted-enum-known-below t c = search needs
 
 partially-sorted-put-child-requires : (t : ℕ) → partially-sorted-lts.Need-put-child-requires (calls t) (partially-sorted-at t) partially-sorted.Post
-partially-sorted-put-child-requires t c κs = let s = c .before .before .before .before .before .before .before .before .before .before .before .before .before .before .before .before .before in step-puts (s .args .m .now) (s .args .u) (s .args .h) (s .pre .1) (s .args .n) (c .before .before .before .before .before .before .before .before .before .before .before .before .before .before .before .if1 .left) _ (c .before .before .before .before .before .before .before .before .before .before .before .before .before .locate .ensures) _ (c .before .before .before .before .before .before .before .before .before .before .before .child-count .ensures) (c .before .before .before .before .before .before .before .before .before .before .if2 .left) _ (c .before .before .before .before .before .before .before .before .child .ensures) _ _ (c .before .before .before .before .before .before .partially-sorted .ensures) (c .before .before .before .before .before .before .partially-sorted .kept .0) _ (c .before .before .below .given .1)
+partially-sorted-put-child-requires t c κs = let s =
+    c .before .before .before .before .before .before .before .before .before .before .before .before .before .before .before .before .before in
+    step-puts (s .args .m .now) (s .args .u) (s .args .h) (s .pre .1) (s .args .n)
+    (c .before .before .before .before .before .before .before .before .before .before .before .before .before .before .before .if1 .left) _
+    (c .before .before .before .before .before .before .before .before .before .before .before .before .before .locate .ensures) _
+    (c .before .before .before .before .before .before .before .before .before .before .before .child-count .ensures)
+    (c .before .before .before .before .before .before .before .before .before .before .if2 .left) _
+    (c .before .before .before .before .before .before .before .before .child .ensures) _ _
+    (c .before .before .before .before .before .before .partially-sorted .ensures)
+    (c .before .before .before .before .before .before .partially-sorted .kept .0) _ (c .before .before .below .given .1)
 
 partially-sorted-same-length-3 : (t : ℕ) → partially-sorted-lts.Need-same-length-3 (calls t) (partially-sorted-at t) partially-sorted.Post
 partially-sorted-same-length-3 t c = c .before .before .before .before .partially-sorted .kept .0
 
 partially-sorted-returns-3 : (t : ℕ) → partially-sorted-lts.Need-returns-3 (calls t) (partially-sorted-at t) partially-sorted.Post
-partially-sorted-returns-3 t c = let s = c .before .before .before .before .before .before .before .before .before .before .before .before .before .before .before in step-missing (s .args .m .now) (s .args .u) (s .args .h) (s .pre .1) (s .args .n) (c .before .before .before .before .before .before .before .before .before .before .before .before .before .if1 .left) _ (c .before .before .before .before .before .before .before .before .before .before .before .locate .ensures) _ (c .before .before .before .before .before .before .before .before .before .child-count .ensures) (c .before .before .before .before .before .before .before .before .if2 .left) _ (c .before .before .before .before .before .before .child .ensures) _ _ (c .before .before .before .before .partially-sorted .ensures) (c .enum-told .given .1)
+partially-sorted-returns-3 t c = let s =
+    c .before .before .before .before .before .before .before .before .before .before .before .before .before .before .before in
+    step-missing (s .args .m .now) (s .args .u) (s .args .h) (s .pre .1) (s .args .n)
+    (c .before .before .before .before .before .before .before .before .before .before .before .before .before .if1 .left) _
+    (c .before .before .before .before .before .before .before .before .before .before .before .locate .ensures) _
+    (c .before .before .before .before .before .before .before .before .before .child-count .ensures)
+    (c .before .before .before .before .before .before .before .before .if2 .left) _ (c .before .before .before .before .before .before .child .ensures) _ _
+    (c .before .before .before .before .partially-sorted .ensures) (c .enum-told .given .1)
 
 partially-sorted-same-length-4 : (t : ℕ) → partially-sorted-lts.Need-same-length-4 (calls t) (partially-sorted-at t) partially-sorted.Post
 partially-sorted-same-length-4 t c = c .before .before .before .before .partially-sorted .kept .0
 
 partially-sorted-returns-4 : (t : ℕ) → partially-sorted-lts.Need-returns-4 (calls t) (partially-sorted-at t) partially-sorted.Post
-partially-sorted-returns-4 t c = let s = c .before .before .before .before .before .before .before .before .before .before .before .before .before .before .before in step-met (s .args .m .now) (s .args .u) (s .args .h) (s .pre .1) (s .args .n) (c .before .before .before .before .before .before .before .before .before .before .before .before .before .if1 .left) _ (c .before .before .before .before .before .before .before .before .before .before .before .locate .ensures) _ (c .before .before .before .before .before .before .before .before .before .child-count .ensures) (c .before .before .before .before .before .before .before .before .if2 .left) _ (c .before .before .before .before .before .before .child .ensures) _ _ (c .before .before .before .before .partially-sorted .ensures) (c .enum-told2 .given .1)
+partially-sorted-returns-4 t c = let s =
+    c .before .before .before .before .before .before .before .before .before .before .before .before .before .before .before in
+    step-met (s .args .m .now) (s .args .u) (s .args .h) (s .pre .1) (s .args .n)
+    (c .before .before .before .before .before .before .before .before .before .before .before .before .before .if1 .left) _
+    (c .before .before .before .before .before .before .before .before .before .before .before .locate .ensures) _
+    (c .before .before .before .before .before .before .before .before .before .child-count .ensures)
+    (c .before .before .before .before .before .before .before .before .if2 .left) _ (c .before .before .before .before .before .before .child .ensures) _ _
+    (c .before .before .before .before .partially-sorted .ensures) (c .enum-told2 .given .1)
 
 partially-sorted-same-length-5 : (t : ℕ) → partially-sorted-lts.Need-same-length-5 (calls t) (partially-sorted-at t) partially-sorted.Post
-partially-sorted-same-length-5 t c = c .before .before .put-child .kept .0 ∙ c .before .before .before .before .before .before .before .before .before .partially-sorted .kept .0
+partially-sorted-same-length-5 t c = c .before .before .put-child .kept .0
+    ∙ c .before .before .before .before .before .before .before .before .before .partially-sorted .kept .0
 
 partially-sorted-returns-5 : (t : ℕ) → partially-sorted-lts.Need-returns-5 (calls t) (partially-sorted-at t) partially-sorted.Post
-partially-sorted-returns-5 t c = let s = c .before .before .before .before .before .before .before .before .before .before .before .before .before .before .before .before .before .before .before .before in step-became (s .args .m .now) (s .args .u) (s .args .h) (s .pre .1) (s .args .n) (c .before .before .before .before .before .before .before .before .before .before .before .before .before .before .before .before .before .before .if1 .left) _ (c .before .before .before .before .before .before .before .before .before .before .before .before .before .before .before .before .locate .ensures) _ (c .before .before .before .before .before .before .before .before .before .before .before .before .before .before .child-count .ensures) (c .before .before .before .before .before .before .before .before .before .before .before .before .before .if2 .left) _ (c .before .before .before .before .before .before .before .before .before .before .before .child .ensures) _ _ (c .before .before .before .before .before .before .before .before .before .partially-sorted .ensures) (c .before .before .before .before .before .before .before .before .before .partially-sorted .kept .0) _ (c .before .before .before .before .before .below .given .1) _ _ (c .before .before .put-child .ensures)
+partially-sorted-returns-5 t c = let s =
+    c .before .before .before .before .before .before .before .before .before .before .before .before .before .before .before .before .before .before
+    .before .before in step-became (s .args .m .now) (s .args .u) (s .args .h) (s .pre .1) (s .args .n)
+    (c .before .before .before .before .before .before .before .before .before .before .before .before .before .before .before .before .before .before .if1
+    .left) _ (c .before .before .before .before .before .before .before .before .before .before .before .before .before .before .before .before .locate
+    .ensures) _ (c .before .before .before .before .before .before .before .before .before .before .before .before .before .before .child-count .ensures)
+    (c .before .before .before .before .before .before .before .before .before .before .before .before .before .if2 .left) _
+    (c .before .before .before .before .before .before .before .before .before .before .before .child .ensures) _ _
+    (c .before .before .before .before .before .before .before .before .before .partially-sorted .ensures)
+    (c .before .before .before .before .before .before .before .before .before .partially-sorted .kept .0) _
+    (c .before .before .before .before .before .below .given .1) _ _ (c .before .before .put-child .ensures)
 
 pub +partially-sorted-spec : {M : Type 1} → statement M
 +partially-sorted-spec = close μ-partially-sorted λ t. partially-sorted-lts.spec (calls t)

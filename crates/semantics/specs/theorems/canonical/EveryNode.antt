@@ -22,7 +22,8 @@ use Rattle.semantics.specs.theorems.orders.NormalForms.{normal-nf}
 use Rattle.semantics.specs.theorems.canonical.UnionsProjections.{ordered-canon, nf-canon, kept-canon, unknown-classes, nothing-canon, source-classes, union-canon, proj-canon}
 
 -- ---- classes and constants by tables of one size
-module _ (F : Facts) (f : ℕ → ℕ) (g : ℕ → Bool) (lo : (c : ℕ) → c < F .width → f c ≤ c) (id : (c : ℕ) → c < F .width → f (f c) ≡ f c) (co : (c : ℕ) → c < F .width → g (f c) ≡ g c) where
+module _ (F : Facts) (f : ℕ → ℕ) (g : ℕ → Bool) (lo : (c : ℕ) → c < F .width → f c ≤ c) (id : (c : ℕ) → c < F .width → f (f c) ≡ f c)
+    (co : (c : ℕ) → c < F .width → g (f c) ≡ g c) where
   abbrev cls′ : ℕ → ℕ
   cls′ c = getD (tab (F .width) f) c c
 
@@ -33,10 +34,12 @@ module _ (F : Facts) (f : ℕ → ℕ) (g : ℕ → Bool) (lo : (c : ℕ) → c 
   tab-low c = tab-cases (λ d. d ≤ c) (F .width) f c (lo c) (λ _. omega arith)
 
   tab-idem : (c : ℕ) → cls′ (cls′ c) ≡ cls′ c
-  tab-idem c = tab-cases (λ d. cls′ d ≡ d) (F .width) f c (λ h. getD-tab (F .width) f (f c) (f c) (omega (arith, lo c h)) ∙ id c h) (λ h. tab-cases (λ d. d ≡ c) (F .width) f c (λ l. absurd (omega arith)) (λ _. refl))
+  tab-idem c = tab-cases (λ d. cls′ d ≡ d) (F .width) f c (λ h. getD-tab (F .width) f (f c) (f c) (omega (arith, lo c h)) ∙ id c h)
+      (λ h. tab-cases (λ d. d ≡ c) (F .width) f c (λ l. absurd (omega arith)) (λ _. refl))
 
   tab-const : (c : ℕ) → con′ (cls′ c) ≡ con′ c
-  tab-const c = tab-cases (λ d. con′ d ≡ con′ c) (F .width) f c (λ h. getD-tab (F .width) g false (f c) (omega (arith, lo c h)) ∙ co c h ∙ sym (getD-tab (F .width) g false c h)) (λ _. refl)
+  tab-const c = tab-cases (λ d. con′ d ≡ con′ c) (F .width) f c (λ h. getD-tab (F .width) g false (f c) (omega (arith, lo c h)) ∙ co c h
+      ∙ sym (getD-tab (F .width) g false c h)) (λ _. refl)
 
   tab-classes : F .consts ≡ tab (F .width) g → F .cls ≡ tab (F .width) f → Classes F
   tab-classes p q =
@@ -72,10 +75,18 @@ module _ (F : Facts) (h : Classes F) where
       near c e = omega (arith, ltb-true c (F .width) e, h .low c)
 
       id : (c : ℕ) → fL (fL c) ≡ fL c
-      id c = (elim (ltb c (F .width)) as (λ b. ltb c (F .width) ≡ b → fL (cond b (cl F c) c) ≡ cond b (cl F c) c) [ true ↦ λ e. fL-near (cl F c) (near c e) ∙ h .idem c | false ↦ λ e. ap (λ (b : Bool). cond b (cl F c) c) e ]) refl
+      id c = (elim (ltb c (F .width)) as (λ b. ltb c (F .width) ≡ b → fL (cond b (cl F c) c) ≡ cond b (cl F c) c) [
+        | true ↦ λ e. fL-near (cl F c) (near c e)
+            ∙ h .idem c
+        | false ↦ λ e. ap (λ (b : Bool). cond b (cl F c) c) e
+      ]) refl
 
       co : (c : ℕ) → gL (fL c) ≡ gL c
-      co c = (elim (ltb c (F .width)) as (λ b. ltb c (F .width) ≡ b → gL (cond b (cl F c) c) ≡ gL c) [ true ↦ λ e. gL-near (cl F c) (near c e) ∙ h .const c ∙ sym (gL-near c (ltb-true c (F .width) e)) | false ↦ λ e. refl ]) refl
+      co c = (elim (ltb c (F .width)) as (λ b. ltb c (F .width) ≡ b → gL (cond b (cl F c) c) ≡ gL c) [
+        | true ↦ λ e. gL-near (cl F c) (near c e) ∙ h .const c
+            ∙ sym (gL-near c (ltb-true c (F .width) e))
+        | false ↦ λ e. refl
+      ]) refl
 
 -- ---- the right side
 module _ (w : ℕ) (G : Facts) (h : Classes G) where
@@ -116,10 +127,18 @@ module _ (w : ℕ) (G : Facts) (h : Classes G) where
       lo c l = (elim (leb w c) as (λ b. leb w c ≡ b → cond b (fR c) c ≤ c) [ true ↦ λ e. fR-low c (leb-true w c e) | false ↦ λ e. omega arith ]) refl
 
       id : (c : ℕ) → c < n → fS (fS c) ≡ fS c
-      id c l = (elim (leb w c) as (λ b. leb w c ≡ b → fS (cond b (fR c) c) ≡ cond b (fR c) c) [ true ↦ λ e. fS-far (fR c) (omega arith) ∙ fR-idem c | false ↦ λ e. ap (λ (b : Bool). cond b (fR c) c) e ]) refl
+      id c l = (elim (leb w c) as (λ b. leb w c ≡ b → fS (cond b (fR c) c) ≡ cond b (fR c) c) [
+        | true ↦ λ e. fS-far (fR c) (omega arith)
+            ∙ fR-idem c
+        | false ↦ λ e. ap (λ (b : Bool). cond b (fR c) c) e
+      ]) refl
 
       co : (c : ℕ) → c < n → gS (fS c) ≡ gS c
-      co c l = (elim (leb w c) as (λ b. leb w c ≡ b → gS (cond b (fR c) c) ≡ gS c) [ true ↦ λ e. gS-far (fR c) (omega arith) ∙ fR-const c ∙ sym (gS-far c (leb-true w c e)) | false ↦ λ e. refl ]) refl
+      co c l = (elim (leb w c) as (λ b. leb w c ≡ b → gS (cond b (fR c) c) ≡ gS c) [
+        | true ↦ λ e. gS-far (fR c) (omega arith) ∙ fR-const c
+            ∙ sym (gS-far c (leb-true w c e))
+        | false ↦ λ e. refl
+      ]) refl
 
 -- ---- both sides
 module _ (F G : Facts) (h : Classes F) (k : Classes G) where
@@ -194,7 +213,8 @@ module _ (F : Facts) (a b : ℕ) (h : Classes F) where
 
   -- a column in the linked class is in a's or in b's
   of-class : (c : ℕ) → inClass F a b c ≡ true → (cl F c ≡ cl F a) ⊎ (cl F c ≡ cl F b)
-  of-class c e = ⊎-elim (λ p. inl (eqb-true (cl F c) (cl F a) p)) (λ p. inr (eqb-true (cl F c) (cl F b) p)) (or-cases (eqb (cl F c) (cl F a)) (eqb (cl F c) (cl F b)) e)
+  of-class c e = ⊎-elim (λ p. inl (eqb-true (cl F c) (cl F a) p)) (λ p. inr (eqb-true (cl F c) (cl F b) p))
+      (or-cases (eqb (cl F c) (cl F a)) (eqb (cl F c) (cl F b)) e)
 
   const-of : (c : ℕ) → (cl F c ≡ cl F a) ⊎ (cl F c ≡ cl F b) → (isC F c ≡ isC F a) ⊎ (isC F c ≡ isC F b)
   const-of c (inl e) = inl (sym (h .const c) ∙ ap (isC F) e ∙ h .const a)
@@ -214,13 +234,25 @@ module _ (F : Facts) (a b : ℕ) (h : Classes F) where
   gK-in c e = ap (λ (t : Bool). isC F c || (t && (isC F a || isC F b))) e ∙ absorb (isC F c) (isC F a) (isC F b) (const-of c (of-class c e))
 
   lo : (c : ℕ) → fK c ≤ c
-  lo c = (elim (inClass F a b c) as (λ t. inClass F a b c ≡ t → cond t m (cl F c) ≤ c) [ true ↦ λ e. ⊎-elim (λ p. omega (arith, h .low c)) (λ p. omega (arith, h .low c)) (of-class c e) | false ↦ λ e. h .low c ]) refl
+  lo c = (elim (inClass F a b c) as (λ t. inClass F a b c ≡ t → cond t m (cl F c) ≤ c) [
+    | true ↦ λ e. ⊎-elim (λ p. omega (arith, h .low c))
+        (λ p. omega (arith, h .low c)) (of-class c e)
+    | false ↦ λ e. h .low c
+  ]) refl
 
   id : (c : ℕ) → fK (fK c) ≡ fK c
-  id c = (elim (inClass F a b c) as (λ t. inClass F a b c ≡ t → fK (cond t m (cl F c)) ≡ cond t m (cl F c)) [ true ↦ λ e. ap (λ (t : Bool). cond t m (cl F m)) (in-true m m-class) | false ↦ λ e. ap (λ (t : Bool). cond t m (cl F (cl F c))) (in-rep c ∙ e) ∙ h .idem c ]) refl
+  id c = (elim (inClass F a b c) as (λ t. inClass F a b c ≡ t → fK (cond t m (cl F c)) ≡ cond t m (cl F c)) [
+    | true ↦ λ e. ap (λ (t : Bool). cond t m (cl F m)) (in-true m m-class)
+    | false ↦ λ e. ap (λ (t : Bool). cond t m (cl F (cl F c))) (in-rep c ∙ e)
+        ∙ h .idem c
+  ]) refl
 
   co : (c : ℕ) → gK (fK c) ≡ gK c
-  co c = (elim (inClass F a b c) as (λ t. inClass F a b c ≡ t → gK (cond t m (cl F c)) ≡ gK c) [ true ↦ λ e. gK-in m (in-true m m-class) ∙ sym (gK-in c e) | false ↦ λ e. ap₂ (λ (x t : Bool). x || (t && (isC F a || isC F b))) (h .const c) (in-rep c) ]) refl
+  co c = (elim (inClass F a b c) as (λ t. inClass F a b c ≡ t → gK (cond t m (cl F c)) ≡ gK c) [
+    | true ↦ λ e. gK-in m (in-true m m-class)
+        ∙ sym (gK-in c e)
+    | false ↦ λ e. ap₂ (λ (x t : Bool). x || (t && (isC F a || isC F b))) (h .const c) (in-rep c)
+  ]) refl
 
   linked-classes : Classes (linked F a b)
   linked-classes = tab-classes (linked F a b) fK gK (λ c _. lo c) (λ c _. id c) (λ c _. co c) refl refl
@@ -253,7 +285,8 @@ nth-canon (F ∷ fs) (all-cons h hs) zero = h
 nth-canon (F ∷ fs) (all-cons h hs) (suc n) = nth-canon fs hs n
 
 pub op-canon : (o : Op) (fs : List Facts) → All Canon fs → Canon (factsOp o fs)
-op-canon (source s) fs hs = nf-canon (sourceFacts (s .width) (s .streams) (s .constants)) (s .streams) (s .keys) (source-classes (s .width) (s .streams) (s .constants))
+op-canon (source s) fs hs = nf-canon (sourceFacts (s .width) (s .streams) (s .constants)) (s .streams) (s .keys)
+    (source-classes (s .width) (s .streams) (s .constants))
 op-canon filter fs hs = nth-canon fs hs 0
 op-canon (projection cols) fs hs = proj-canon (at0 fs) (nth-canon fs hs 0) cols
 op-canon union fs hs = union-canon fs hs
@@ -263,7 +296,8 @@ op-canon (sortOp p ks f) fs hs = nf-canon (at0 fs) (sortStreams p (at0 fs)) ks (
 op-canon (mergeOp ks f) fs hs = nf-canon (at0 fs) 1 ks (nth-canon fs hs 0 .classes)
 op-canon (globalLimit s f note) fs hs = kept-canon (at0 fs) 1 (eqb (at0 fs .streams) 1) (nth-canon fs hs 0)
 op-canon (localLimit f note) fs hs = nth-canon fs hs 0
-op-canon (sortMergeJoin t on) fs hs = join-canon t (smjKept t) on (at0 fs) (at1 fs) (cond (byRight t) (at1 fs .streams) (at0 fs .streams)) (nth-canon fs hs 0) (nth-canon fs hs 1)
+op-canon (sortMergeJoin t on) fs hs = join-canon t (smjKept t) on (at0 fs) (at1 fs) (cond (byRight t) (at1 fs .streams) (at0 fs .streams))
+    (nth-canon fs hs 0) (nth-canon fs hs 1)
 op-canon (hashJoin t on) fs hs = join-canon t (hashKept t) on (at0 fs) (at1 fs) (at1 fs .streams) (nth-canon fs hs 0) (nth-canon fs hs 1)
 op-canon (outputRequirement ks d f) fs hs = nth-canon fs hs 0
 op-canon (partialSort p ks n f) fs hs = nf-canon (at0 fs) (sortStreams p (at0 fs)) ks (nth-canon fs hs 0 .classes)

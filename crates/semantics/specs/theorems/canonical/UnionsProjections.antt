@@ -22,7 +22,16 @@ use Rattle.semantics.specs.theorems.orders.NormalForms.{nf-normal}
 
 -- ---- another order
 pub ordered-canon : (F : Facts) (n : ℕ) (ks : List Key) → Classes F → Normal (isC F) (cl F) [] ks → Canon (ordered F n ks)
-ordered-canon F n ks h k = record { classes = record { consts-long = h .consts-long; cls-long = h .cls-long; low = h .low; idem = h .idem; const = h .const }; normal = k }
+ordered-canon F n ks h k = record {
+  classes = record {
+    consts-long = h .consts-long;
+    cls-long = h .cls-long;
+    low = h .low;
+    idem = h .idem;
+    const = h .const;
+  };
+  normal = k;
+}
 
 pub nf-canon : (F : Facts) (n : ℕ) (ks : List Key) → Classes F → Canon (ordered F n (nf F [] ks))
 nf-canon F n ks h = ordered-canon F n (nf F [] ks) h (nf-normal (isC F) (cl F) (h .idem) [] ks)
@@ -76,13 +85,15 @@ module _ (w : ℕ) (p : ℕ → ℕ → Bool) (self : (c : ℕ) → p c c ≡ tr
   low-le c = tab-cases (λ d. d ≤ c) w (λ d. lowest (p d) d) c (λ _. lowest-le (p c) c) (λ _. omega arith)
 
   low-idem : (c : ℕ) → low-of (low-of c) ≡ low-of c
-  low-idem c = tab-cases (λ d. low-of d ≡ d) w (λ d. lowest (p d) d) c inside (λ h. List·getD-eq-default (tab w (λ d. lowest (p d) d)) c {n = c} (omega (arith, length-tab w (λ d. lowest (p d) d))))
+  low-idem c = tab-cases (λ d. low-of d ≡ d) w (λ d. lowest (p d) d) c inside
+      (λ h. List·getD-eq-default (tab w (λ d. lowest (p d) d)) c {n = c} (omega (arith, length-tab w (λ d. lowest (p d) d))))
     where
       m : ℕ
       m = lowest (p c) c
 
       inside : c < w → low-of m ≡ m
-      inside h = getD-tab w (λ d. lowest (p d) d) m m (omega (arith, lowest-le (p c) c)) ∙ lowest-ext (p m) (p c) (ext c m (lowest-ok (p c) c (inr (self c)))) m ∙ lowest-idem (p c) c
+      inside h = getD-tab w (λ d. lowest (p d) d) m m (omega (arith, lowest-le (p c) c))
+          ∙ lowest-ext (p m) (p c) (ext c m (lowest-ok (p c) c (inr (self c)))) m ∙ lowest-idem (p c) c
 
 -- ---- union
 module _ (F G : Facts) (hF : Canon F) where
@@ -94,7 +105,8 @@ module _ (F G : Facts) (hF : Canon F) where
 
   alike-ext : (c d : ℕ) → alike c d ≡ true → (i : ℕ) → alike d i ≡ alike c i
   alike-ext c d e i =
-      ap₂ (λ (a b : ℕ). eqb (cl F i) a && eqb (cl G i) b) (eqb-true (cl F d) (cl F c) (and-left (eqb (cl F d) (cl F c)) (eqb (cl G d) (cl G c)) e)) (eqb-true (cl G d) (cl G c) (and-right (eqb (cl F d) (cl F c)) (eqb (cl G d) (cl G c)) e))
+      ap₂ (λ (a b : ℕ). eqb (cl F i) a && eqb (cl G i) b) (eqb-true (cl F d) (cl F c) (and-left (eqb (cl F d) (cl F c)) (eqb (cl G d) (cl G c)) e))
+      (eqb-true (cl G d) (cl G c) (and-right (eqb (cl F d) (cl F c)) (eqb (cl G d) (cl G c)) e))
 
   -- what is its class's lowest on one side is so in the union
   both-low : (c : ℕ) → cl F c ≡ c → cl (both F G) c ≡ c
@@ -108,7 +120,8 @@ module _ (F G : Facts) (hF : Canon F) where
   common-normal seen (k ∷ p) [] h = n-nil
   common-normal seen (k ∷ p) (l ∷ q) (n-cons a b c h) = go (eqKey k l) (common-normal (k .col ∷ seen) p q h)
     where
-      go : (t : Bool) → Normal (isC (both F G)) (cl (both F G)) (k .col ∷ seen) (common p q) → Normal (isC (both F G)) (cl (both F G)) seen (cond t (k ∷ common p q) [])
+      go : (t : Bool) → Normal (isC (both F G)) (cl (both F G)) (k .col ∷ seen) (common p q) → Normal (isC (both F G)) (cl (both F G)) seen
+          (cond t (k ∷ common p q) [])
       go true ih = n-cons (both-low (k .col) a) (tab-false (F .width) (k .col)) c ih
       go false ih = n-nil
 
@@ -158,7 +171,8 @@ module _ (F : Facts) (hF : Canon F) (cols : List ℕ) where
           ∙ ap (isC F) (eqb-true (cl F (getD cols m 0)) (cl F (getD cols j 0)) (lowest-ok (alikeOut j) j (inr (out-self j)))) ∙ sym (out-const j h)
 
   -- out: the output columns seen; each comes from a class seen
-  order-normal : (seen out : List ℕ) (ks : List Key) → All (λ j. member (cl F (getD cols j 0)) seen ≡ true) out → Normal (isC F) (cl F) seen ks → Normal (isC (projFacts F cols)) (cl (projFacts F cols)) out (projOrder F cols ks)
+  order-normal : (seen out : List ℕ) (ks : List Key) → All (λ j. member (cl F (getD cols j 0)) seen ≡ true) out → Normal (isC F) (cl F) seen ks
+      → Normal (isC (projFacts F cols)) (cl (projFacts F cols)) out (projOrder F cols ks)
   order-normal seen out [] hs n = n-nil
   order-normal seen out (k ∷ ks) hs (n-cons a b c h) = go (ltb j (length cols)) refl (λ hs′. order-normal (k .col ∷ seen) (j ∷ out) ks hs′ h)
     where
@@ -166,10 +180,13 @@ module _ (F : Facts) (hF : Canon F) (cols : List ℕ) where
       j = carried F cols (k .col)
 
       go : (t : Bool) → ltb j (length cols) ≡ t →
-          (All (λ i. member (cl F (getD cols i 0)) (k .col ∷ seen) ≡ true) (j ∷ out) → Normal (isC (projFacts F cols)) (cl (projFacts F cols)) (j ∷ out) (projOrder F cols ks)) →
+          (All (λ i. member (cl F (getD cols i 0)) (k .col ∷ seen) ≡ true) (j ∷ out) → Normal (isC (projFacts F cols)) (cl (projFacts F cols)) (j ∷ out)
+          (projOrder F cols ks)) →
           Normal (isC (projFacts F cols)) (cl (projFacts F cols)) out (cond t (withColumn j k ∷ projOrder F cols ks) [])
       go false e ih = n-nil
-      go true e ih = n-cons lowest-j const-j fresh (ih (all-cons (ap (λ (b : Bool). b || member (cl F (getD cols j 0)) seen) (eq-eqb (cl F (getD cols j 0)) (k .col) is)) (all-map (λ i m. or-right (eqb (cl F (getD cols i 0)) (k .col)) (member (cl F (getD cols i 0)) seen) m) hs)))
+      go true e ih = n-cons lowest-j const-j fresh
+          (ih (all-cons (ap (λ (b : Bool). b || member (cl F (getD cols j 0)) seen) (eq-eqb (cl F (getD cols j 0)) (k .col) is))
+          (all-map (λ i m. or-right (eqb (cl F (getD cols i 0)) (k .col)) (member (cl F (getD cols i 0)) seen) m) hs)))
         where
           lt : j < length cols
           lt = ltb-true j (length cols) e
@@ -184,7 +201,8 @@ module _ (F : Facts) (hF : Canon F) (cols : List ℕ) where
           t i = eqb (cl F (getD cols i 0)) (cl F (k .col))
 
           lowest-j : cl (projFacts F cols) j ≡ j
-          lowest-j = getD-tab (length cols) (λ d. lowest (alikeOut d) d) j j lt ∙ lowest-ext (alikeOut j) t (λ i. ap (λ (x : ℕ). eqb (cl F (getD cols i 0)) x) to) j ∙ lowest-idem t (length cols)
+          lowest-j = getD-tab (length cols) (λ d. lowest (alikeOut d) d) j j lt ∙ lowest-ext (alikeOut j) t
+              (λ i. ap (λ (x : ℕ). eqb (cl F (getD cols i 0)) x) to) j ∙ lowest-idem t (length cols)
 
           const-j : isC (projFacts F cols) j ≡ false
           const-j = out-const j lt ∙ ap (isC F) is ∙ b

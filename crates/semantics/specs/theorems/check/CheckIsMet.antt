@@ -28,7 +28,8 @@ met-each (ks ∷ l) F h = ap₂ _&&_ (h 0) (met-each l (λ i. F (suc i)) (λ i. 
 -- ---- every node
 pub check-met : (f : Plan) → check f ≡ true → EachMet f
 check-met none e = met-none
-check-met (tree o c r) e = met-tree (wants-met o (facts c) (search and-left)) (check-met c (search (and-left, and-right))) (check-met r (search (and-left, and-right)))
+check-met (tree o c r) e = met-tree (wants-met o (facts c) (search and-left)) (check-met c (search (and-left, and-right)))
+    (check-met r (search (and-left, and-right)))
 
 pub met-check : {f : Plan} → EachMet f → check f ≡ true
 met-check met-none = refl

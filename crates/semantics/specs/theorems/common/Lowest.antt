@@ -33,7 +33,8 @@ lowest-ok p (suc n) h = go (p zero) refl h (λ k. lowest-ok (λ i. p (suc i)) n 
     later (inl l) = inl (omega arith)
     later (inr e) = inr e
 
-    go : (b : Bool) → p zero ≡ b → (cond b zero (suc m) < suc n) ⊎ (p (suc n) ≡ true) → ((m < n) ⊎ (p (suc n) ≡ true) → p (suc m) ≡ true) → p (cond b zero (suc m)) ≡ true
+    go : (b : Bool) → p zero ≡ b → (cond b zero (suc m) < suc n) ⊎ (p (suc n) ≡ true) → ((m < n) ⊎ (p (suc n) ≡ true) → p (suc m) ≡ true)
+        → p (cond b zero (suc m)) ≡ true
     go true e k f = e
     go false e k f = f (later k)
 
@@ -54,14 +55,20 @@ lowest-idem p (suc n) = go (p zero) refl (lowest-idem (λ i. p (suc i)) n)
 
 pub lowest-none : (p : ℕ → Bool) (n : ℕ) → ((i : ℕ) → i < n → p i ≡ false) → lowest p n ≡ n
 lowest-none p zero h = refl
-lowest-none p (suc n) h = ap₂ (λ (b : Bool) (m : ℕ). cond b zero (suc m)) (h zero (omega arith)) (lowest-none (λ i. p (suc i)) n (λ i l. h (suc i) (omega arith)))
+lowest-none p (suc n) h = ap₂ (λ (b : Bool) (m : ℕ). cond b zero (suc m)) (h zero (omega arith))
+    (lowest-none (λ i. p (suc i)) n (λ i l. h (suc i) (omega arith)))
 
 -- ---- tables
 
 -- what holds of a table's entry below its end, and of c itself past it, holds of what the table says at c
 pub tab-cases : (P : ℕ → Type 0) (n : ℕ) (f : ℕ → ℕ) (c : ℕ) → (c < n → P (f c)) → (n ≤ c → P c) → P (getD (tab n f) c c)
 tab-cases P n f c h z =
-    (elim (ltb c n) as (λ b. ltb c n ≡ b → P (getD (tab n f) c c)) [ true ↦ λ e. subst P (sym (getD-tab n f c c (ltb-true c n e))) (h (ltb-true c n e)) | false ↦ λ e. subst P (sym (List·getD-eq-default (tab n f) c {n = c} (omega (arith, length-tab n f, ltb-false c n e)))) (z (ltb-false c n e)) ]) refl
+    (elim (ltb c n) as (λ b. ltb c n ≡ b → P (getD (tab n f) c c)) [
+      | true ↦ λ e. subst P (sym (getD-tab n f c c (ltb-true c n e)))
+          (h (ltb-true c n e))
+      | false ↦ λ e. subst P (sym (List·getD-eq-default (tab n f) c {n = c} (omega (arith, length-tab n f, ltb-false c n e))))
+          (z (ltb-false c n e))
+    ]) refl
 
 pub tab-same : (n c : ℕ) → getD (tab n (λ d. d)) c c ≡ c
 tab-same n c = tab-at (λ d. d ≡ c) n (λ d. d) c (λ _. refl) refl

@@ -42,7 +42,8 @@ all-sorted-nil [] = all-nil
 all-sorted-nil (x ∷ s) = all-cons (sorted-nil x) (all-sorted-nil s)
 
 -- each stream by another relation, where its rows satisfy P
-pub streams-map : {P : Row → Type 0} (ks ls : List Key) {s : Streams} → ((x y : Row) → P x → P y → le ks x y ≡ true → le ls x y ≡ true) → All (All P) s → All (Sorted ks) s → All (Sorted ls) s
+pub streams-map : {P : Row → Type 0} (ks ls : List Key) {s : Streams} → ((x y : Row) → P x → P y → le ks x y ≡ true → le ls x y ≡ true) → All (All P) s
+    → All (Sorted ks) s → All (Sorted ls) s
 streams-map ks ls h ps ss = all-map (λ l pr. pw-map h (pr .0) (pr .1)) (all-zip ps ss)
 
 pub each-length : {A B : Type 0} {R : A → B → Type 0} {l : List A} {m : List B} → Each R l m → length m ≡ length l

@@ -21,21 +21,37 @@ pub sum-keep : {A : Type 0} (w : A → ℕ) (p : A → Bool) (l : List A) → su
 sum-keep w p [] = refl
 sum-keep w p (x ∷ l) = go (p x) (sum-keep w p l)
   where
-    go : (b : Bool) → sum w (keep p l) ≡ sum (λ y. cond (p y) (w y) 0) l → sum w (cond b (x ∷ keep p l) (keep p l)) ≡ cond b (w x) 0 + sum (λ y. cond (p y) (w y) 0) l
+    go : (b : Bool) → sum w (keep p l) ≡ sum (λ y. cond (p y) (w y) 0) l → sum w (cond b (x ∷ keep p l) (keep p l)) ≡ cond b (w x) 0 + sum
+        (λ y. cond (p y) (w y) 0) l
     go true e = omega arith
     go false e = omega arith
 
 pub sum-concat-map : {A B : Type 0} (w : B → ℕ) (f : A → B) (s : List (List A)) → sum w (concat (map (map f) s)) ≡ sum (λ x. w (f x)) (concat s)
 sum-concat-map w f [] = refl
-sum-concat-map w f (x ∷ s) = omega (arith, sum-append w (map f x) (concat (map (map f) s)), sum-map w f x, sum-concat-map w f s, sum-append (λ y. w (f y)) x (concat s))
+sum-concat-map w f (x ∷ s) = omega (
+  arith,
+  sum-append w (map f x) (concat (map (map f) s)),
+  sum-map w f x,
+  sum-concat-map w f s,
+  sum-append (λ y. w (f y)) x
+      (concat s),
+)
 
-pub sum-concat-keep : {A : Type 0} (w : A → ℕ) (p : A → Bool) (s : List (List A)) → sum w (concat (map (keep p) s)) ≡ sum (λ x. cond (p x) (w x) 0) (concat s)
+pub sum-concat-keep : {A : Type 0} (w : A → ℕ) (p : A → Bool) (s : List (List A)) → sum w (concat (map (keep p) s)) ≡ sum (λ x. cond (p x) (w x) 0)
+    (concat s)
 sum-concat-keep w p [] = refl
-sum-concat-keep w p (x ∷ s) = omega (arith, sum-append w (keep p x) (concat (map (keep p) s)), sum-keep w p x, sum-concat-keep w p s, sum-append (λ y. cond (p y) (w y) 0) x (concat s))
+sum-concat-keep w p (x ∷ s) = omega (
+  arith,
+  sum-append w (keep p x) (concat (map (keep p) s)),
+  sum-keep w p x,
+  sum-concat-keep w p s,
+  sum-append (λ y. cond (p y) (w y) 0) x (concat s),
+)
 
 pub sum-sorts : (w : Row → ℕ) (ks : List Key) {s t : Streams} → Each (SortOf ks) s t → sum w (concat t) ≡ sum w (concat s)
 sum-sorts w ks each-nil = refl
-sum-sorts w ks (each-cons {x = x} {y = y} {l = l} {m = m} r h) = omega (arith, sum-append w y (concat m), sum-append w x (concat l), r .same .sums w, sum-sorts w ks h)
+sum-sorts w ks (each-cons {x = x} {y = y} {l = l} {m = m} r h) =
+    omega (arith, sum-append w y (concat m), sum-append w x (concat l), r .same .sums w, sum-sorts w ks h)
 
 pub sum-single : (w : Row → ℕ) {P : List Row → Type 0} {out : Streams} (h : OneStream P out) → sum w (concat out) ≡ sum w (h .one)
 sum-single w h = ap (λ (o : Streams). sum w (concat o)) (h .is) ∙ sum-append w (h .one) [] ∙ omega arith

@@ -53,7 +53,8 @@ join-width LeftAnti on F G = refl
 join-width RightSemi on F G = refl
 join-width RightAnti on F G = refl
 
-sides-width : (t : JoinType) (on : List On) (fs : List Facts) → joinBase t on (at0 fs) (at1 fs) .width ≡ joinWidth t (getD (map (λ F. F .width) fs) 0 0) (getD (map (λ F. F .width) fs) 1 0)
+sides-width : (t : JoinType) (on : List On) (fs : List Facts) → joinBase t on (at0 fs) (at1 fs) .width ≡ joinWidth t (getD (map (λ F. F .width) fs) 0 0)
+    (getD (map (λ F. F .width) fs) 1 0)
 sides-width t on fs = join-width t on (at0 fs) (at1 fs) ∙ ap₂ (joinWidth t) (child-width fs 0) (child-width fs 1)
 
 pub op-width : (o : Op) (fs : List Facts) → factsOp o fs .width ≡ width o (map (λ F. F .width) fs)
@@ -108,7 +109,8 @@ proj-fits F cols (k ∷ ks) = go (ltb j (length cols)) refl (proj-fits F cols ks
     j : ℕ
     j = carried F cols (k .col)
 
-    go : (b : Bool) → ltb j (length cols) ≡ b → All (λ l. l .col < length cols) (projOrder F cols ks) → All (λ l. l .col < length cols) (cond b (withColumn j k ∷ projOrder F cols ks) [])
+    go : (b : Bool) → ltb j (length cols) ≡ b → All (λ l. l .col < length cols) (projOrder F cols ks) → All (λ l. l .col < length cols)
+        (cond b (withColumn j k ∷ projOrder F cols ks) [])
     go true e ih = all-cons (ltb-true j (length cols) e) ih
     go false e ih = all-nil
 
@@ -123,7 +125,8 @@ within-fits w [] ps = refl
 within-fits w (k ∷ ks) ps = ap₂ (λ (b : Bool) (l : List Key). cond b (k ∷ l) []) (lt-ltb (k .col) w (all-head ps)) (within-fits w ks (all-tail ps))
 
 -- and every key pair is linked
-pub linkAll-fits : (w : ℕ) (k : On) (on : List On) (F : Facts) → k .key .col < w → linkAll w (k ∷ on) F ≡ linkAll w on (linked F (k .key .col) (w + k .other))
+pub linkAll-fits : (w : ℕ) (k : On) (on : List On) (F : Facts) → k .key .col < w → linkAll w (k ∷ on) F ≡ linkAll w on
+    (linked F (k .key .col) (w + k .other))
 linkAll-fits w k on F h = ap (λ (b : Bool). linkAll w on (cond b (linked F (k .key .col) (w + k .other)) F)) (lt-ltb (k .key .col) w h)
 
 module _ (F G : Facts) (hF : Fits F) (hG : Fits G) where
@@ -161,7 +164,8 @@ module _ (F G : Facts) (hF : Fits F) (hG : Fits G) where
   join-fits : (t : JoinType) (k : Kept) (on : List On) (n : ℕ) → Classes F → Classes G → Fits (joinFacts t k on F G n)
   join-fits t k on n cF cG =
       let B : Facts = joinBase t on F G in
-      nf-fits B (join-classes t on F G cF cG) (B .width) (joinOrder t k F G) (subst (λ (w : ℕ). All (λ l. l .col < w) (joinOrder t k F G)) (sym (join-width t on F G)) (order-fits t k))
+      nf-fits B (join-classes t on F G cF cG) (B .width) (joinOrder t k F G)
+      (subst (λ (w : ℕ). All (λ l. l .col < w) (joinOrder t k F G)) (sym (join-width t on F G)) (order-fits t k))
 
 -- ---- every node
 nth-fits : (fs : List Facts) → All Fits fs → (n : ℕ) → Fits (getD fs n nothing)
@@ -170,11 +174,14 @@ nth-fits (F ∷ fs) (all-cons h hs) zero = h
 nth-fits (F ∷ fs) (all-cons h hs) (suc n) = nth-fits fs hs n
 
 -- a sort's keys fit its child's width
-sort-fits : (fs : List Facts) → All Canon fs → (ks : List Key) → keysFit (getD (map (λ F. F .width) fs) 0 0) ks ≡ true → All (λ k. k .col < at0 fs .width) (nf (at0 fs) [] ks)
-sort-fits fs cs ks e = nf-fits (at0 fs) (nth-canon fs cs 0 .classes) (at0 fs .width) ks (fit-below (at0 fs .width) ks (ap (λ (w : ℕ). keysFit w ks) (child-width fs 0) ∙ e))
+sort-fits : (fs : List Facts) → All Canon fs → (ks : List Key) → keysFit (getD (map (λ F. F .width) fs) 0 0) ks ≡ true → All (λ k. k .col < at0 fs .width)
+    (nf (at0 fs) [] ks)
+sort-fits fs cs ks e = nf-fits (at0 fs) (nth-canon fs cs 0 .classes) (at0 fs .width) ks
+    (fit-below (at0 fs .width) ks (ap (λ (w : ℕ). keysFit w ks) (child-width fs 0) ∙ e))
 
 op-fits : (o : Op) (fs : List Facts) → columnsOk o (map (λ F. F .width) fs) ≡ true → All Canon fs → All Fits fs → Fits (factsOp o fs)
-op-fits (source s) fs e cs hs = nf-fits (sourceFacts (s .width) (s .streams) (s .constants)) (source-classes (s .width) (s .streams) (s .constants)) (s .width) (s .keys) (fit-below (s .width) (s .keys) (search and-left))
+op-fits (source s) fs e cs hs = nf-fits (sourceFacts (s .width) (s .streams) (s .constants)) (source-classes (s .width) (s .streams) (s .constants))
+    (s .width) (s .keys) (fit-below (s .width) (s .keys) (search and-left))
 op-fits filter fs e cs hs = nth-fits fs hs 0
 op-fits (projection cols) fs e cs hs = proj-fits (at0 fs) cols (at0 fs .order)
 op-fits union fs e cs hs = union-fits fs hs
@@ -184,8 +191,10 @@ op-fits (sortOp p ks f) fs e cs hs = sort-fits fs cs ks e
 op-fits (mergeOp ks f) fs e cs hs = sort-fits fs cs ks e
 op-fits (globalLimit s f note) fs e cs hs = kept-fits (eqb (at0 fs .streams) 1) (nth-fits fs hs 0)
 op-fits (localLimit f note) fs e cs hs = nth-fits fs hs 0
-op-fits (sortMergeJoin t on) fs e cs hs = join-fits (at0 fs) (at1 fs) (nth-fits fs hs 0) (nth-fits fs hs 1) t (smjKept t) on (cond (byRight t) (at1 fs .streams) (at0 fs .streams)) (nth-canon fs cs 0 .classes) (nth-canon fs cs 1 .classes)
-op-fits (hashJoin t on) fs e cs hs = join-fits (at0 fs) (at1 fs) (nth-fits fs hs 0) (nth-fits fs hs 1) t (hashKept t) on (at1 fs .streams) (nth-canon fs cs 0 .classes) (nth-canon fs cs 1 .classes)
+op-fits (sortMergeJoin t on) fs e cs hs = join-fits (at0 fs) (at1 fs) (nth-fits fs hs 0) (nth-fits fs hs 1) t (smjKept t) on
+    (cond (byRight t) (at1 fs .streams) (at0 fs .streams)) (nth-canon fs cs 0 .classes) (nth-canon fs cs 1 .classes)
+op-fits (hashJoin t on) fs e cs hs = join-fits (at0 fs) (at1 fs) (nth-fits fs hs 0) (nth-fits fs hs 1) t (hashKept t) on (at1 fs .streams)
+    (nth-canon fs cs 0 .classes) (nth-canon fs cs 1 .classes)
 op-fits (outputRequirement ks d f) fs e cs hs = nth-fits fs hs 0
 op-fits (partialSort p ks n f) fs e cs hs = sort-fits fs cs ks e
 
@@ -193,4 +202,5 @@ pub fits : (f : Plan) → nodesOk f ≡ true → All Fits (facts f)
 fits none e = all-nil
 fits (tree o c r) e =
     let ok : columnsOk o (widths c) ≡ true = search (and-left, and-right) in
-    all-cons (op-fits o (facts c) (ap (columnsOk o) (facts-widths c) ∙ ok) (canon c) (fits c (search (and-left, and-right)))) (fits r (search (and-left, and-right)))
+    all-cons (op-fits o (facts c) (ap (columnsOk o) (facts-widths c) ∙ ok) (canon c) (fits c (search (and-left, and-right))))
+    (fits r (search (and-left, and-right)))

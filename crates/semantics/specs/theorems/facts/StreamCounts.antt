@@ -55,7 +55,8 @@ module _ (fs : List Facts) (hs : All Some fs) where
   op-some (globalLimit s f note) e k = omega arith
   op-some (localLimit f note) e k = only k
   op-some (sortMergeJoin t on) e k =
-      let l = eqb-true (length fs) 2 k in side-some (byRight t) (at0 fs .streams) (at1 fs .streams) (nth-some fs hs 0 (omega arith)) (nth-some fs hs 1 (omega arith))
+      let l = eqb-true (length fs) 2 k in side-some (byRight t) (at0 fs .streams) (at1 fs .streams) (nth-some fs hs 0 (omega arith))
+      (nth-some fs hs 1 (omega arith))
   op-some (hashJoin t on) e k = let l = eqb-true (length fs) 2 k in nth-some fs hs 1 (omega arith)
   op-some (outputRequirement ks d f) e k = only k
   op-some (partialSort p ks n f) e k = sort-some p (at0 fs) (only k)
@@ -70,7 +71,8 @@ streams-some none e = all-nil
 streams-some (tree o c r) e =
     let ok : fieldsOk o ≡ true = search (and-left, and-right) in
     let ks : childrenOk o (length (widths c)) ≡ true = search (and-left, and-right) in
-    all-cons (op-some (facts c) (streams-some c (search (and-left, and-right))) o ok (ap (childrenOk o) (sym (kids c)) ∙ ks)) (streams-some r (search (and-left, and-right)))
+    all-cons (op-some (facts c) (streams-some c (search (and-left, and-right))) o ok (ap (childrenOk o) (sym (kids c)) ∙ ks))
+    (streams-some r (search (and-left, and-right)))
 
 -- ---- at most 64 for each node
 nth-few : (fs : List Facts) (n : ℕ) → getD fs n nothing .streams ≤ total fs

@@ -23,7 +23,10 @@ grouped-same h = record { sums = λ w. go w h }
 
 -- an inner join taken by its right rows
 inner-swap : (on : List On) (n v : ℕ) (L R : List Row) → Same (concat (map (gRight matched on n L) R)) (concat (map (gLeft matched on n v R) L))
-inner-swap on n v L R = record { sums = λ w. sum-concat w (gRight matched on n L) R ∙ sum-ext _ _ (by-right w) R ∙ sym (sum-swap (one w) L R) ∙ sym (sum-ext _ _ (by-left w) L) ∙ sym (sum-concat w (gLeft matched on n v R) L) }
+inner-swap on n v L R = record {
+  sums = λ w. sum-concat w (gRight matched on n L) R ∙ sum-ext _ _ (by-right w) R ∙ sym (sum-swap (one w) L R)
+      ∙ sym (sum-ext _ _ (by-left w) L) ∙ sym (sum-concat w (gLeft matched on n v R) L);
+}
   where
     one : (Row → ℕ) → Row → Row → ℕ
     one w l r = cond (matches on l r) (w (joinRow n l r)) 0

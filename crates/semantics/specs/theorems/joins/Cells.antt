@@ -84,4 +84,5 @@ grouped-sorted ks ls {Im} {g} im f ss (grouped-cons {x = x} {l = l} {t = t} {m =
     join : (t : List Row) → All (Im x) t → All Late m → Sorted ls m → Sorted ls (t ++ m)
     join [] is lt so = so
     join (a ∷ t) is lt so =
-        pw-cons (all-append (all-map (λ b i. f x x a b (all-head is) i (le-refl ks x)) (all-tail is)) (all-map (λ b q. f x (q .0) a b (all-head is) (q .1) (q .2)) lt)) (join t (all-tail is) lt so)
+        pw-cons (all-append (all-map (λ b i. f x x a b (all-head is) i (le-refl ks x)) (all-tail is))
+        (all-map (λ b q. f x (q .0) a b (all-head is) (q .1) (q .2)) lt)) (join t (all-tail is) lt so)

@@ -66,7 +66,9 @@ module _ (F : Facts) (v : ℕ → Cell) (x y : Row) (px : RowOK F v x) (py : Row
       down : Agree (k .col) → Agree c
       down e = px .class (k .col) ∙ e ∙ sym (py .class (k .col))
 
-      go : (b : Bool) → (isC F c || member c seen) ≡ b → le (nf F seen ks) x y ≡ le ks x y → (All Agree (c ∷ seen) → le (nf F (c ∷ seen) ks) x y ≡ le ks x y) → le (cond b (nf F seen ks) (withColumn (cl F (k .col)) k ∷ nf F (c ∷ seen) ks)) x y ≡ le (k ∷ ks) x y
+      go : (b : Bool) → (isC F c || member c seen) ≡ b → le (nf F seen ks) x y ≡ le ks x y
+          → (All Agree (c ∷ seen) → le (nf F (c ∷ seen) ks) x y ≡ le ks x y)
+          → le (cond b (nf F seen ks) (withColumn (cl F (k .col)) k ∷ nf F (c ∷ seen) ks)) x y ≡ le (k ∷ ks) x y
       go true e ih _ = ih ∙ sym (le-skip k ks x y (up (dropped c seen e h)))
       go false e _ ih =
           le-cons (withColumn (cl F (k .col)) k) k (nf F (c ∷ seen) ks) ks x y
@@ -105,7 +107,8 @@ common-right (k ∷ p) (l ∷ q) x y h = go (eqKey k l) refl (λ a. common-right
     go false e ih = refl
 
 -- a met order orders
-pub met-le : (F : Facts) (v : ℕ → Cell) (x y : Row) → RowOK F v x → RowOK F v y → (ks : List Key) → met F ks ≡ true → le (F .order) x y ≡ true → le ks x y ≡ true
+pub met-le : (F : Facts) (v : ℕ → Cell) (x y : Row) → RowOK F v x → RowOK F v y → (ks : List Key) → met F ks ≡ true → le (F .order) x y ≡ true
+    → le ks x y ≡ true
 met-le F v x y px py ks e h = sym (nf-le F v x y px py [] ks all-nil) ∙ prefix-le (nf F [] ks) (F .order) x y e h
 
 -- ---- projection
@@ -134,7 +137,8 @@ module _ (F : Facts) (v : ℕ → Cell) (cols : List ℕ) where
       k′ : Key
       k′ = withColumn j k
 
-      go : (b : Bool) → ltb j (length cols) ≡ b → (le ks x y ≡ true → le (projOrder F cols ks) (proj cols x) (proj cols y) ≡ true) → le (cond b (k′ ∷ projOrder F cols ks) []) (proj cols x) (proj cols y) ≡ true
+      go : (b : Bool) → ltb j (length cols) ≡ b → (le ks x y ≡ true → le (projOrder F cols ks) (proj cols x) (proj cols y) ≡ true)
+          → le (cond b (k′ ∷ projOrder F cols ks) []) (proj cols x) (proj cols y) ≡ true
       go false e ih = refl
       go true e ih =
           let lt : j < length cols = ltb-true j (length cols) e in

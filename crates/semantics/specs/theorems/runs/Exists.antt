@@ -88,7 +88,14 @@ joins f (p ∷ ps) =
 
 sorting : (p : Bool) (ks : List Key) (s : Streams) → (out : Streams) × Sorting p ks s out
 sorting true ks s = (_, sorts ks s)
-sorting false ks s = (_, record { one = sort ks (concat s); is = refl; that = record { same = sort-same ks (concat s); sorted = sort-sorted ks (concat s) } })
+sorting false ks s = (
+  _,
+  record {
+    one = sort ks (concat s);
+    is = refl;
+    that = record { same = sort-same ks (concat s); sorted = sort-sorted ks (concat s) };
+  },
+)
 
 made-exists : (E : Env) (i j : ℕ) (o : Op) → fieldsOk o ≡ true → (fs : List Facts) (css : List Streams) → (out : Streams) × Made E i j o fs css out
 made-exists E i j (source s) ok fs css = (_, refl)

@@ -45,7 +45,8 @@ over-run : (E : Env) (o : Op) (ks : List Key) (ins out : Streams) → Has E 0 in
     Run E 0 0 (over o (length ins) ks) (gives out ins)
 over-run E o ks ins out e z u m =
     run-tree (record { raw = out; made = m; is = sym (map-id (cutRows (cuts o)) u out) })
-    (run-tree (record { raw = ins; made = sym (ap (λ (i : ℕ). tab (length ins) (E .rows i)) z ∙ e); is = sym (map-id _ (λ l. refl) ins) }) run-none run-none) run-none
+    (run-tree (record { raw = ins; made = sym (ap (λ (i : ℕ). tab (length ins) (E .rows i)) z ∙ e); is = sym (map-id _ (λ l. refl) ins) }) run-none
+    run-none) run-none
 
 -- ---- coalesce: any interleaving
 pub coalesce-any : (E : Env) (ks : List Key) (ins : Streams) (z : List Row) → Has E 0 ins → Mixes ins z →
@@ -55,7 +56,8 @@ coalesce-any E ks ins z p m = over-run E (coalesce Unlimited) ks ins (z ∷ []) 
 -- one that is not round robin: the first stream whole, then the second
 pub not-round-robin : (E : Env) (ks : List Key) (x y z : Row) → Has E 0 ((x ∷ y ∷ []) ∷ (z ∷ []) ∷ []) →
     Run E 0 0 (over (coalesce Unlimited) 2 ks) (gives ((x ∷ y ∷ z ∷ []) ∷ []) ((x ∷ y ∷ []) ∷ (z ∷ []) ∷ []))
-not-round-robin E ks x y z p = coalesce-any E ks ((x ∷ y ∷ []) ∷ (z ∷ []) ∷ []) (x ∷ y ∷ z ∷ []) p (mixes-cons (mixes-cons mixes-nil (mix-left mix-nil)) (mix-left (mix-left (mix-right mix-nil))))
+not-round-robin E ks x y z p = coalesce-any E ks ((x ∷ y ∷ []) ∷ (z ∷ []) ∷ []) (x ∷ y ∷ z ∷ []) p
+    (mixes-cons (mixes-cons mixes-nil (mix-left mix-nil)) (mix-left (mix-left (mix-right mix-nil))))
 
 -- a global limit over several streams: any interleaving too
 pub limit-any : (E : Env) (ks : List Key) (ins : Streams) (z : List Row) → Has E 0 ins → Mixes ins z →
@@ -65,7 +67,8 @@ limit-any E ks ins z p m = over-run E (globalLimit 0 Unlimited []) ks ins (z ∷
 -- ---- merge: any interleaving that is in order if all its streams are
 pub merge-any : (E : Env) (ks ls : List Key) (ins : Streams) (z : List Row) → Has E 0 ins → Mixes ins z → (All (Sorted ks) ins → Sorted ks z) →
     Run E 0 0 (over (mergeOp ks Unlimited) (length ins) ls) (gives (z ∷ []) ins)
-merge-any E ks ls ins z p m s = over-run E (mergeOp ks Unlimited) ls ins (z ∷ []) p refl (λ l. refl) (record { one = z; is = refl; that = record { mixed = m; sorted = s } })
+merge-any E ks ls ins z p m s = over-run E (mergeOp ks Unlimited) ls ins (z ∷ []) p refl (λ l. refl)
+    (record { one = z; is = refl; that = record { mixed = m; sorted = s } })
 
 -- ---- repartition: any split (reading 19)
 module _ (E : Env) (mark : Bool) (n : ℕ) (ks : List Key) (ins out : Streams) (has : Has E 0 ins) where
@@ -90,7 +93,8 @@ all-to-one E z p = split-any E false 2 [] (z ∷ []) ([] ∷ z ∷ []) p refl (r
 -- one stream to one, turned round: the rows x, y come out as y, x
 pub turned : (E : Env) (x y : Row) → Has E 0 ((x ∷ y ∷ []) ∷ []) →
     Run E 0 0 (over (repartition false 1 false []) 1 []) (gives ((y ∷ x ∷ []) ∷ []) ((x ∷ y ∷ []) ∷ []))
-turned E x y p = split-any E false 1 [] ((x ∷ y ∷ []) ∷ []) ((y ∷ x ∷ []) ∷ []) p refl (record { sums = λ w. omega arith }) (λ _ _. all-sorted-nil ((y ∷ x ∷ []) ∷ []))
+turned E x y p = split-any E false 1 [] ((x ∷ y ∷ []) ∷ []) ((y ∷ x ∷ []) ∷ []) p refl (record { sums = λ w. omega arith })
+    (λ _ _. all-sorted-nil ((y ∷ x ∷ []) ∷ []))
 
 -- where it maintains, peers may come out in either order
 abbrev byFirst : Bool → Bool → List Key
@@ -102,7 +106,8 @@ sorted-two ks x y h = pw-cons (all-cons h all-nil) (pw-cons all-nil pw-nil)
 pub split-peers : (E : Env) (desc first : Bool) (x y : Row) → le (byFirst desc first) y x ≡ true → Has E 0 ((x ∷ y ∷ []) ∷ []) →
     Run E 0 0 (over (repartition false 1 false []) 1 (byFirst desc first)) (gives ((y ∷ x ∷ []) ∷ []) ((x ∷ y ∷ []) ∷ []))
 split-peers E desc first x y h p =
-    split-any E false 1 (byFirst desc first) ((x ∷ y ∷ []) ∷ []) ((y ∷ x ∷ []) ∷ []) p refl (record { sums = λ w. omega arith }) (λ _ _. all-cons (sorted-two (byFirst desc first) y x h) all-nil)
+    split-any E false 1 (byFirst desc first) ((x ∷ y ∷ []) ∷ []) ((y ∷ x ∷ []) ∷ []) p refl (record { sums = λ w. omega arith })
+    (λ _ _. all-cons (sorted-two (byFirst desc first) y x h) all-nil)
 
 -- without the preserve mark, ordered streams in any order: the order is lost
 pub unmarked-any : (E : Env) (ks : List Key) (a b z : List Row) → Has E 0 (a ∷ b ∷ []) → Same (concat (z ∷ [])) (concat (a ∷ b ∷ [])) →
@@ -116,20 +121,23 @@ crossed a b c d = gives ((d ∷ a ∷ []) ∷ (b ∷ c ∷ []) ∷ []) ((a ∷ b
 pub crossed-split : (E : Env) (ks : List Key) (a b c d : Row) → Has E 0 ((a ∷ b ∷ []) ∷ (c ∷ d ∷ []) ∷ []) →
     Run E 0 0 (over (repartition false 2 false []) 2 ks) (crossed a b c d)
 crossed-split E ks a b c d p =
-    split-any E false 2 ks ((a ∷ b ∷ []) ∷ (c ∷ d ∷ []) ∷ []) ((d ∷ a ∷ []) ∷ (b ∷ c ∷ []) ∷ []) p refl (record { sums = λ w. omega arith }) (λ e. no-bool e)
+    split-any E false 2 ks ((a ∷ b ∷ []) ∷ (c ∷ d ∷ []) ∷ []) ((d ∷ a ∷ []) ∷ (b ∷ c ∷ []) ∷ []) p refl (record { sums = λ w. omega arith })
+    (λ e. no-bool e)
 
 -- and with the mark, where each output stream is in order: if the input streams are, the four rows are peers
 pub crossed-peers : (E : Env) (desc first : Bool) (a b c d : Row) → le (byFirst desc first) d a ≡ true → le (byFirst desc first) b c ≡ true →
     Has E 0 ((a ∷ b ∷ []) ∷ (c ∷ d ∷ []) ∷ []) →
     Run E 0 0 (over (repartition true 2 false []) 2 (byFirst desc first)) (crossed a b c d)
 crossed-peers E desc first a b c d u v p =
-    split-any E true 2 (byFirst desc first) ((a ∷ b ∷ []) ∷ (c ∷ d ∷ []) ∷ []) ((d ∷ a ∷ []) ∷ (b ∷ c ∷ []) ∷ []) p refl (record { sums = λ w. omega arith })
+    split-any E true 2 (byFirst desc first) ((a ∷ b ∷ []) ∷ (c ∷ d ∷ []) ∷ []) ((d ∷ a ∷ []) ∷ (b ∷ c ∷ []) ∷ []) p refl
+    (record { sums = λ w. omega arith })
     (λ _ _. all-cons (sorted-two (byFirst desc first) d a u) (all-cons (sorted-two (byFirst desc first) b c v) all-nil))
 
 -- ---- sort: any ordered permutation, of the rows of all streams together
 pub sort-any : (E : Env) (ks ls : List Key) (ins : Streams) (t : List Row) → Has E 0 ins → Same t (concat ins) → Sorted ks t →
     Run E 0 0 (over (sortOp false ks Unlimited) (length ins) ls) (gives (t ∷ []) ins)
-sort-any E ks ls ins t p s o = over-run E (sortOp false ks Unlimited) ls ins (t ∷ []) p refl (λ l. refl) (record { one = t; is = refl; that = record { same = s; sorted = o } })
+sort-any E ks ls ins t p s o = over-run E (sortOp false ks Unlimited) ls ins (t ∷ []) p refl (λ l. refl)
+    (record { one = t; is = refl; that = record { same = s; sorted = o } })
 
 -- two peers may come out in either order
 pub peers-swapped : (E : Env) (ks : List Key) (x y : Row) → le ks y x ≡ true → Has E 0 ((x ∷ y ∷ []) ∷ []) →
@@ -153,14 +161,16 @@ join-run : (E : Env) (o : Op) (l r out : List Row) → E .rows 0 0 ≡ l → E .
 join-run E o l r out p q z u m =
     run-tree (record { raw = out ∷ []; made = m; is = ap (λ (x : List Row). x ∷ []) u })
     (run-tree (record { raw = l ∷ []; made = sym (ap (λ (i : ℕ). tab 1 (E .rows i)) z ∙ ap (λ (x : List Row). x ∷ []) p); is = refl }) run-none
-    (run-tree (record { raw = r ∷ []; made = sym (ap (λ (i : ℕ). tab 1 (E .rows (suc i))) z ∙ ap (λ (x : List Row). x ∷ []) q); is = refl }) run-none run-none))
+    (run-tree (record { raw = r ∷ []; made = sym (ap (λ (i : ℕ). tab 1 (E .rows (suc i))) z ∙ ap (λ (x : List Row). x ∷ []) q); is = refl }) run-none
+    run-none))
     run-none
 
 -- a sort-merge join keeps the left side's order: of each left row, its matches in any order
 pub join-any : (E : Env) (on : List On) (x y : Row) (r t u : List Row) → E .rows 0 0 ≡ x ∷ y ∷ [] → E .rows 1 0 ≡ r →
     Same t (map (joinRow 2 x) (keep (matches on x) r)) → Same u (map (joinRow 2 y) (keep (matches on y) r)) →
     Run E 0 0 (tree (sortMergeJoin Inner on) sides none) (joins (t ++ (u ++ [])) (x ∷ y ∷ []) r)
-join-any E on x y r t u p q s v = join-run E (sortMergeJoin Inner on) (x ∷ y ∷ []) r (t ++ (u ++ [])) p q refl refl (each-cons (grouped-cons s (grouped-cons v grouped-nil)) each-nil)
+join-any E on x y r t u p q s v = join-run E (sortMergeJoin Inner on) (x ∷ y ∷ []) r (t ++ (u ++ [])) p q refl refl
+    (each-cons (grouped-cons s (grouped-cons v grouped-nil)) each-nil)
 
 -- where no side is kept, all rows of the SQL join in any order: a Full sort-merge join, and a hash join of the types below
 module _ (E : Env) (on : List On) (l r out : List Row) (p : E .rows 0 0 ≡ l) (q : E .rows 1 0 ≡ r) where
@@ -189,11 +199,14 @@ filtered r = tree filter (from 1 []) r
 
 pub numbered : (E : Env) → Run E 0 0 (tree union (filtered (filtered none)) none)
     (tree (keep (E .test 0) (E .rows 0 0) ∷ keep (E .test 1) (E .rows 1 0) ∷ [])
-    (tree (keep (E .test 0) (E .rows 0 0) ∷ []) (tree (E .rows 0 0 ∷ []) none none) (tree (keep (E .test 1) (E .rows 1 0) ∷ []) (tree (E .rows 1 0 ∷ []) none none) none)) none)
+    (tree (keep (E .test 0) (E .rows 0 0) ∷ []) (tree (E .rows 0 0 ∷ []) none none)
+    (tree (keep (E .test 1) (E .rows 1 0) ∷ []) (tree (E .rows 1 0 ∷ []) none none) none)) none)
 numbered E =
     run-tree (record { raw = keep (E .test 0) (E .rows 0 0) ∷ keep (E .test 1) (E .rows 1 0) ∷ []; made = refl; is = refl })
-    (run-tree (record { raw = keep (E .test 0) (E .rows 0 0) ∷ []; made = refl; is = refl }) (run-tree (record { raw = E .rows 0 0 ∷ []; made = refl; is = refl }) run-none run-none)
-    (run-tree (record { raw = keep (E .test 1) (E .rows 1 0) ∷ []; made = refl; is = refl }) (run-tree (record { raw = E .rows 1 0 ∷ []; made = refl; is = refl }) run-none run-none) run-none))
+    (run-tree (record { raw = keep (E .test 0) (E .rows 0 0) ∷ []; made = refl; is = refl })
+    (run-tree (record { raw = E .rows 0 0 ∷ []; made = refl; is = refl }) run-none run-none)
+    (run-tree (record { raw = keep (E .test 1) (E .rows 1 0) ∷ []; made = refl; is = refl })
+    (run-tree (record { raw = E .rows 1 0 ∷ []; made = refl; is = refl }) run-none run-none) run-none))
     run-none
 
 -- ---- two runs are given the same where a source's rows are spread over its streams in another way

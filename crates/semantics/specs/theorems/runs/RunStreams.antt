@@ -36,7 +36,8 @@ one-many h = ap length (h .is)
 union-many : {fs : List Facts} {css : List Streams} → Each AsMany fs css → length (concat css) ≡ unionFacts fs .streams
 union-many each-nil = refl
 union-many (each-cons {y = s} h each-nil) = length-append s [] ∙ omega arith
-union-many (each-cons {y = s} h (each-cons {y = t} {m = css} k ks)) = length-append s (concat (t ∷ css)) ∙ ap₂ _+_ h (union-many {css = t ∷ css} (each-cons k ks))
+union-many (each-cons {y = s} h (each-cons {y = t} {m = css} k ks)) = length-append s (concat (t ∷ css))
+    ∙ ap₂ _+_ h (union-many {css = t ∷ css} (each-cons k ks))
 
 sorting-many : (p : Bool) (ks : List Key) (F : Facts) (s out : Streams) → AsMany F s → Sorting p ks s out → length out ≡ sortStreams p F
 sorting-many true ks F s out n e = each-length e ∙ n
@@ -85,4 +86,5 @@ pub run-streams : {E : Env} {i j : ℕ} {f : Plan} {out : Forest Streams} → Ru
 run-streams run-none = nowhere
 run-streams {E} (run-tree {i = i} {j = j} {o = o} {c = c} {cs = cs} st h k) =
     let g = run-streams h in
-    node (ap length (st .is) ∙ length-map (st .raw) (cutRows (cuts o)) ∙ made-many E i j o (facts c) (roots cs) (st .raw) (each-root AsMany g) (st .made)) g (run-streams k)
+    node (ap length (st .is) ∙ length-map (st .raw) (cutRows (cuts o)) ∙ made-many E i j o (facts c) (roots cs) (st .raw) (each-root AsMany g) (st .made)) g
+    (run-streams k)

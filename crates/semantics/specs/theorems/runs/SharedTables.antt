@@ -52,8 +52,13 @@ over-made : (E : Env) (o : Op) (c : Plan) (css : List Streams) → nextS o 0 ≡
     ((l : List Row) → cutRows (cuts o) l ≡ l) →
     (P : Streams → Type 0) → ((raw : Streams) → Made E 0 0 o (facts c) css raw → P raw) → (out : Forest Streams) → Run E 0 0 (tree o c none) out →
     (s : Streams) × (roots out ≡ s ∷ []) × P s
-over-made E o c css z same u P h out (run-tree {s = s} {cs = cs} st a run-none) =
-    (s, refl, subst P (sym (st .is ∙ map-id _ u (st .raw))) (h (st .raw) (subst (λ (x : List Streams). Made E 0 0 o (facts c) x (st .raw)) (same _ cs (subst (λ (i : ℕ). Run E i (nextF o 0) c cs) z a)) (st .made))))
+over-made E o c css z same u P h out (run-tree {s = s} {cs = cs} st a run-none) = (
+  s,
+  refl,
+  subst P (sym (st .is ∙ map-id _ u (st .raw)))
+      (h (st .raw) (subst (λ (x : List Streams). Made E 0 0 o (facts c) x (st .raw)) (same _ cs (subst (λ (i : ℕ). Run E i (nextF o 0) c cs) z a))
+      (st .made))),
+)
 
 -- ---- rows that come in groups of one at most come in one order
 same-one : (t : List Row) (x : Row) → Same t (x ∷ []) → t ≡ x ∷ []
@@ -103,14 +108,20 @@ rights = row 6 ∷ row 5 ∷ row 2 ∷ row 1 ∷ []
 by-left : (g : Gives) (raw : Streams) → Each (λ (p : Pair) o. Grouped (gLeft g byFirst 1 1 (p .1)) (p .0) o) ((lefts, rights) ∷ []) raw →
     raw ≡ concat (map (gLeft g byFirst 1 1 rights) lefts) ∷ []
 by-left g raw (each-cons j each-nil) =
-    let few : (x : Row) → leb (length (leftPairs byFirst 1 rights x)) 1 ≡ true → length (gLeft g byFirst 1 1 rights x) ≤ 1 = λ x e. given-few g (leftPairs byFirst 1 rights x) x (joinRow 1 x (nulls 1)) (leb-true (length (leftPairs byFirst 1 rights x)) 1 e) in
-    ap (λ (x : List Row). x ∷ []) (grouped-few (gLeft g byFirst 1 1 rights) (all-cons (few (row 1) refl) (all-cons (few (row 2) refl) (all-cons (few (row 3) refl) (all-cons (few (row 4) refl) all-nil)))) j)
+    let few : (x : Row) → leb (length (leftPairs byFirst 1 rights x)) 1 ≡ true → length (gLeft g byFirst 1 1 rights x) ≤ 1 =
+    λ x e. given-few g (leftPairs byFirst 1 rights x) x (joinRow 1 x (nulls 1)) (leb-true (length (leftPairs byFirst 1 rights x)) 1 e) in
+    ap (λ (x : List Row). x ∷ [])
+    (grouped-few (gLeft g byFirst 1 1 rights)
+    (all-cons (few (row 1) refl) (all-cons (few (row 2) refl) (all-cons (few (row 3) refl) (all-cons (few (row 4) refl) all-nil)))) j)
 
 by-right : (g : Gives) (raw : Streams) → Each (λ (p : Pair) o. Grouped (gRight g byFirst 1 (p .0)) (p .1) o) ((lefts, rights) ∷ []) raw →
     raw ≡ concat (map (gRight g byFirst 1 lefts) rights) ∷ []
 by-right g raw (each-cons j each-nil) =
-    let few : (x : Row) → leb (length (rightPairs byFirst 1 lefts x)) 1 ≡ true → length (gRight g byFirst 1 lefts x) ≤ 1 = λ x e. given-few g (rightPairs byFirst 1 lefts x) x (joinRow 1 (nulls 1) x) (leb-true (length (rightPairs byFirst 1 lefts x)) 1 e) in
-    ap (λ (x : List Row). x ∷ []) (grouped-few (gRight g byFirst 1 lefts) (all-cons (few (row 6) refl) (all-cons (few (row 5) refl) (all-cons (few (row 2) refl) (all-cons (few (row 1) refl) all-nil)))) j)
+    let few : (x : Row) → leb (length (rightPairs byFirst 1 lefts x)) 1 ≡ true → length (gRight g byFirst 1 lefts x) ≤ 1 =
+    λ x e. given-few g (rightPairs byFirst 1 lefts x) x (joinRow 1 (nulls 1) x) (leb-true (length (rightPairs byFirst 1 lefts x)) 1 e) in
+    ap (λ (x : List Row). x ∷ [])
+    (grouped-few (gRight g byFirst 1 lefts)
+    (all-cons (few (row 6) refl) (all-cons (few (row 5) refl) (all-cons (few (row 2) refl) (all-cons (few (row 1) refl) all-nil)))) j)
 
 module _ (E : Env) (l : Has E 0 (lefts ∷ [])) (r : Has E 1 (rights ∷ [])) where
   abbrev Gets : Op → List Row → Type 0
@@ -168,8 +179,10 @@ module _ (E : Env) (l : Has E 0 oneTwo) (r : Has E 1 twoOne) where
   hash-all-left = join-delivers E (hashJoin Inner byFirst) oneTwo twoOne ((twin 2 ∷ []) ∷ (twin 1 ∷ []) ∷ []) l r refl (λ l. refl) joined
     where
       joined : (raw : Streams) →
-          Each (λ (p : Pair) o. Grouped (gRight matched byFirst 1 (p .0)) (p .1) o) ((row 1 ∷ row 2 ∷ [], row 2 ∷ []) ∷ (row 1 ∷ row 2 ∷ [], row 1 ∷ []) ∷ []) raw → raw ≡ (twin 2 ∷ []) ∷ (twin 1 ∷ []) ∷ []
-      joined raw (each-cons j (each-cons k each-nil)) = ap₂ (λ (x y : List Row). x ∷ y ∷ []) (grouped-few _ (all-cons (omega arith) all-nil) j) (grouped-few _ (all-cons (omega arith) all-nil) k)
+          Each (λ (p : Pair) o. Grouped (gRight matched byFirst 1 (p .0)) (p .1) o) ((row 1 ∷ row 2 ∷ [], row 2 ∷ []) ∷ (row 1 ∷ row 2 ∷ [], row 1 ∷ [])
+          ∷ []) raw → raw ≡ (twin 2 ∷ []) ∷ (twin 1 ∷ []) ∷ []
+      joined raw (each-cons j (each-cons k each-nil)) = ap₂ (λ (x y : List Row). x ∷ y ∷ []) (grouped-few _ (all-cons (omega arith) all-nil) j)
+          (grouped-few _ (all-cons (omega arith) all-nil) k)
 
   -- a sort-merge join joins the first streams, and the second
   pub smj-like-numbered : Delivers E (joinOf (sortMergeJoin Inner byFirst) oneTwo twoOne) ([] ∷ [] ∷ [])
@@ -178,7 +191,8 @@ module _ (E : Env) (l : Has E 0 oneTwo) (r : Has E 1 twoOne) where
       joined : (raw : Streams) →
           Each (λ (p : Pair) o. Grouped (gLeft matched byFirst 1 1 (p .1)) (p .0) o) ((row 1 ∷ [], row 2 ∷ []) ∷ (row 2 ∷ [], row 1 ∷ []) ∷ []) raw →
           raw ≡ [] ∷ [] ∷ []
-      joined raw (each-cons j (each-cons k each-nil)) = ap₂ (λ (x y : List Row). x ∷ y ∷ []) (grouped-few _ (all-cons (omega arith) all-nil) j) (grouped-few _ (all-cons (omega arith) all-nil) k)
+      joined raw (each-cons j (each-cons k each-nil)) = ap₂ (λ (x y : List Row). x ∷ y ∷ []) (grouped-few _ (all-cons (omega arith) all-nil) j)
+          (grouped-few _ (all-cons (omega arith) all-nil) k)
 
 -- ---- whose streams a join has: of two streams on the left and three on the right
 abbrev twoThree : Op → Plan
@@ -226,7 +240,9 @@ module _ (E : Env) (n : ℕ) where
   InOrder mark ins = (out : Forest Streams) → Run E 0 0 (split mark ins) out → (s : Streams) × (roots out ≡ s ∷ []) × All (Sorted (by 0)) s
 
   pub one-stream-kept : (a : List Row) → Has E 0 (a ∷ []) → Sorted (by 0) a → InOrder false (a ∷ [])
-  one-stream-kept a h o = over-made E (repartition false n false []) (scan 1 (by 0) none) ((a ∷ []) ∷ []) refl (one-has E 0 (by 0) (a ∷ []) h) (λ l. refl) (All (Sorted (by 0))) (λ raw m. m .sorted refl (all-cons o all-nil))
+  one-stream-kept a h o = over-made E (repartition false n false []) (scan 1 (by 0) none) ((a ∷ []) ∷ []) refl (one-has E 0 (by 0) (a ∷ []) h) (λ l. refl)
+      (All (Sorted (by 0))) (λ raw m. m .sorted refl (all-cons o all-nil))
 
   pub marked-kept : (a b : List Row) → Has E 0 (a ∷ b ∷ []) → Sorted (by 0) a → Sorted (by 0) b → InOrder true (a ∷ b ∷ [])
-  marked-kept a b h o p = over-made E (repartition true n false []) (scan 2 (by 0) none) ((a ∷ b ∷ []) ∷ []) refl (one-has E 0 (by 0) (a ∷ b ∷ []) h) (λ l. refl) (All (Sorted (by 0))) (λ raw m. m .sorted refl (all-cons o (all-cons p all-nil)))
+  marked-kept a b h o p = over-made E (repartition true n false []) (scan 2 (by 0) none) ((a ∷ b ∷ []) ∷ []) refl (one-has E 0 (by 0) (a ∷ b ∷ []) h)
+      (λ l. refl) (All (Sorted (by 0))) (λ raw m. m .sorted refl (all-cons o (all-cons p all-nil)))

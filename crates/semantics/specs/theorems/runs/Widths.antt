@@ -71,10 +71,12 @@ sorting-wide w false ks s out hs e = subst (Wide w) (sym (e .is)) (all-cons (sam
 
 union-wide : (w : ℕ) {ws : List ℕ} {css : List Streams} → every (λ v. eqb v w) ws ≡ true → Each Wide ws css → All (Wide w) css
 union-wide w e each-nil = all-nil
-union-wide w e (each-cons {x = v} {y = s} {l = ws} h hs) = all-cons (subst (λ (n : ℕ). Wide n s) (eqb-true v w (search and-left)) h) (union-wide w (search (and-left, and-right)) hs)
+union-wide w e (each-cons {x = v} {y = s} {l = ws} h hs) = all-cons (subst (λ (n : ℕ). Wide n s) (eqb-true v w (search and-left)) h)
+    (union-wide w (search (and-left, and-right)) hs)
 
 -- of children whose facts are fs, widths ws and streams css
-module _ (E : Env) (i j : ℕ) (fs : List Facts) (ws : List ℕ) (css : List Streams) (ok : map (λ F. F .width) fs ≡ ws) (hs : Each Wide ws css) (out : Streams) where
+module _ (E : Env) (i j : ℕ) (fs : List Facts) (ws : List ℕ) (css : List Streams) (ok : map (λ F. F .width) fs ≡ ws) (hs : Each Wide ws css)
+    (out : Streams) where
   first : Wide (getD ws 0 0) (in0 css)
   first = each-at 0 [] all-nil hs 0
 
@@ -84,15 +86,18 @@ module _ (E : Env) (i j : ℕ) (fs : List Facts) (ws : List ℕ) (css : List Str
   is-at : (n : ℕ) → getD fs n nothing .width ≡ getD ws n 0
   is-at n = child-width fs n ∙ ap (λ (l : List ℕ). getD l n 0) ok
 
-  joined-wide : (t : JoinType) (k : Kept) (on : List On) (ps : List Pair) → All (λ p. All (Long (getD ws 0 0)) (p .0) × All (Long (getD ws 1 0)) (p .1)) ps →
+  joined-wide : (t : JoinType) (k : Kept) (on : List On) (ps : List Pair) → All (λ p. All (Long (getD ws 0 0)) (p .0) × All (Long (getD ws 1 0)) (p .1)) ps
+      →
       Each (Joined t k on (at0 fs .width) (at1 fs .width)) ps out →
       Wide (joinWidth t (getD ws 0 0) (getD ws 1 0)) out
-  joined-wide t k on ps ls e = joins-wide on (getD ws 0 0) (getD ws 1 0) t k ls (subst₂ (λ (a b : ℕ). Each (Joined t k on a b) ps out) (is-at 0) (is-at 1) e)
+  joined-wide t k on ps ls e = joins-wide on (getD ws 0 0) (getD ws 1 0) t k ls
+      (subst₂ (λ (a b : ℕ). Each (Joined t k on a b) ps out) (is-at 0) (is-at 1) e)
 
   made-wide : (o : Op) → AtSource (WideSource E i) o → unionOk o ws ≡ true → Made E i j o fs css out → Wide (width o ws) out
   made-wide (source s) d u e = subst (Wide (s .width)) (sym e) d
   made-wide filter d u e = subst (Wide (getD ws 0 0)) (sym e) (all-over (keep (E .test j)) (λ l. keep-all (E .test j)) first)
-  made-wide (projection cols) d u e = subst (Wide (length cols)) (sym e) (map-all (map (proj cols)) (λ l. map-all (proj cols) (λ r. length-map cols (cell r)) l) (in0 css))
+  made-wide (projection cols) d u e =
+      subst (Wide (length cols)) (sym e) (map-all (map (proj cols)) (λ l. map-all (proj cols) (λ r. length-map cols (cell r)) l) (in0 css))
   made-wide union d u e = subst (Wide (getD ws 0 0)) (sym e) (all-concat css (union-wide (getD ws 0 0) u hs))
   made-wide (repartition p n h ks) d u e = concat-each out (same-all row-discrete (concat out) (e .same) (all-concat (in0 css) first))
   made-wide (coalesce f) d u e = subst (Wide (getD ws 0 0)) (sym (e .is)) (all-cons (mixes-all (e .that) first) all-nil)
@@ -101,7 +106,8 @@ module _ (E : Env) (i j : ℕ) (fs : List Facts) (ws : List ℕ) (css : List Str
   made-wide (globalLimit s f note) d u e = subst (Wide (getD ws 0 0)) (sym (e .is)) (all-cons (mixes-all (e .that) first) all-nil)
   made-wide (localLimit f note) d u e = subst (Wide (getD ws 0 0)) (sym e) first
   made-wide (sortMergeJoin t on) d u e = joined-wide t (smjKept t) on (likeNumbered t (in0 css) (in1 css)) (numbered-all t all-nil all-nil first second) e
-  made-wide (hashJoin t on) d u e = joined-wide t (hashKept t) on (map (withAll (concat (in0 css))) (in1 css)) (all-over (withAll (concat (in0 css))) (λ r q. (all-concat (in0 css) first, q)) second) e
+  made-wide (hashJoin t on) d u e = joined-wide t (hashKept t) on (map (withAll (concat (in0 css))) (in1 css))
+      (all-over (withAll (concat (in0 css))) (λ r q. (all-concat (in0 css) first, q)) second) e
   made-wide (outputRequirement ks dist f) d u e = subst (Wide (getD ws 0 0)) (sym e) first
   made-wide (partialSort p ks n f) d u e = sorting-wide (getD ws 0 0) p ks (in0 css) out first e
 
@@ -116,5 +122,6 @@ run-wide run-none d e = nowhere
 run-wide {E} (run-tree {i = i} {j = j} {o = o} {c = c} {r = r} {cs = cs} st h k) d e =
     let g = run-wide h (d .1) (search (and-left, and-right)) in
     let u : unionOk o (widths c) ≡ true = search (and-left, and-right) in
-    let raw : Wide (width o (widths c)) (st .raw) = made-wide E i j (facts c) (widths c) (roots cs) (facts-widths c) (wide-roots g) (st .raw) o (d .0) u (st .made) in
+    let raw : Wide (width o (widths c)) (st .raw) = made-wide E i j (facts c) (widths c) (roots cs) (facts-widths c) (wide-roots g) (st .raw) o (d .0) u
+    (st .made) in
     node (subst (Wide (width o (widths c))) (sym (st .is)) (cut-all (cuts o) raw)) g (run-wide k (d .2) (search (and-left, and-right)))

@@ -33,7 +33,8 @@ declared-if s ks out o a =
     record { value = cell (getD (concat out) 0 []); rows = concat-each out (first-value s (concat out) a); sorted = all-map (ordered-sorted ks) o }
 
 pub declared-then : (s : ℕ) (ks : List Key) (out : Streams) → Declared s ks out → All (Ordered ks) out × Agree s (concat out)
-declared-then s ks out d = let ps = all-concat out (d .rows) in (all-map (sorted-ordered ks) (d .sorted), λ x y p q c e. lookup ps x p c e ∙ sym (lookup ps y q c e))
+declared-then s ks out d = let ps = all-concat out (d .rows) in
+    (all-map (sorted-ordered ks) (d .sorted), λ x y p q c e. lookup ps x p c e ∙ sym (lookup ps y q c e))
 
 -- ---- the rows of one source
 tab-ext : {A : Type 0} (w : ℕ) (f g : ℕ → A) (d : A) (c : ℕ) → (c < w → f c ≡ g c) → getD (tab w f) c d ≡ getD (tab w g) c d
@@ -71,7 +72,8 @@ module _ (s : SourceInfo) where
 
   -- a constant column has one cell, and so has what lies past the width
   row-same : (a b c : ℕ) → (c < s .width → bit (s .constants) c ≡ true) → cell (sourceRow s a) c ≡ cell (sourceRow s b) c
-  row-same a b c h = tab-ext (s .width) (entry a) (entry b) null c (λ l. ap (λ (t : Bool). num (counted down (cond t 0 a))) (h l) ∙ sym (ap (λ (t : Bool). num (counted down (cond t 0 b))) (h l)))
+  row-same a b c h = tab-ext (s .width) (entry a) (entry b) null c (λ l. ap (λ (t : Bool). num (counted down (cond t 0 a))) (h l)
+      ∙ sym (ap (λ (t : Bool). num (counted down (cond t 0 b))) (h l)))
 
   row-varies : (a c : ℕ) → c < s .width → bit (s .constants) c ≡ false → cell (sourceRow s a) c ≡ num (counted down a)
   row-varies a c l e = getD-tab (s .width) (entry a) null c l ∙ ap (λ (t : Bool). num (counted down (cond t 0 a))) e
@@ -100,7 +102,8 @@ module _ (s : SourceInfo) where
       in-order (varies s) (sourceRow s a) (sourceRow s b) down
       (λ c e. row-same a b c (stays-at c e))
       (λ c e. row-apart a b c h (varies-at c e .0) (varies-at c e .1))
-      (λ c f e. ap₂ (leCell down f) (row-varies a c (varies-at c e .0) (varies-at c e .1)) (row-varies b c (varies-at c e .0) (varies-at c e .1)) ∙ counted-up down f a b (omega arith))
+      (λ c f e. ap₂ (leCell down f) (row-varies a c (varies-at c e .0) (varies-at c e .1)) (row-varies b c (varies-at c e .0) (varies-at c e .1))
+      ∙ counted-up down f a b (omega arith))
       (s .keys) refl
 
   -- all rows of a stream
@@ -142,14 +145,20 @@ each-source P i (tree o c r) l h =
 
 numbered : (P : ℕ → SourceInfo → Type 0) (i : ℕ) (l : List SourceInfo) → ((k : ℕ) → P (k + i) (getD l k noSource)) → Numbered P i l
 numbered P i [] h = tt
-numbered P i (s ∷ l) h = (subst (λ (n : ℕ). P n s) (omega arith) (h 0), numbered P (suc i) l (λ k. subst (λ (n : ℕ). P n (getD l k noSource)) (omega arith) (h (suc k))))
+numbered P i (s ∷ l) h = (
+  subst (λ (n : ℕ). P n s) (omega arith) (h 0),
+  numbered P (suc i) l
+      (λ k. subst (λ (n : ℕ). P n (getD l k noSource)) (omega arith) (h (suc k))),
+)
 
 -- ---- every plan
 module _ (n : ℕ) (f : Plan) where
   -- what holds of a source and its own rows holds of every source of the plan
   every-source : (P : (ℕ → List Row) → SourceInfo → Type 0) → ((s : SourceInfo) → P (λ k. tab n (sourceRow s)) s) →
       EachSource (λ i s. P (rowsFor n f .rows i) s) 0 f
-  every-source P h = each-source (λ i s. P (rowsFor n f .rows i) s) 0 f [] (numbered _ 0 (sourcesOf f []) (λ k. subst (λ (m : ℕ). P (rowsFor n f .rows m) (getD (sourcesOf f []) k noSource)) (omega arith) (h (getD (sourcesOf f []) k noSource)))) .0
+  every-source P h = each-source (λ i s. P (rowsFor n f .rows i) s) 0 f []
+      (numbered _ 0 (sourcesOf f []) (λ k. subst (λ (m : ℕ). P (rowsFor n f .rows m) (getD (sourcesOf f []) k noSource)) (omega arith)
+      (h (getD (sourcesOf f []) k noSource)))) .0
 
   pub declared-kept : Sources (rowsFor n f) 0 f × EachSource (λ i s. Filled n (rowsFor n f .rows i) s) 0 f
   declared-kept = (every-source (λ g s. Declared (s .constants) (s .keys) (tab (s .streams) g)) keeps, every-source (Filled n) filled)

@@ -38,7 +38,8 @@ module _ (F : Facts) (low : (c : ℕ) → cl F c ≤ c) (l r : Row) where
   placed-row : (n : ℕ) (v : ℕ → Cell) → RowOK F v l → RowOK (placed F n) v x
   placed-row n v p =
       record {
-        const = λ c e. let t = tab-true (w + n) (λ d. ltb d w && isC F d) c e in cell-left w l r c (ltb-true c w (and-left (ltb c w) (isC F c) (t .1))) ∙ p .const c (and-right (ltb c w) (isC F c) (t .1));
+        const = λ c e. let t = tab-true (w + n) (λ d. ltb d w && isC F d) c e in cell-left w l r c (ltb-true c w (and-left (ltb c w) (isC F c) (t .1)))
+            ∙ p .const c (and-right (ltb c w) (isC F c) (t .1));
         class = λ c. tab-at (λ d. cell x d ≡ cell x c) (w + n) (λ d. cond (ltb d w) (cl F d) d) c (λ h. go c (ltb c w) refl) refl;
       }
     where
@@ -64,7 +65,8 @@ module _ (F : Facts) (low : (c : ℕ) → cl F c ≤ c) (l r : Row) where
 shifted-row : (w : ℕ) (l r : Row) (G : Facts) (v : ℕ → Cell) → RowOK G v r → RowOK (shifted w G) (λ c. v (c - w)) (joinRow w l r)
 shifted-row w l r G v p =
     record {
-      const = λ c e. let t = tab-true (w + G .width) (λ d. leb w d && isC G (d - w)) c e in cell-far w l r c (leb-true w c (and-left (leb w c) (isC G (c - w)) (t .1))) ∙ p .const (c - w) (and-right (leb w c) (isC G (c - w)) (t .1));
+      const = λ c e. let t = tab-true (w + G .width) (λ d. leb w d && isC G (d - w)) c e in
+          cell-far w l r c (leb-true w c (and-left (leb w c) (isC G (c - w)) (t .1))) ∙ p .const (c - w) (and-right (leb w c) (isC G (c - w)) (t .1));
       class = λ c. tab-at (λ d. cell x d ≡ cell x c) (w + G .width) (λ d. cond (leb w d) (w + cl G (d - w)) d) c (λ h. go c (leb w c) refl) refl;
     }
   where
@@ -93,7 +95,11 @@ module _ (F : Facts) (a b : ℕ) (v : ℕ → Cell) (x : Row) (p : RowOK F v x) 
   the-min = ⊎-elim (λ e. ap (cell x) e ∙ p .class a) (λ e. ap (cell x) e ∙ p .class b ∙ sym ab) (min-cases (cl F a) (cl F b))
 
   pub linked-row : RowOK (linked F a b) (linkValue F a b v) x
-  linked-row = record { const = λ c e. go c (isC F c) refl (tab-true (F .width) (λ d. isC F d || (inClass F a b d && (isC F a || isC F b))) c e .1); class = λ c. tab-at (λ d. cell x d ≡ cell x c) (F .width) (λ d. cond (inClass F a b d) (min (cl F a) (cl F b)) (cl F d)) c (λ h. up c (inClass F a b c) refl) refl }
+  linked-row = record {
+    const = λ c e. go c (isC F c) refl (tab-true (F .width) (λ d. isC F d || (inClass F a b d && (isC F a || isC F b))) c e .1);
+    class = λ c. tab-at (λ d. cell x d ≡ cell x c) (F .width) (λ d. cond (inClass F a b d) (min (cl F a) (cl F b)) (cl F d)) c
+        (λ h. up c (inClass F a b c) refl) refl;
+  }
     where
       one : (c : ℕ) (k : Bool) → isC F a ≡ k → (k || isC F b) ≡ true → inClass F a b c ≡ true → cell x c ≡ cond k (v a) (v b)
       one c true e h i = to-a c i ∙ p .const a e
@@ -110,13 +116,15 @@ module _ (F : Facts) (a b : ℕ) (v : ℕ → Cell) (x : Row) (p : RowOK F v x) 
 abbrev pub linkAllValue : ℕ → List On → Facts → (ℕ → Cell) → ℕ → Cell
 linkAllValue w [] F v = v
 linkAllValue w (k ∷ on) F v =
-    linkAllValue w on (cond (ltb (k .key .col) w) (linked F (k .key .col) (w + k .other)) F) (cond (ltb (k .key .col) w) (linkValue F (k .key .col) (w + k .other) v) v)
+    linkAllValue w on (cond (ltb (k .key .col) w) (linked F (k .key .col) (w + k .other)) F)
+    (cond (ltb (k .key .col) w) (linkValue F (k .key .col) (w + k .other) v) v)
 
 pub linkAll-row : (w : ℕ) (l r : Row) (on : List On) (F : Facts) (v : ℕ → Cell) → matches on l r ≡ true → RowOK F v (joinRow w l r) →
     RowOK (linkAll w on F) (linkAllValue w on F v) (joinRow w l r)
 linkAll-row w l r [] F v m p = p
 linkAll-row w l r (k ∷ on) F v m p =
-    linkAll-row w l r on (cond (ltb (k .key .col) w) (linked F (k .key .col) (w + k .other)) F) (cond (ltb (k .key .col) w) (linkValue F (k .key .col) (w + k .other) v) v)
+    linkAll-row w l r on (cond (ltb (k .key .col) w) (linked F (k .key .col) (w + k .other)) F)
+    (cond (ltb (k .key .col) w) (linkValue F (k .key .col) (w + k .other) v) v)
     (and-right (eqCells (cell l (k .key .col)) (cell r (k .other))) (matches on l r) m) (go (ltb (k .key .col) w) refl)
   where
     eq : cell l (k .key .col) ≡ cell r (k .other)
@@ -124,7 +132,8 @@ linkAll-row w l r (k ∷ on) F v m p =
 
     go : (b : Bool) → ltb (k .key .col) w ≡ b →
         RowOK (cond b (linked F (k .key .col) (w + k .other)) F) (cond b (linkValue F (k .key .col) (w + k .other) v) v) (joinRow w l r)
-    go true e = linked-row F (k .key .col) (w + k .other) v (joinRow w l r) p (cell-left w l r (k .key .col) (ltb-true (k .key .col) w e) ∙ eq ∙ sym (cell-right w l r (k .other)))
+    go true e = linked-row F (k .key .col) (w + k .other) v (joinRow w l r) p (cell-left w l r (k .key .col) (ltb-true (k .key .col) w e) ∙ eq
+        ∙ sym (cell-right w l r (k .other)))
     go false e = p
 
 -- ---- all rows of a join
@@ -143,21 +152,26 @@ module _ (on : List On) (F G : Facts) (low : (c : ℕ) → cl F c ≤ c) (u v : 
   Of t x = RowOK (joinBase t on F G) (joinValue t on F G u v) x
 
   inner-rows : (R : List Row) → All (RowOK G v) R → (l : Row) → RowOK F u l → All (Of Inner) (gLeft matched on (F .width) (G .width) R l)
-  inner-rows R qs l p = all-over (joinRow (F .width) l) (λ r q. linkAll-row (F .width) l r on (beside F G) _ (q .1) (beside-row F low l r G u v p (q .0))) (all-zip (keep-all (matches on l) qs) (keep-true (matches on l) R))
+  inner-rows R qs l p = all-over (joinRow (F .width) l) (λ r q. linkAll-row (F .width) l r on (beside F G) _ (q .1) (beside-row F low l r G u v p (q .0)))
+      (all-zip (keep-all (matches on l) qs) (keep-true (matches on l) R))
 
   left-rows : (R : List Row) (l : Row) → RowOK F u l → All (Of Left) (gLeft padded on (F .width) (G .width) R l)
-  left-rows R l p = orElse-all (map-all (joinRow (F .width) l) (λ r. placed-row F low l r (G .width) u p) (keep (matches on l) R)) (all-cons (placed-row F low l (nulls (G .width)) (G .width) u p) all-nil)
+  left-rows R l p = orElse-all (map-all (joinRow (F .width) l) (λ r. placed-row F low l r (G .width) u p) (keep (matches on l) R))
+      (all-cons (placed-row F low l (nulls (G .width)) (G .width) u p) all-nil)
 
   right-rows : (L : List Row) (r : Row) → RowOK G v r → All (Of Right) (gRight padded on (F .width) L r)
-  right-rows L r q = orElse-all (map-all (λ l. joinRow (F .width) l r) (λ l. shifted-row (F .width) l r G v q) (keep (λ l. matches on l r) L)) (all-cons (shifted-row (F .width) (nulls (F .width)) r G v q) all-nil)
+  right-rows L r q = orElse-all (map-all (λ l. joinRow (F .width) l r) (λ l. shifted-row (F .width) l r G v q) (keep (λ l. matches on l r) L))
+      (all-cons (shifted-row (F .width) (nulls (F .width)) r G v q) all-nil)
 
   sql-rows : (t : JoinType) (L R : List Row) → All (RowOK F u) L → All (RowOK G v) R → All (Of t) (sql t on (F .width) (G .width) L R)
   sql-rows Inner L R ps qs = concat-all (gLeft matched on (F .width) (G .width) R) (inner-rows R qs) ps
   sql-rows Left L R ps qs = concat-all (gLeft padded on (F .width) (G .width) R) (left-rows R) ps
   sql-rows Right L R ps qs = concat-all (gRight padded on (F .width) L) (right-rows L) qs
   sql-rows Full L R ps qs = any-all (unknown-row (F .width + G .width)) (sql Full on (F .width) (G .width) L R)
-  sql-rows LeftSemi L R ps qs = concat-all (gLeft semi on (F .width) (G .width) R) (λ l p. ifAny-all (leftPairs on (F .width) R l) (all-cons p all-nil) all-nil) ps
-  sql-rows LeftAnti L R ps qs = concat-all (gLeft anti on (F .width) (G .width) R) (λ l p. ifAny-all (leftPairs on (F .width) R l) all-nil (all-cons p all-nil)) ps
+  sql-rows LeftSemi L R ps qs = concat-all (gLeft semi on (F .width) (G .width) R)
+      (λ l p. ifAny-all (leftPairs on (F .width) R l) (all-cons p all-nil) all-nil) ps
+  sql-rows LeftAnti L R ps qs = concat-all (gLeft anti on (F .width) (G .width) R)
+      (λ l p. ifAny-all (leftPairs on (F .width) R l) all-nil (all-cons p all-nil)) ps
   sql-rows RightSemi L R ps qs = concat-all (gRight semi on (F .width) L) (λ r q. ifAny-all (rightPairs on (F .width) L r) (all-cons q all-nil) all-nil) qs
   sql-rows RightAnti L R ps qs = concat-all (gRight anti on (F .width) L) (λ r q. ifAny-all (rightPairs on (F .width) L r) all-nil (all-cons q all-nil)) qs
 
@@ -177,14 +191,16 @@ within-le w (k ∷ ks) x y r s h = go (ltb (k .col) w) refl (λ a. within-le w k
         let lt = ltb-true (k .col) w e in
         let cx = cell-left w x r (k .col) lt in
         let cy = cell-left w y s (k .col) lt in
-        le-in k (within w ks) (joinRow w x r) (joinRow w y s) (ap₂ (leCell (k .desc) (k .first)) cx cy ∙ le-head k ks x y h) (λ a. ih (le-tail k ks x y h (sym (ap₂ (leCell (k .desc) (k .first)) cy cx) ∙ a)))
+        le-in k (within w ks) (joinRow w x r) (joinRow w y s) (ap₂ (leCell (k .desc) (k .first)) cx cy ∙ le-head k ks x y h)
+        (λ a. ih (le-tail k ks x y h (sym (ap₂ (leCell (k .desc) (k .first)) cy cx) ∙ a)))
 
 moved-le : (w : ℕ) (ks : List Key) (x y l m : Row) → le ks x y ≡ true → le (map (moved w) ks) (joinRow w l x) (joinRow w m y) ≡ true
 moved-le w [] x y l m h = refl
 moved-le w (k ∷ ks) x y l m h =
     let cx = cell-right w l x (k .col) in
     let cy = cell-right w m y (k .col) in
-    le-in (moved w k) (map (moved w) ks) (joinRow w l x) (joinRow w m y) (ap₂ (leCell (k .desc) (k .first)) cx cy ∙ le-head k ks x y h) (λ a. moved-le w ks x y l m (le-tail k ks x y h (sym (ap₂ (leCell (k .desc) (k .first)) cy cx) ∙ a)))
+    le-in (moved w k) (map (moved w) ks) (joinRow w l x) (joinRow w m y) (ap₂ (leCell (k .desc) (k .first)) cx cy ∙ le-head k ks x y h)
+    (λ a. moved-le w ks x y l m (le-tail k ks x y h (sym (ap₂ (leCell (k .desc) (k .first)) cy cx) ∙ a)))
 
 -- x is a row of l's group
 abbrev LeftOf : Gives → ℕ → Row → Row → Type 0

@@ -46,11 +46,13 @@ module _ (F G : Facts) where
   alike-low c = lowest-ok (alike c) c (inr (alike-self c))
 
   -- a row of either side, whose classes the union's lie in
-  row-of : (H : Facts) → ((c : ℕ) → eqb (cl H (lowest (alike c) c)) (cl H c) ≡ true) → (v : ℕ → Cell) (r : Row) → RowOK H v r → RowOK (both F G) (λ c. null) r
+  row-of : (H : Facts) → ((c : ℕ) → eqb (cl H (lowest (alike c) c)) (cl H c) ≡ true) → (v : ℕ → Cell) (r : Row) → RowOK H v r
+      → RowOK (both F G) (λ c. null) r
   row-of H in-class v r p =
       record {
         const = λ c e. no-bool (sym (tab-false (F .width) c) ∙ e);
-        class = λ c. tab-at (λ d. cell r d ≡ cell r c) (F .width) (λ d. lowest (alike d) d) c (λ _. sym (p .class (low c)) ∙ ap (cell r) (eqb-true (cl H (low c)) (cl H c) (in-class c)) ∙ p .class c) refl;
+        class = λ c. tab-at (λ d. cell r d ≡ cell r c) (F .width) (λ d. lowest (alike d) d) c
+            (λ _. sym (p .class (low c)) ∙ ap (cell r) (eqb-true (cl H (low c)) (cl H c) (in-class c)) ∙ p .class c) refl;
       }
     where
       low : ℕ → ℕ
@@ -66,14 +68,17 @@ module _ (F G : Facts) where
   both-holds s t h k =
       record {
         value = λ c. null;
-        rows = all-append (all-map (λ l. all-map (row-of F in-left (h .value))) (h .rows)) (all-map (λ l. all-map (row-of G in-right (k .value))) (k .rows));
-        sorted = all-append (streams-map (F .order) (common (F .order) (G .order)) (λ x y _ _. common-left (F .order) (G .order) x y) (h .rows) (h .sorted)) (streams-map (G .order) (common (F .order) (G .order)) (λ x y _ _. common-right (F .order) (G .order) x y) (k .rows) (k .sorted));
+        rows = all-append (all-map (λ l. all-map (row-of F in-left (h .value))) (h .rows))
+            (all-map (λ l. all-map (row-of G in-right (k .value))) (k .rows));
+        sorted = all-append (streams-map (F .order) (common (F .order) (G .order)) (λ x y _ _. common-left (F .order) (G .order) x y) (h .rows) (h .sorted))
+            (streams-map (G .order) (common (F .order) (G .order)) (λ x y _ _. common-right (F .order) (G .order) x y) (k .rows) (k .sorted));
       }
 
 pub union-holds : {fs : List Facts} {css : List Streams} → Each Holds fs css → Holds (unionFacts fs) (concat css)
 union-holds each-nil = record { value = λ c. null; rows = all-nil; sorted = all-nil }
 union-holds (each-cons {x = F} {y = s} h each-nil) = subst (Holds F) (sym (append-nil s)) h
-union-holds (each-cons {x = F} {y = s} h (each-cons {x = G} {y = t} {l = fs} {m = css} k ks)) = both-holds F (unionFacts (G ∷ fs)) s (t ++ concat css) h (union-holds (each-cons k ks))
+union-holds (each-cons {x = F} {y = s} h (each-cons {x = G} {y = t} {l = fs} {m = css} k ks)) = both-holds F (unionFacts (G ∷ fs)) s (t ++ concat css) h
+    (union-holds (each-cons k ks))
 
 -- ---- the kinds
 pub filter-holds : (F : Facts) (p : Row → Bool) (s : Streams) → Holds F s → Holds F (map (keep p) s)
@@ -89,7 +94,8 @@ module _ (F : Facts) (v : ℕ → Cell) (cols : List ℕ) where
 
       go : j < length cols → cell (proj cols r) (lowest (q j) j) ≡ cell (proj cols r) j
       go lt =
-          carries F v cols r p (lowest (q j) j) (getD cols j 0) (omega (arith, lowest-le (q j) j)) (lowest-ok (q j) j (inr (eq-eqb (cl F (getD cols j 0)) (cl F (getD cols j 0)) refl))) ∙ sym (cell-proj cols r j lt)
+          carries F v cols r p (lowest (q j) j) (getD cols j 0) (omega (arith, lowest-le (q j) j))
+          (lowest-ok (q j) j (inr (eq-eqb (cl F (getD cols j 0)) (cl F (getD cols j 0)) refl))) ∙ sym (cell-proj cols r j lt)
 
   proj-row : (r : Row) → RowOK F v r → RowOK (projFacts F cols) (λ j. v (getD cols j 0)) (proj cols r)
   proj-row r p =
@@ -103,15 +109,18 @@ projection-holds F cols s h =
     record {
       value = λ j. h .value (getD cols j 0);
       rows = all-over (map (proj cols)) (λ l. all-over (proj cols) (proj-row F (h .value) cols)) (h .rows);
-      sorted = all-over (map (proj cols)) (λ l pr. pw-over (proj cols) (λ x y px py. proj-le F (h .value) cols x y px py (F .order)) (pr .0) (pr .1)) (all-zip (h .rows) (h .sorted));
+      sorted = all-over (map (proj cols)) (λ l pr. pw-over (proj cols) (λ x y px py. proj-le F (h .value) cols x y px py (F .order)) (pr .0) (pr .1))
+          (all-zip (h .rows) (h .sorted));
     }
 
-pub single-holds : (F : Facts) (v : ℕ → Cell) {P : List Row → Type 0} {out : Streams} (ks : List Key) (h : OneStream P out) → All (RowOK F v) (h .one) → Sorted ks (h .one) → Holds (ordered F 1 ks) out
+pub single-holds : (F : Facts) (v : ℕ → Cell) {P : List Row → Type 0} {out : Streams} (ks : List Key) (h : OneStream P out) → All (RowOK F v) (h .one)
+    → Sorted ks (h .one) → Holds (ordered F 1 ks) out
 single-holds F v ks h ps ss =
     subst (Holds (ordered F 1 ks)) (sym (h .is)) (record { value = v; rows = all-cons ps all-nil; sorted = all-cons ss all-nil })
 
 -- ---- repartitions
-pub repartition-holds : (F : Facts) (k : Bool) (n : ℕ) {s out : Streams} → Holds F s → Split n (F .order) k s out → Holds (ordered F n (cond k (F .order) [])) out
+pub repartition-holds : (F : Facts) (k : Bool) (n : ℕ) {s out : Streams} → Holds F s → Split n (F .order) k s out
+    → Holds (ordered F n (cond k (F .order) [])) out
 repartition-holds F k n {s} {out} h e =
     record {
       value = h .value;
@@ -152,7 +161,8 @@ limit-sorted F s z n h m = go (eqb (F .streams) 1) refl
     go false e = sorted-nil z
 
 -- ---- sorts
-pub sorting-holds : (F : Facts) (p : Bool) (ks : List Key) (s out : Streams) → Holds F s → Sorting p ks s out → Holds (ordered F (sortStreams p F) (nf F [] ks)) out
+pub sorting-holds : (F : Facts) (p : Bool) (ks : List Key) (s out : Streams) → Holds F s → Sorting p ks s out
+    → Holds (ordered F (sortStreams p F) (nf F [] ks)) out
 sorting-holds F true ks s out h e =
     let rs : All (All (RowOK F (h .value))) out = sorts-rows e (h .rows) in
     record { value = h .value; rows = rs; sorted = nf-sorted F (h .value) ks rs (sorts-sorted e) }

@@ -58,8 +58,14 @@ free n (suc c) e = refl
 
 pub given-kept : Sources given 0 passing
 given-kept =
-    let first : Declared 0 [] ((row 2 ∷ row 1 ∷ row 3 ∷ []) ∷ []) = record { value = λ c. null; rows = all-cons (all-cons (free 2) (all-cons (free 1) (all-cons (free 3) all-nil))) all-nil; sorted = all-sorted-nil _ } in
-    let second : Declared 0 (by 0) ((row 1 ∷ row 2 ∷ []) ∷ []) = record { value = λ c. null; rows = all-cons (all-cons (free 1) (all-cons (free 2) all-nil)) all-nil; sorted = all-cons one-two all-nil } in
+    let first : Declared 0 [] ((row 2 ∷ row 1 ∷ row 3 ∷ []) ∷ []) =
+    record {
+      value = λ c. null;
+      rows = all-cons (all-cons (free 2) (all-cons (free 1) (all-cons (free 3) all-nil))) all-nil;
+      sorted = all-sorted-nil _;
+    } in
+    let second : Declared 0 (by 0) ((row 1 ∷ row 2 ∷ []) ∷ []) =
+    record { value = λ c. null; rows = all-cons (all-cons (free 1) (all-cons (free 2) all-nil)) all-nil; sorted = all-cons one-two all-nil } in
     (tt, (tt, (tt, (tt, (tt, (tt, (first, tt, tt), tt), tt), tt), (second, tt, tt)), tt), tt)
 
 -- What each node puts out
@@ -68,7 +74,8 @@ carried =
     tree ((twin 1 ∷ twin 2 ∷ []) ∷ [])
     (tree ((twin 1 ∷ twin 2 ∷ []) ∷ [])
     (tree ((row 1 ∷ row 2 ∷ []) ∷ [])
-    (tree ((row 2 ∷ []) ∷ (row 1 ∷ []) ∷ []) (tree ((row 2 ∷ []) ∷ (row 1 ∷ []) ∷ []) (tree ((row 2 ∷ row 1 ∷ []) ∷ []) (tree ((row 2 ∷ row 1 ∷ row 3 ∷ []) ∷ []) none none) none) none) none)
+    (tree ((row 2 ∷ []) ∷ (row 1 ∷ []) ∷ [])
+    (tree ((row 2 ∷ []) ∷ (row 1 ∷ []) ∷ []) (tree ((row 2 ∷ row 1 ∷ []) ∷ []) (tree ((row 2 ∷ row 1 ∷ row 3 ∷ []) ∷ []) none none) none) none) none)
     (tree ((row 1 ∷ row 2 ∷ []) ∷ []) none none))
     none)
     none
@@ -76,10 +83,29 @@ carried =
 pub carries : Run given 0 0 passing carried
 carries =
     run-tree (record { raw = (twin 1 ∷ twin 2 ∷ []) ∷ []; made = refl; is = refl })
-    (run-tree (record { raw = (twin 1 ∷ twin 2 ∷ []) ∷ []; made = each-cons (grouped-cons {t = twin 1 ∷ []} (same-refl (twin 1 ∷ [])) (grouped-cons {t = twin 2 ∷ []} (same-refl (twin 2 ∷ [])) grouped-nil)) each-nil; is = refl })
-    (run-tree {o = mergeOp (by 0) Unlimited} (record { raw = (row 1 ∷ row 2 ∷ []) ∷ []; made = record { one = row 1 ∷ row 2 ∷ []; is = refl; that = record { mixed = mixes-cons (mixes-cons mixes-nil (mix-left mix-nil)) (mix-right (mix-left mix-nil)); sorted = λ _. one-two } }; is = refl })
+    (run-tree (record {
+      raw = (twin 1 ∷ twin 2 ∷ []) ∷ [];
+      made = each-cons (grouped-cons {t = twin 1 ∷ []} (same-refl (twin 1 ∷ [])) (grouped-cons {t = twin 2 ∷ []} (same-refl (twin 2 ∷ [])) grouped-nil))
+          each-nil;
+      is = refl;
+    })
+    (run-tree {o = mergeOp (by 0) Unlimited}
+    (record {
+      raw = (row 1 ∷ row 2 ∷ []) ∷ [];
+      made = record {
+        one = row 1 ∷ row 2 ∷ [];
+        is = refl;
+        that = record { mixed = mixes-cons (mixes-cons mixes-nil (mix-left mix-nil)) (mix-right (mix-left mix-nil)); sorted = λ _. one-two };
+      };
+      is = refl;
+    })
     (run-tree (record { raw = (row 2 ∷ []) ∷ (row 1 ∷ []) ∷ []; made = each-cons (single (row 2)) (each-cons (single (row 1)) each-nil); is = refl })
-    (run-tree {o = repartition false 2 false []} (record { raw = (row 2 ∷ []) ∷ (row 1 ∷ []) ∷ []; made = record { count = refl; same = record { sums = λ w. refl }; sorted = λ _ _. all-sorted-nil ((row 2 ∷ []) ∷ (row 1 ∷ []) ∷ []) }; is = refl })
+    (run-tree {o = repartition false 2 false []}
+    (record {
+      raw = (row 2 ∷ []) ∷ (row 1 ∷ []) ∷ [];
+      made = record { count = refl; same = record { sums = λ w. refl }; sorted = λ _ _. all-sorted-nil ((row 2 ∷ []) ∷ (row 1 ∷ []) ∷ []) };
+      is = refl;
+    })
     (run-tree (record { raw = (row 2 ∷ row 1 ∷ []) ∷ []; made = refl; is = refl })
     (run-tree (record { raw = (row 2 ∷ row 1 ∷ row 3 ∷ []) ∷ []; made = refl; is = refl }) run-none run-none)
     run-none) run-none) run-none)
@@ -92,7 +118,8 @@ carries =
 
 -- no stream of any node is empty
 pub no-stream-empty : Everywhere (λ o c css s. (1 ≤ length s) × All (λ l. 1 ≤ length l) s) passing carried
-no-stream-empty = node one (node one (node one (node twoStreams (node twoStreams (node one (node one nowhere nowhere) nowhere) nowhere) nowhere) (node one nowhere nowhere)) nowhere) nowhere
+no-stream-empty = node one (node one (node one (node twoStreams (node twoStreams (node one (node one nowhere nowhere) nowhere) nowhere) nowhere)
+    (node one nowhere nowhere)) nowhere) nowhere
   where
     some : (x : Row) (l : List Row) → 1 ≤ length (x ∷ l)
     some x l = omega arith

@@ -47,14 +47,16 @@ zip-right-all : {P Q : List Row → Type 0} {ls rs : Streams} → P [] → All P
 zip-right-all z ps all-nil = all-nil
 zip-right-all z ps (all-cons q qs) = all-cons (first-all [] z ps, q) (zip-right-all z (all-drop 1 ps) qs)
 
-pub numbered-all : {P Q : List Row → Type 0} (t : JoinType) {ls rs : Streams} → P [] → Q [] → All P ls → All Q rs → All (λ p. P (p .0) × Q (p .1)) (likeNumbered t ls rs)
+pub numbered-all : {P Q : List Row → Type 0} (t : JoinType) {ls rs : Streams} → P [] → Q [] → All P ls → All Q rs → All (λ p. P (p .0) × Q (p .1))
+    (likeNumbered t ls rs)
 numbered-all {P} {Q} t {ls} {rs} y z ps qs = go (byRight t)
   where
     go : (b : Bool) → All (λ p. P (p .0) × Q (p .1)) (cond b (zipRight ls rs) (zipLeft ls rs))
     go true = zip-right-all y ps qs
     go false = zip-left-all z ps qs
 
-pub joins-rows : {P : Pair → Type 0} {Q : List Row → Type 0} {J : Pair → List Row → Type 0} {ps : List Pair} {out : Streams} → ((p : Pair) (o : List Row) → P p → J p o → Q o) → All P ps → Each J ps out → All Q out
+pub joins-rows : {P : Pair → Type 0} {Q : List Row → Type 0} {J : Pair → List Row → Type 0} {ps : List Pair} {out : Streams}
+    → ((p : Pair) (o : List Row) → P p → J p o → Q o) → All P ps → Each J ps out → All Q out
 joins-rows f hs each-nil = all-nil
 joins-rows f hs (each-cons {x = p} {y = o} j js) = all-cons (f p o (all-head hs) j) (joins-rows f (all-tail hs) js)
 
@@ -62,7 +64,8 @@ Sides : Facts → Facts → (ℕ → Cell) → (ℕ → Cell) → Pair → Type 
 Sides F G u v p = All (RowOK F u) (p .0) × All (RowOK G v) (p .1)
 
 join-holds : (t : JoinType) (k : Kept) (on : List On) (F G : Facts) → ((c : ℕ) → cl F c ≤ c) → (u v : ℕ → Cell) (n : ℕ) (ps : List Pair) (out : Streams) →
-    All (λ p. All (RowOK F u) (p .0) × All (RowOK G v) (p .1)) ps → All (KeptSorted k F G) ps → Each (Joined t k on (F .width) (G .width)) ps out → Holds (joinFacts t k on F G n) out
+    All (λ p. All (RowOK F u) (p .0) × All (RowOK G v) (p .1)) ps → All (KeptSorted k F G) ps → Each (Joined t k on (F .width) (G .width)) ps out
+    → Holds (joinFacts t k on F G n) out
 join-holds t k on F G low u v n ps out hs ss js =
     let B : Facts = joinBase t on F G in
     let val : ℕ → Cell = joinValue t on F G u v in
@@ -111,13 +114,20 @@ module _ (F G : Facts) {ls rs : Streams} (sl : All (Sorted (F .order)) ls) (sr :
 met-wanted : (fs : List Facts) (css : List Streams) → Each Holds fs css → (o : Op) → wantsMet o fs ≡ true → Wanted o css
 met-wanted fs css hs o e i = met-sorted (getD fs i nothing) (wanted o i) (child-holds hs i) (wants-met o fs e i)
 
-made-holds : (E : Env) (i j : ℕ) (o : Op) (fs : List Facts) (css : List Streams) (out : Streams) → SourceOK E i o → All Canon fs → Each AsMany fs css → Each Holds fs css → Wanted o css → Made E i j o fs css out → Holds (factsOp o fs) out
+made-holds : (E : Env) (i j : ℕ) (o : Op) (fs : List Facts) (css : List Streams) (out : Streams) → SourceOK E i o → All Canon fs → Each AsMany fs css
+    → Each Holds fs css → Wanted o css → Made E i j o fs css out → Holds (factsOp o fs) out
 made-holds E i j (source s) fs css out d cs ns hs wt e =
     let F : Facts = sourceFacts (s .width) (s .streams) (s .constants) in
-    let rs : All (All (RowOK F (d .value))) (tab (s .streams) (E .rows i)) = all-map (λ l. all-map (λ r p. record { const = λ c e. p c (tab-true (s .width) (bit (s .constants)) c e .1); class = λ c. ap (cell r) (tab-same (s .width) c) })) (d .rows) in
-    subst (Holds (ordered F (s .streams) (nf F [] (s .keys)))) (sym e) (record { value = d .value; rows = rs; sorted = nf-sorted F (d .value) (s .keys) rs (d .sorted) })
+    let rs : All (All (RowOK F (d .value))) (tab (s .streams) (E .rows i)) =
+    all-map (λ l. all-map (λ r p. record {
+      const = λ c e. p c (tab-true (s .width) (bit (s .constants)) c e .1);
+      class = λ c. ap (cell r) (tab-same (s .width) c);
+    })) (d .rows) in
+    subst (Holds (ordered F (s .streams) (nf F [] (s .keys)))) (sym e)
+    (record { value = d .value; rows = rs; sorted = nf-sorted F (d .value) (s .keys) rs (d .sorted) })
 made-holds E i j filter fs css out d cs ns hs wt e = subst (Holds (at0 fs)) (sym e) (filter-holds (at0 fs) (E .test j) (in0 css) (child-holds hs 0))
-made-holds E i j (projection cols) fs css out d cs ns hs wt e = subst (Holds (projFacts (at0 fs) cols)) (sym e) (projection-holds (at0 fs) cols (in0 css) (child-holds hs 0))
+made-holds E i j (projection cols) fs css out d cs ns hs wt e = subst (Holds (projFacts (at0 fs) cols)) (sym e)
+    (projection-holds (at0 fs) cols (in0 css) (child-holds hs 0))
 made-holds E i j union fs css out d cs ns hs wt e = subst (Holds (unionFacts fs)) (sym e) (union-holds hs)
 made-holds E i j (repartition p n h ks) fs css out d cs ns hs wt e = repartition-holds (at0 fs) (keepsOrder p (at0 fs)) n (child-holds hs 0) e
 made-holds E i j (coalesce f) fs css out d cs ns hs wt e =
@@ -128,18 +138,21 @@ made-holds E i j (mergeOp ks f) fs css out d cs ns hs wt e =
     let rs : All (RowOK (at0 fs) (h .value)) (e .one) = mixes-all (e .that .mixed) (h .rows) in
     single-holds (at0 fs) (h .value) (nf (at0 fs) [] ks) e rs (nf-one (at0 fs) (h .value) ks rs (e .that .sorted (wt 0)))
 made-holds E i j (globalLimit s f note) fs css out d cs ns hs wt e =
-    let h = child-holds hs 0 in single-holds (at0 fs) (h .value) (cond (eqb (at0 fs .streams) 1) (at0 fs .order) []) e (mixes-all (e .that) (h .rows)) (limit-sorted (at0 fs) (in0 css) (e .one) (each-at nothing [] refl ns 0) h (e .that))
+    let h = child-holds hs 0 in single-holds (at0 fs) (h .value) (cond (eqb (at0 fs .streams) 1) (at0 fs .order) []) e (mixes-all (e .that) (h .rows))
+    (limit-sorted (at0 fs) (in0 css) (e .one) (each-at nothing [] refl ns 0) h (e .that))
 made-holds E i j (localLimit f note) fs css out d cs ns hs wt e = subst (Holds (at0 fs)) (sym e) (child-holds hs 0)
 made-holds E i j (sortMergeJoin t on) fs css out d cs ns hs wt e =
     let h = child-holds hs 0 in
     let k = child-holds hs 1 in
-    join-holds t (smjKept t) on (at0 fs) (at1 fs) (nth-canon fs cs 0 .classes .low) (h .value) (k .value) (cond (byRight t) (at1 fs .streams) (at0 fs .streams)) (likeNumbered t (in0 css) (in1 css)) out
+    join-holds t (smjKept t) on (at0 fs) (at1 fs) (nth-canon fs cs 0 .classes .low) (h .value) (k .value)
+    (cond (byRight t) (at1 fs .streams) (at0 fs .streams)) (likeNumbered t (in0 css) (in1 css)) out
     (numbered-all t all-nil all-nil (h .rows) (k .rows))
     (smj-kept (at0 fs) (at1 fs) (h .sorted) (k .sorted) t) e
 made-holds E i j (hashJoin t on) fs css out d cs ns hs wt e =
     let h = child-holds hs 0 in
     let k = child-holds hs 1 in
-    join-holds t (hashKept t) on (at0 fs) (at1 fs) (nth-canon fs cs 0 .classes .low) (h .value) (k .value) (at1 fs .streams) (map (withAll (concat (in0 css))) (in1 css)) out
+    join-holds t (hashKept t) on (at0 fs) (at1 fs) (nth-canon fs cs 0 .classes .low) (h .value) (k .value) (at1 fs .streams)
+    (map (withAll (concat (in0 css))) (in1 css)) out
     (all-over (withAll (concat (in0 css))) (λ r q. (all-concat (in0 css) (h .rows), q)) (k .rows))
     (hash-kept (at0 fs) (at1 fs) (h .sorted) (k .sorted) (concat (in0 css)) t) e
 made-holds E i j (outputRequirement ks dist f) fs css out d cs ns hs wt e = subst (Holds (at0 fs)) (sym e) (child-holds hs 0)

@@ -29,13 +29,19 @@ same-length : tie.Need-same-length
 same-length c = search needs
 
 returns : tie.Need-returns
-returns c = let s = c .before .before .before .before .before .before .before .before .before .before .before .before in let y = c .before .before .before .before .before .before .call-in in absurd (full-done (y .result) (afterReading (resultOf (s .args .k)) (reading (s .args .plan .now))) (s .args .out .now) (y .last .1 .1 .0) 148224 (omega arith) (c .enum-told .given .1) (y .ensures))
+returns c = let s = c .before .before .before .before .before .before .before .before .before .before .before .before in
+    let y = c .before .before .before .before .before .before .call-in in
+    absurd (full-done (y .result) (afterReading (resultOf (s .args .k)) (reading (s .args .plan .now))) (s .args .out .now) (y .last .1 .1 .0) 148224
+    (omega arith) (c .enum-told .given .1) (y .ensures))
 
 same-length-2 : tie.Need-same-length-2
 same-length-2 c = search needs
 
 returns-2 : tie.Need-returns-2
-returns-2 c = let s = c .before .before .before .before .before .before .before .before .before .before .before .before .before in let y = c .before .before .before .before .before .before .before .call-in in let g = c .before .r .given in done-answered (y .result) (afterReading (resultOf (s .args .k)) (reading (s .args .plan .now))) (s .args .out .now) (y .last .1 .1 .0) 148224 (g .0 .0) (g .0 .1 .0) (g .1) (y .ensures)
+returns-2 c = let s = c .before .before .before .before .before .before .before .before .before .before .before .before .before in
+    let y = c .before .before .before .before .before .before .before .call-in in let g = c .before .r .given in
+    done-answered (y .result) (afterReading (resultOf (s .args .k)) (reading (s .args .plan .now))) (s .args .out .now) (y .last .1 .1 .0) 148224 (g .0 .0)
+    (g .0 .1 .0) (g .1) (y .ensures)
 
 pub call-in-largest-spec : {M : Type 1} → statement M
 call-in-largest-spec =

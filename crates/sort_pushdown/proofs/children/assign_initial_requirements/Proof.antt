@@ -19,7 +19,10 @@ wanted-distribution-requires-2 : tie.Need-wanted-distribution-requires-2
 wanted-distribution-requires-2 c κs = search needs
 
 returns : tie.Need-returns
-returns c = let s = c .before .before .before .before .before in let n = decode (s .args .r .now) in λ pl v. initial-asks n (c .before .before .before .wanted-order .result) (c .before .wanted-order2 .result) Unlimited (c .before .before .wanted-distribution .result) (c .wanted-distribution2 .result) (c .before .before .wanted-distribution .ensures) (c .wanted-distribution2 .ensures) (c .before .before .before .wanted-order .ensures) (c .before .wanted-order2 .ensures) pl v
+returns c = let s = c .before .before .before .before .before in let n = decode (s .args .r .now) in
+    λ pl v. initial-asks n (c .before .before .before .wanted-order .result) (c .before .wanted-order2 .result) Unlimited
+    (c .before .before .wanted-distribution .result) (c .wanted-distribution2 .result) (c .before .before .wanted-distribution .ensures)
+    (c .wanted-distribution2 .ensures) (c .before .before .before .wanted-order .ensures) (c .before .wanted-order2 .ensures) pl v
 
 pub assign-initial-requirements-spec : {M : Type 1} → statement M
 assign-initial-requirements-spec =

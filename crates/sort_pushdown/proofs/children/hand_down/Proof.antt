@@ -20,7 +20,11 @@ stronger-distribution-requires-2 : tie.Need-stronger-distribution-requires-2
 stronger-distribution-requires-2 c κs = search needs
 
 returns : tie.Need-returns
-returns c = let s = c .before .before .before .before .before in let n = decode (s .args .r .now) in λ m ts ks h. hand-asks n (s .args .first) (s .args .rest) (s .args .fetch) (c .before .before .stronger-distribution .result) (c .stronger-distribution2 .result) (s .args .d) (c .before .before .stronger-distribution .ensures ∙ ap (strongerDistribution (s .args .d)) (c .before .before .before .wanted-distribution .ensures)) (c .stronger-distribution2 .ensures ∙ ap (strongerDistribution (s .args .d)) (c .before .wanted-distribution2 .ensures)) m ts ks h
+returns c = let s = c .before .before .before .before .before in let n = decode (s .args .r .now) in
+    λ m ts ks h. hand-asks n (s .args .first) (s .args .rest) (s .args .fetch) (c .before .before .stronger-distribution .result)
+    (c .stronger-distribution2 .result) (s .args .d) (c .before .before .stronger-distribution .ensures ∙ ap (strongerDistribution (s .args .d))
+    (c .before .before .before .wanted-distribution .ensures)) (c .stronger-distribution2 .ensures ∙ ap (strongerDistribution (s .args .d))
+    (c .before .wanted-distribution2 .ensures)) m ts ks h
 
 pub hand-down-spec : {M : Type 1} → statement M
 hand-down-spec =

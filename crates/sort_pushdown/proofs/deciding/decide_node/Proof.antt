@@ -31,7 +31,10 @@ unasked-requires : tie.Need-unasked-requires
 unasked-requires c κs = search needs
 
 returns : tie.Need-returns
-returns c = let s = c .before .before .before .before .before .before .before .before in let n = decode (s .args .r .now) in let F = told (s .args .own .now) in let L = told (s .args .a .now) in let R = told (s .args .b .now) in let q = visitOf (s .args .v) in λ pl o z e. if-so o pl (walk.unasked q o pl) (walk.nodeAsked q o pl) (sem.isNil (q .req .order)) _ (requirement-none _ (c .before .enum-told .given .1)) (c .unasked .ensures pl o F L R z)
+returns c = let s = c .before .before .before .before .before .before .before .before in let F = told (s .args .own .now) in
+    let L = told (s .args .a .now) in let R = told (s .args .b .now) in let q = visitOf (s .args .v) in
+    λ pl o z e. if-so o pl (walk.unasked q o pl) (walk.nodeAsked q o pl) (sem.isNil (q .req .order)) _ (requirement-none _ (c .before .enum-told .given .1))
+    (c .unasked .ensures pl o F L R z)
 
 meets-requires : tie.Need-meets-requires
 meets-requires c κs = search needs
@@ -46,12 +49,23 @@ handed-on-requires : tie.Need-handed-on-requires
 handed-on-requires c κs = search needs
 
 returns-2 : tie.Need-returns-2
-returns-2 c = let s = c .before .before .before .before .before .before .before .before .before .before .before .before .before in let n = decode (s .args .r .now) in let F = told (s .args .own .now) in let L = told (s .args .a .now) in let R = told (s .args .b .now) in let q = visitOf (s .args .v) in λ pl o z e.
-    node-met pl n o q F L R z (s .args .limit) e (c .before .before .before .before .before .before .requirement .given .0 .0) (requirement-is (s .args .v .req .order) _ (s .pre .real) (c .before .before .before .before .before .before .requirement .given .1)) (requirement-some (s .args .v .req .order) _ (s .pre .real) (c .before .before .before .before .before .before .requirement .given .1)) _ (c .before .before .before .before .meets .result) (c .before .before .before .before .meets .ensures) (c .before .before .before .if1 .taken)
-    (c .handed-on .ensures pl o L R (wanted o) z (wanted-going o _ _ (walk.childCount pl) (count-like n o (sem.facts pl) (walk.childCount pl) F L R z) (subst (λ (l : List Key). Ordered l (c .before .before .wanted-order .result)) (wanted-like n o (sem.facts pl) (walk.childCount pl) F L R z 0) (c .before .before .wanted-order .ensures)) (subst (λ (l : List Key). Ordered l (c .before .wanted-order2 .result)) (wanted-like n o (sem.facts pl) (walk.childCount pl) F L R z 1) (c .before .wanted-order2 .ensures))))
+returns-2 c = let s = c .before .before .before .before .before .before .before .before .before .before .before .before .before in
+    let n = decode (s .args .r .now) in let F = told (s .args .own .now) in let L = told (s .args .a .now) in let R = told (s .args .b .now) in
+    let q = visitOf (s .args .v) in λ pl o z e.
+    node-met pl n o q F L R z (s .args .limit) e (c .before .before .before .before .before .before .requirement .given .0 .0)
+    (requirement-is (s .args .v .req .order) _ (s .pre .real) (c .before .before .before .before .before .before .requirement .given .1))
+    (requirement-some (s .args .v .req .order) _ (s .pre .real) (c .before .before .before .before .before .before .requirement .given .1)) _
+    (c .before .before .before .before .meets .result) (c .before .before .before .before .meets .ensures) (c .before .before .before .if1 .taken)
+    (c .handed-on .ensures pl o L R (wanted o) z (wanted-going o _ _ (walk.childCount pl) (count-like n o (sem.facts pl) (walk.childCount pl) F L R z)
+    (subst (λ (l : List Key). Ordered l (c .before .before .wanted-order .result)) (wanted-like n o (sem.facts pl) (walk.childCount pl) F L R z 0)
+    (c .before .before .wanted-order .ensures))
+    (subst (λ (l : List Key). Ordered l (c .before .wanted-order2 .result)) (wanted-like n o (sem.facts pl) (walk.childCount pl) F L R z 1)
+    (c .before .wanted-order2 .ensures))))
 
 pushdown-requirement-to-children-requires : tie.Need-pushdown-requirement-to-children-requires
-pushdown-requirement-to-children-requires c κs = let s = c .before .before .before .before .before .before .before .before .before .before in visited-asked (s .args .r .now) (s .args .own .now) (s .args .a .now) (s .args .b .now) (s .args .v .req .order) _ (s .pre) (c .before .before .before .requirement .given .1)
+pushdown-requirement-to-children-requires c κs = let s = c .before .before .before .before .before .before .before .before .before .before in
+    visited-asked (s .args .r .now) (s .args .own .now) (s .args .a .now) (s .args .b .now) (s .args .v .req .order) _ (s .pre)
+    (c .before .before .before .requirement .given .1)
 
 enum-known-p : tie.Need-enum-known-p
 enum-known-p c = search needs
@@ -63,10 +77,28 @@ handed-on-requires-2 : tie.Need-handed-on-requires-2
 handed-on-requires-2 c κs = search needs
 
 returns-3 : tie.Need-returns-3
-returns-3 c = let s = c .before .before .before .before .before .before .before .before .before .before .before .before .before .before .before .before in let n = decode (s .args .r .now) in let F = told (s .args .own .now) in let L = told (s .args .a .now) in let R = told (s .args .b .now) in let q = visitOf (s .args .v) in λ pl o z e.
-    node-tried pl n o q F L R z (s .args .limit) e (c .before .before .before .before .before .before .before .before .before .requirement .given .0 .0) (requirement-is (s .args .v .req .order) _ (s .pre .real) (c .before .before .before .before .before .before .before .before .before .requirement .given .1)) (requirement-some (s .args .v .req .order) _ (s .pre .real) (c .before .before .before .before .before .before .before .before .before .requirement .given .1)) _ (c .before .before .before .before .before .before .before .meets .result) (c .before .before .before .before .before .before .before .meets .ensures) (c .before .before .before .before .before .before .if1 .left)
-    (try-goes o o pl (c .handed-on2 .result) q (walk.pushDown (q .req .order) q o pl) _ _ (pushed-down pl n o q F L R z (s .args .limit) e (c .before .before .before .before .before .before .before .before .before .requirement .given .0 .0) (requirement-is (s .args .v .req .order) _ (s .pre .real) (c .before .before .before .before .before .before .before .before .before .requirement .given .1)) _ (subst (λ (x : Pushed). Pushes (walk.childCount pl) (pushdownRequirementToChildren o (s .args .limit) (walk.childCount pl) (sem.facts pl) (keysOf (c .before .before .before .before .before .before .before .before .before .requirement .given .0 .0)) (q .req .fetch)) x) (c .before .before .before .p .given .1) (c .before .before .before .before .before .pushdown-requirement-to-children .ensures o (sem.facts pl) (fetches pl) (walk.childCount pl) z e)))
-    (λ ks k. subst (λ (f : Fetch). Decides o pl (walk.stays o (walk.handDown ks f (walk.effectiveDist (sem.factsOp o (sem.facts pl)) (q .req .dist)) o)) (c .handed-on2 .result)) (c .before .min-fetch .ensures ∙ ap (λ (g : Fetch). minFetch g (q .req .fetch)) e) (c .handed-on2 .ensures pl o L R ks z k)))
+returns-3 c = let s = c .before .before .before .before .before .before .before .before .before .before .before .before .before .before .before .before in
+    let n = decode (s .args .r .now) in let F = told (s .args .own .now) in let L = told (s .args .a .now) in let R = told (s .args .b .now) in
+    let q = visitOf (s .args .v) in λ pl o z e.
+    node-tried pl n o q F L R z (s .args .limit) e (c .before .before .before .before .before .before .before .before .before .requirement .given .0 .0)
+    (requirement-is (s .args .v .req .order) _ (s .pre .real)
+    (c .before .before .before .before .before .before .before .before .before .requirement .given .1))
+    (requirement-some (s .args .v .req .order) _ (s .pre .real)
+    (c .before .before .before .before .before .before .before .before .before .requirement .given .1)) _
+    (c .before .before .before .before .before .before .before .meets .result)
+    (c .before .before .before .before .before .before .before .meets .ensures) (c .before .before .before .before .before .before .if1 .left)
+    (try-goes o o pl (c .handed-on2 .result) q (walk.pushDown (q .req .order) q o pl) _ _
+    (pushed-down pl n o q F L R z (s .args .limit) e
+    (c .before .before .before .before .before .before .before .before .before .requirement .given .0 .0)
+    (requirement-is (s .args .v .req .order) _ (s .pre .real)
+    (c .before .before .before .before .before .before .before .before .before .requirement .given .1)) _
+    (subst (λ (x : Pushed). Pushes (walk.childCount pl) (pushdownRequirementToChildren o (s .args .limit) (walk.childCount pl) (sem.facts pl)
+    (keysOf (c .before .before .before .before .before .before .before .before .before .requirement .given .0 .0)) (q .req .fetch)) x)
+    (c .before .before .before .p .given .1) (c .before .before .before .before .before .pushdown-requirement-to-children .ensures o (sem.facts pl)
+    (fetches pl) (walk.childCount pl) z e)))
+    (λ ks k. subst (λ (f : Fetch). Decides o pl (walk.stays o (walk.handDown ks f (walk.effectiveDist (sem.factsOp o (sem.facts pl)) (q .req .dist)) o))
+    (c .handed-on2 .result)) (c .before .min-fetch .ensures ∙ ap (λ (g : Fetch). minFetch g (q .req .fetch)) e)
+    (c .handed-on2 .ensures pl o L R ks z k)))
 
 enum-told-2 : tie.Need-enum-told-2
 enum-told-2 c = search needs
@@ -75,23 +107,74 @@ needs-merge-requires : tie.Need-needs-merge-requires
 needs-merge-requires c κs = search needs
 
 merge-added-requires : tie.Need-merge-added-requires
-merge-added-requires c κs = let s = c .before .before .before .before .before .before .before .before .before .before .before .before .before .before .before in visited-asked (s .args .r .now) (s .args .own .now) (s .args .a .now) (s .args .b .now) (s .args .v .req .order) _ (s .pre) (c .before .before .before .before .before .before .before .before .requirement .given .1)
+merge-added-requires c κs = let s =
+    c .before .before .before .before .before .before .before .before .before .before .before .before .before .before .before in
+    visited-asked (s .args .r .now) (s .args .own .now) (s .args .a .now) (s .args .b .now) (s .args .v .req .order) _ (s .pre)
+    (c .before .before .before .before .before .before .before .before .requirement .given .1)
 
 returns-4 : tie.Need-returns-4
-returns-4 c = let s = c .before .before .before .before .before .before .before .before .before .before .before .before .before .before .before .before in let n = decode (s .args .r .now) in let F = told (s .args .own .now) in let L = told (s .args .a .now) in let R = told (s .args .b .now) in let q = visitOf (s .args .v) in λ pl o z e.
-    node-tried pl n o q F L R z (s .args .limit) e (c .before .before .before .before .before .before .before .before .before .requirement .given .0 .0) (requirement-is (s .args .v .req .order) _ (s .pre .real) (c .before .before .before .before .before .before .before .before .before .requirement .given .1)) (requirement-some (s .args .v .req .order) _ (s .pre .real) (c .before .before .before .before .before .before .before .before .before .requirement .given .1)) _ (c .before .before .before .before .before .before .before .meets .result) (c .before .before .before .before .before .before .before .meets .ensures) (c .before .before .before .before .before .before .if1 .left)
-    (try-stop o o pl (c .merge-added .result) q (walk.pushDown (q .req .order) q o pl) (pushed-down pl n o q F L R z (s .args .limit) e (c .before .before .before .before .before .before .before .before .before .requirement .given .0 .0) (requirement-is (s .args .v .req .order) _ (s .pre .real) (c .before .before .before .before .before .before .before .before .before .requirement .given .1)) Stop (subst (λ (x : Pushed). Pushes (walk.childCount pl) (pushdownRequirementToChildren o (s .args .limit) (walk.childCount pl) (sem.facts pl) (keysOf (c .before .before .before .before .before .before .before .before .before .requirement .given .0 .0)) (q .req .fetch)) x) (c .before .before .before .enum-told2 .given .1) (c .before .before .before .before .before .pushdown-requirement-to-children .ensures o (sem.facts pl) (fetches pl) (walk.childCount pl) z e)))
-    (if-so o pl _ _ (needsMerge (sem.factsOp o (sem.facts pl)) (q .req .dist)) _ (sym (c .before .before .needs-merge .ensures ∙ ap (λ (G : sem.Facts). needsMerge G (q .req .dist)) (facts-like n o (sem.facts pl) (walk.childCount pl) F L R z)) ∙ c .before .if2 .taken) (c .merge-added .ensures pl o q z e (requirement-is (s .args .v .req .order) _ (s .pre .real) (c .before .before .before .before .before .before .before .before .before .requirement .given .1)) refl)))
+returns-4 c = let s = c .before .before .before .before .before .before .before .before .before .before .before .before .before .before .before .before in
+    let n = decode (s .args .r .now) in let F = told (s .args .own .now) in let L = told (s .args .a .now) in let R = told (s .args .b .now) in
+    let q = visitOf (s .args .v) in λ pl o z e.
+    node-tried pl n o q F L R z (s .args .limit) e (c .before .before .before .before .before .before .before .before .before .requirement .given .0 .0)
+    (requirement-is (s .args .v .req .order) _ (s .pre .real)
+    (c .before .before .before .before .before .before .before .before .before .requirement .given .1))
+    (requirement-some (s .args .v .req .order) _ (s .pre .real)
+    (c .before .before .before .before .before .before .before .before .before .requirement .given .1)) _
+    (c .before .before .before .before .before .before .before .meets .result)
+    (c .before .before .before .before .before .before .before .meets .ensures) (c .before .before .before .before .before .before .if1 .left)
+    (try-stop o o pl (c .merge-added .result) q (walk.pushDown (q .req .order) q o pl)
+    (pushed-down pl n o q F L R z (s .args .limit) e
+    (c .before .before .before .before .before .before .before .before .before .requirement .given .0 .0)
+    (requirement-is (s .args .v .req .order) _ (s .pre .real)
+    (c .before .before .before .before .before .before .before .before .before .requirement .given .1)) Stop
+    (subst (λ (x : Pushed). Pushes (walk.childCount pl) (pushdownRequirementToChildren o (s .args .limit) (walk.childCount pl) (sem.facts pl)
+    (keysOf (c .before .before .before .before .before .before .before .before .before .requirement .given .0 .0)) (q .req .fetch)) x)
+    (c .before .before .before .enum-told2 .given .1) (c .before .before .before .before .before .pushdown-requirement-to-children .ensures o
+    (sem.facts pl) (fetches pl) (walk.childCount pl) z e)))
+    (if-so o pl _ _ (needsMerge (sem.factsOp o (sem.facts pl)) (q .req .dist)) _
+    (sym (c .before .before .needs-merge .ensures ∙ ap (λ (G : sem.Facts). needsMerge G (q .req .dist))
+    (facts-like n o (sem.facts pl) (walk.childCount pl) F L R z)) ∙ c .before .if2 .taken)
+    (c .merge-added .ensures pl o q z e
+    (requirement-is (s .args .v .req .order) _ (s .pre .real)
+    (c .before .before .before .before .before .before .before .before .before .requirement .given .1)) refl)))
 
 sort-added-requires : tie.Need-sort-added-requires
-sort-added-requires c κs = let s = c .before .before .before .before .before .before .before .before .before .before .before .before .before .before .before in (s .pre .proper, s .pre .here, requirement-few (s .args .v .req .order) _ (s .pre .real) (c .before .before .before .before .before .before .before .before .requirement .given .1))
+sort-added-requires c κs = let s =
+    c .before .before .before .before .before .before .before .before .before .before .before .before .before .before .before in (
+      s .pre .proper,
+      s .pre .here,
+      requirement-few (s .args .v .req .order) _ (s .pre .real)
+          (c .before .before .before .before .before .before .before .before .requirement .given .1),
+    )
 
 returns-5 : tie.Need-returns-5
-returns-5 c = let s = c .before .before .before .before .before .before .before .before .before .before .before .before .before .before .before .before in let n = decode (s .args .r .now) in let F = told (s .args .own .now) in let L = told (s .args .a .now) in let R = told (s .args .b .now) in let q = visitOf (s .args .v) in λ pl o z e.
-    node-tried pl n o q F L R z (s .args .limit) e (c .before .before .before .before .before .before .before .before .before .requirement .given .0 .0) (requirement-is (s .args .v .req .order) _ (s .pre .real) (c .before .before .before .before .before .before .before .before .before .requirement .given .1)) (requirement-some (s .args .v .req .order) _ (s .pre .real) (c .before .before .before .before .before .before .before .before .before .requirement .given .1)) _ (c .before .before .before .before .before .before .before .meets .result) (c .before .before .before .before .before .before .before .meets .ensures) (c .before .before .before .before .before .before .if1 .left)
-    (try-stop o o pl (c .sort-added .result) q (walk.pushDown (q .req .order) q o pl) (pushed-down pl n o q F L R z (s .args .limit) e (c .before .before .before .before .before .before .before .before .before .requirement .given .0 .0) (requirement-is (s .args .v .req .order) _ (s .pre .real) (c .before .before .before .before .before .before .before .before .before .requirement .given .1)) Stop (subst (λ (x : Pushed). Pushes (walk.childCount pl) (pushdownRequirementToChildren o (s .args .limit) (walk.childCount pl) (sem.facts pl) (keysOf (c .before .before .before .before .before .before .before .before .before .requirement .given .0 .0)) (q .req .fetch)) x) (c .before .before .before .enum-told2 .given .1) (c .before .before .before .before .before .pushdown-requirement-to-children .ensures o (sem.facts pl) (fetches pl) (walk.childCount pl) z e)))
-    (if-not o pl _ _ (needsMerge (sem.factsOp o (sem.facts pl)) (q .req .dist)) _ (sym (c .before .before .needs-merge .ensures ∙ ap (λ (G : sem.Facts). needsMerge G (q .req .dist)) (facts-like n o (sem.facts pl) (walk.childCount pl) F L R z)) ∙ c .before .if2 .left)
-    (subst (λ (l : List Key). Decides o pl (walk.covered (sortAboveWithDistribution (sem.factsOp o (sem.facts pl)) l (q .req .fetch) (q .req .dist)) 0 o (walk.withOwnDistribution o)) (c .sort-added .result)) (requirement-is (s .args .v .req .order) _ (s .pre .real) (c .before .before .before .before .before .before .before .before .before .requirement .given .1)) (c .sort-added .ensures pl o L R z))))
+returns-5 c = let s = c .before .before .before .before .before .before .before .before .before .before .before .before .before .before .before .before in
+    let n = decode (s .args .r .now) in let F = told (s .args .own .now) in let L = told (s .args .a .now) in let R = told (s .args .b .now) in
+    let q = visitOf (s .args .v) in λ pl o z e.
+    node-tried pl n o q F L R z (s .args .limit) e (c .before .before .before .before .before .before .before .before .before .requirement .given .0 .0)
+    (requirement-is (s .args .v .req .order) _ (s .pre .real)
+    (c .before .before .before .before .before .before .before .before .before .requirement .given .1))
+    (requirement-some (s .args .v .req .order) _ (s .pre .real)
+    (c .before .before .before .before .before .before .before .before .before .requirement .given .1)) _
+    (c .before .before .before .before .before .before .before .meets .result)
+    (c .before .before .before .before .before .before .before .meets .ensures) (c .before .before .before .before .before .before .if1 .left)
+    (try-stop o o pl (c .sort-added .result) q (walk.pushDown (q .req .order) q o pl)
+    (pushed-down pl n o q F L R z (s .args .limit) e
+    (c .before .before .before .before .before .before .before .before .before .requirement .given .0 .0)
+    (requirement-is (s .args .v .req .order) _ (s .pre .real)
+    (c .before .before .before .before .before .before .before .before .before .requirement .given .1)) Stop
+    (subst (λ (x : Pushed). Pushes (walk.childCount pl) (pushdownRequirementToChildren o (s .args .limit) (walk.childCount pl) (sem.facts pl)
+    (keysOf (c .before .before .before .before .before .before .before .before .before .requirement .given .0 .0)) (q .req .fetch)) x)
+    (c .before .before .before .enum-told2 .given .1) (c .before .before .before .before .before .pushdown-requirement-to-children .ensures o
+    (sem.facts pl) (fetches pl) (walk.childCount pl) z e)))
+    (if-not o pl _ _ (needsMerge (sem.factsOp o (sem.facts pl)) (q .req .dist)) _
+    (sym (c .before .before .needs-merge .ensures ∙ ap (λ (G : sem.Facts). needsMerge G (q .req .dist))
+    (facts-like n o (sem.facts pl) (walk.childCount pl) F L R z)) ∙ c .before .if2 .left)
+    (subst (λ (l : List Key). Decides o pl (walk.covered (sortAboveWithDistribution (sem.factsOp o (sem.facts pl)) l (q .req .fetch) (q .req .dist)) 0 o
+    (walk.withOwnDistribution o)) (c .sort-added .result))
+    (requirement-is (s .args .v .req .order) _ (s .pre .real)
+    (c .before .before .before .before .before .before .before .before .before .requirement .given .1)) (c .sort-added .ensures pl o L R z))))
 
 pub decide-node-spec : {M : Type 1} → statement M
 decide-node-spec =

@@ -27,10 +27,14 @@ stays-requires : tie.Need-stays-requires
 stays-requires c κs = search needs
 
 returns : tie.Need-returns
-returns c = let s = c .before .before .before .before .before .before in let n = decode (s .args .r .now) in λ pl o L R ks z h. let F = told (s .args .own .now) in let d = s .args .d in
-    stay-by o pl [] o (λ i. walk.handDown ks (s .args .fetch) (walk.effectiveDist (sem.factsOp o (sem.facts pl)) d) o i .req) 0 false false (c .before .no-nodes .result) (c .before .before .hand-down .result) (c .stays .result) (c .stays .ensures) (c .before .no-nodes .ensures) refl refl
+returns c = let s = c .before .before .before .before .before .before in let n = decode (s .args .r .now) in
+    λ pl o L R ks z h. let F = told (s .args .own .now) in let d = s .args .d in
+    stay-by o pl [] o (λ i. walk.handDown ks (s .args .fetch) (walk.effectiveDist (sem.factsOp o (sem.facts pl)) d) o i .req) 0 false false
+    (c .before .no-nodes .result) (c .before .before .hand-down .result) (c .stays .result) (c .stays .ensures) (c .before .no-nodes .ensures) refl refl
     (handed-like n o (sem.facts pl) (walk.childCount pl) F L R z (fetches pl) ks (s .args .fetch) (walk.effectiveDist (sem.factsOp o (sem.facts pl)) d) _
-    (subst (λ (e : Distribution). Asks (walk.childCount pl) (fetches pl) (λ i. walk.handDown ks (s .args .fetch) e n i .req) (c .before .before .hand-down .result)) (c .before .before .before .effective-distribution .ensures ∙ ap (λ (G : sem.Facts). walk.effectiveDist G d) (facts-like n o (sem.facts pl) (walk.childCount pl) F L R z)) (c .before .before .hand-down .ensures (walk.childCount pl) (fetches pl) ks h)))
+    (subst (λ (e : Distribution). Asks (walk.childCount pl) (fetches pl) (λ i. walk.handDown ks (s .args .fetch) e n i .req)
+    (c .before .before .hand-down .result)) (c .before .before .before .effective-distribution .ensures ∙ ap (λ (G : sem.Facts). walk.effectiveDist G d)
+    (facts-like n o (sem.facts pl) (walk.childCount pl) F L R z)) (c .before .before .hand-down .ensures (walk.childCount pl) (fetches pl) ks h)))
 
 pub handed-on-spec : {M : Type 1} → statement M
 handed-on-spec =

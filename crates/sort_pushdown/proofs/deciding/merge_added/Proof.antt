@@ -21,7 +21,9 @@ normal-form-requires : tie.Need-normal-form-requires
 normal-form-requires c κs = search needs
 
 pushdown-requirement-to-children-requires : tie.Need-pushdown-requirement-to-children-requires
-pushdown-requirement-to-children-requires c κs = let s = c .before .before .before .before .before .before in asked-again (s .args .r .now) (s .args .own .now) (s .args .a .now) (s .args .b .now) (s .args .order) (c .before .fresh-keys .result) (c .normal-form .result) (s .pre) (c .before .fresh-keys .ensures) (c .normal-form .ensures)
+pushdown-requirement-to-children-requires c κs = let s = c .before .before .before .before .before .before in
+    asked-again (s .args .r .now) (s .args .own .now) (s .args .a .now) (s .args .b .now) (s .args .order) (c .before .fresh-keys .result)
+    (c .normal-form .result) (s .pre) (c .before .fresh-keys .ensures) (c .normal-form .ensures)
 
 enum-known-p : tie.Need-enum-known-p
 enum-known-p c = search needs
@@ -39,8 +41,31 @@ stays-requires : tie.Need-stays-requires
 stays-requires c κs = search needs
 
 returns : tie.Need-returns
-returns c = let s = c .before .before .before .before .before .before .before .before .before .before .before .before .before .before in let n = decode (s .args .r .now) in let F = told (s .args .own .now) in let L = told (s .args .a .now) in let R = told (s .args .b .now) in λ pl o q z e eo ef.
-    merge-goes pl n o q F L R z (s .args .limit) (s .args .fetch) (s .args .order) (c .before .before .before .before .before .before .before .before .before .fresh-keys .result) (c .before .before .before .before .before .before .before .before .normal-form .result) e eo ef (c .before .before .before .before .before .before .before .before .before .fresh-keys .ensures) (c .before .before .before .before .before .before .before .before .normal-form .ensures) (c .before .merge-only .result) (c .before .before .hand-down .result) (c .stays .result) _ _ (subst (λ (x : Pushed). Pushes (walk.childCount pl) (pushdownRequirementToChildren (rebuilt o (sem.facts pl)) (s .args .limit) (walk.childCount pl) (sem.facts pl) (keysOf (c .before .before .before .before .before .before .before .before .normal-form .result)) (s .args .fetch)) x) (c .before .before .before .before .before .p .given .1) (c .before .before .before .before .before .before .before .pushdown-requirement-to-children .ensures (rebuilt o (sem.facts pl)) (sem.facts pl) (fetches pl) (walk.childCount pl) (seen₁ pl n o q F L R z (s .args .limit) (s .args .fetch) (s .args .order) (c .before .before .before .before .before .before .before .before .before .fresh-keys .result) (c .before .before .before .before .before .before .before .before .normal-form .result) e eo ef (c .before .before .before .before .before .before .before .before .before .fresh-keys .ensures) (c .before .before .before .before .before .before .before .before .normal-form .ensures)) (limit₁ pl n o q F L R z (s .args .limit) (s .args .fetch) (s .args .order) (c .before .before .before .before .before .before .before .before .before .fresh-keys .result) (c .before .before .before .before .before .before .before .before .normal-form .result) e eo ef (c .before .before .before .before .before .before .before .before .before .fresh-keys .ensures) (c .before .before .before .before .before .before .before .before .normal-form .ensures)))) (c .before .before .before .min-fetch .result) (c .before .before .before .min-fetch .ensures) (c .stays .ensures) (c .before .merge-only .ensures) (λ ks k. c .before .before .hand-down .ensures (walk.childCount pl) (fetches pl) ks k)
+returns c = let s = c .before .before .before .before .before .before .before .before .before .before .before .before .before .before in
+    let n = decode (s .args .r .now) in let F = told (s .args .own .now) in let L = told (s .args .a .now) in let R = told (s .args .b .now) in
+    λ pl o q z e eo ef.
+    merge-goes pl n o q F L R z (s .args .limit) (s .args .fetch) (s .args .order)
+    (c .before .before .before .before .before .before .before .before .before .fresh-keys .result)
+    (c .before .before .before .before .before .before .before .before .normal-form .result) e eo ef
+    (c .before .before .before .before .before .before .before .before .before .fresh-keys .ensures)
+    (c .before .before .before .before .before .before .before .before .normal-form .ensures) (c .before .merge-only .result)
+    (c .before .before .hand-down .result) (c .stays .result) _ _
+    (subst (λ (x : Pushed). Pushes (walk.childCount pl) (pushdownRequirementToChildren (rebuilt o (sem.facts pl)) (s .args .limit) (walk.childCount pl)
+    (sem.facts pl) (keysOf (c .before .before .before .before .before .before .before .before .normal-form .result)) (s .args .fetch)) x)
+    (c .before .before .before .before .before .p .given .1)
+    (c .before .before .before .before .before .before .before .pushdown-requirement-to-children .ensures (rebuilt o (sem.facts pl)) (sem.facts pl)
+    (fetches pl) (walk.childCount pl) (seen₁ pl n o q F L R z (s .args .limit) (s .args .fetch) (s .args .order)
+    (c .before .before .before .before .before .before .before .before .before .fresh-keys .result)
+    (c .before .before .before .before .before .before .before .before .normal-form .result) e eo ef
+    (c .before .before .before .before .before .before .before .before .before .fresh-keys .ensures)
+    (c .before .before .before .before .before .before .before .before .normal-form .ensures))
+    (limit₁ pl n o q F L R z (s .args .limit) (s .args .fetch) (s .args .order)
+    (c .before .before .before .before .before .before .before .before .before .fresh-keys .result)
+    (c .before .before .before .before .before .before .before .before .normal-form .result) e eo ef
+    (c .before .before .before .before .before .before .before .before .before .fresh-keys .ensures)
+    (c .before .before .before .before .before .before .before .before .normal-form .ensures)))) (c .before .before .before .min-fetch .result)
+    (c .before .before .before .min-fetch .ensures) (c .stays .ensures) (c .before .merge-only .ensures)
+    (λ ks k. c .before .before .hand-down .ensures (walk.childCount pl) (fetches pl) ks k)
 
 enum-told : tie.Need-enum-told
 enum-told c = search needs
@@ -55,8 +80,30 @@ stays-requires-2 : tie.Need-stays-requires-2
 stays-requires-2 c κs = search needs
 
 returns-2 : tie.Need-returns-2
-returns-2 c = let s = c .before .before .before .before .before .before .before .before .before .before .before .before in let n = decode (s .args .r .now) in let F = told (s .args .own .now) in let L = told (s .args .a .now) in let R = told (s .args .b .now) in λ pl o q z e eo ef.
-    merge-stop pl n o q F L R z (s .args .limit) (s .args .fetch) (s .args .order) (c .before .before .before .before .before .before .before .fresh-keys .result) (c .before .before .before .before .before .before .normal-form .result) e eo ef (c .before .before .before .before .before .before .before .fresh-keys .ensures) (c .before .before .before .before .before .before .normal-form .ensures) (c .before .before .merge-and-sort .result) (c .before .with-own-distribution .result) (c .stays2 .result) (subst (λ (x : Pushed). Pushes (walk.childCount pl) (pushdownRequirementToChildren (rebuilt o (sem.facts pl)) (s .args .limit) (walk.childCount pl) (sem.facts pl) (keysOf (c .before .before .before .before .before .before .normal-form .result)) (s .args .fetch)) x) (c .before .before .before .enum-told .given .1) (c .before .before .before .before .before .pushdown-requirement-to-children .ensures (rebuilt o (sem.facts pl)) (sem.facts pl) (fetches pl) (walk.childCount pl) (seen₁ pl n o q F L R z (s .args .limit) (s .args .fetch) (s .args .order) (c .before .before .before .before .before .before .before .fresh-keys .result) (c .before .before .before .before .before .before .normal-form .result) e eo ef (c .before .before .before .before .before .before .before .fresh-keys .ensures) (c .before .before .before .before .before .before .normal-form .ensures)) (limit₁ pl n o q F L R z (s .args .limit) (s .args .fetch) (s .args .order) (c .before .before .before .before .before .before .before .fresh-keys .result) (c .before .before .before .before .before .before .normal-form .result) e eo ef (c .before .before .before .before .before .before .before .fresh-keys .ensures) (c .before .before .before .before .before .before .normal-form .ensures)))) (c .stays2 .ensures) (c .before .before .merge-and-sort .ensures) (c .before .with-own-distribution .ensures (walk.childCount pl) (fetches pl))
+returns-2 c = let s = c .before .before .before .before .before .before .before .before .before .before .before .before in
+    let n = decode (s .args .r .now) in let F = told (s .args .own .now) in let L = told (s .args .a .now) in let R = told (s .args .b .now) in
+    λ pl o q z e eo ef.
+    merge-stop pl n o q F L R z (s .args .limit) (s .args .fetch) (s .args .order)
+    (c .before .before .before .before .before .before .before .fresh-keys .result)
+    (c .before .before .before .before .before .before .normal-form .result) e eo ef
+    (c .before .before .before .before .before .before .before .fresh-keys .ensures)
+    (c .before .before .before .before .before .before .normal-form .ensures) (c .before .before .merge-and-sort .result)
+    (c .before .with-own-distribution .result) (c .stays2 .result)
+    (subst (λ (x : Pushed). Pushes (walk.childCount pl) (pushdownRequirementToChildren (rebuilt o (sem.facts pl)) (s .args .limit) (walk.childCount pl)
+    (sem.facts pl) (keysOf (c .before .before .before .before .before .before .normal-form .result)) (s .args .fetch)) x)
+    (c .before .before .before .enum-told .given .1) (c .before .before .before .before .before .pushdown-requirement-to-children .ensures
+    (rebuilt o (sem.facts pl)) (sem.facts pl) (fetches pl) (walk.childCount pl)
+    (seen₁ pl n o q F L R z (s .args .limit) (s .args .fetch) (s .args .order)
+    (c .before .before .before .before .before .before .before .fresh-keys .result)
+    (c .before .before .before .before .before .before .normal-form .result) e eo ef
+    (c .before .before .before .before .before .before .before .fresh-keys .ensures)
+    (c .before .before .before .before .before .before .normal-form .ensures))
+    (limit₁ pl n o q F L R z (s .args .limit) (s .args .fetch) (s .args .order)
+    (c .before .before .before .before .before .before .before .fresh-keys .result)
+    (c .before .before .before .before .before .before .normal-form .result) e eo ef
+    (c .before .before .before .before .before .before .before .fresh-keys .ensures)
+    (c .before .before .before .before .before .before .normal-form .ensures)))) (c .stays2 .ensures) (c .before .before .merge-and-sort .ensures)
+    (c .before .with-own-distribution .ensures (walk.childCount pl) (fetches pl))
 
 pub merge-added-spec : {M : Type 1} → statement M
 merge-added-spec =

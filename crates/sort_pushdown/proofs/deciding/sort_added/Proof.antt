@@ -25,8 +25,11 @@ stays-requires c κs = search needs
 
 returns : tie.Need-returns
 returns c = let s = c .before .before .before .before .before in let n = decode (s .args .r .now) in λ pl o L R z. let F = told (s .args .own .now) in
-    stay-by o pl _ o (λ i. walk.withOwnDistribution o i .req) 0 false false (c .before .before .sort-above-with-distribution .result) (c .before .with-own-distribution .result) (c .stays .result) (c .stays .ensures)
-    (subst (λ (G : sem.Facts). Adds (sortAboveWithDistribution G (keysOf (s .args .order)) (s .args .fetch) (s .args .d)) (c .before .before .sort-above-with-distribution .result)) (facts-like n o (sem.facts pl) (walk.childCount pl) F L R z) (c .before .before .sort-above-with-distribution .ensures)) refl refl
+    stay-by o pl _ o (λ i. walk.withOwnDistribution o i .req) 0 false false (c .before .before .sort-above-with-distribution .result)
+    (c .before .with-own-distribution .result) (c .stays .result) (c .stays .ensures)
+    (subst (λ (G : sem.Facts). Adds (sortAboveWithDistribution G (keysOf (s .args .order)) (s .args .fetch) (s .args .d))
+    (c .before .before .sort-above-with-distribution .result)) (facts-like n o (sem.facts pl) (walk.childCount pl) F L R z)
+    (c .before .before .sort-above-with-distribution .ensures)) refl refl
     (own-like n o (sem.facts pl) (walk.childCount pl) F L R z (fetches pl) _ (c .before .with-own-distribution .ensures (walk.childCount pl) (fetches pl)))
 
 pub sort-added-spec : {M : Type 1} → statement M

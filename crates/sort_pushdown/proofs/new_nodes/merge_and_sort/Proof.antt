@@ -19,7 +19,10 @@ several-streams-requires : tie.Need-several-streams-requires
 several-streams-requires c κs = search needs
 
 returns : tie.Need-returns
-returns c = let s = c .before .before .before .before .before in merge-above (told (s .args .own .now)) (keysOf (s .args .order)) _ (s .args .sfetch) (c .before .order-of2 .result) (c .several-streams .result) (c .before .before .fresh-keys .ensures .is) (c .before .order-of2 .ensures) (c .several-streams .ensures) (keysOf (s .args .keys)) (c .before .before .before .order-of .result) (s .args .fetch) (c .before .before .before .order-of .ensures)
+returns c = let s = c .before .before .before .before .before in
+    merge-above (told (s .args .own .now)) (keysOf (s .args .order)) _ (s .args .sfetch) (c .before .order-of2 .result) (c .several-streams .result)
+    (c .before .before .fresh-keys .ensures .is) (c .before .order-of2 .ensures) (c .several-streams .ensures) (keysOf (s .args .keys))
+    (c .before .before .before .order-of .result) (s .args .fetch) (c .before .before .before .order-of .ensures)
 
 pub merge-and-sort-spec : {M : Type 1} → statement M
 merge-and-sort-spec =

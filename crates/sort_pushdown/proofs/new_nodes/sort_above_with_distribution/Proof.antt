@@ -22,10 +22,16 @@ needs-merge-requires : tie.Need-needs-merge-requires
 needs-merge-requires c κs = search needs
 
 returns : tie.Need-returns
-returns c = let s = c .before .before .before .before .before .before in above-merge (told (s .args .own .now)) (keysOf (s .args .order)) _ (s .args .fetch) (c .before .before .before .order-of .result) (c .before .before .several-streams .result) (c .before .before .before .before .fresh-keys .ensures .is) (c .before .before .before .order-of .ensures) (c .before .before .several-streams .ensures) (s .args .d) (sym (c .before .needs-merge .ensures) ∙ c .if1 .taken)
+returns c = let s = c .before .before .before .before .before .before in
+    above-merge (told (s .args .own .now)) (keysOf (s .args .order)) _ (s .args .fetch) (c .before .before .before .order-of .result)
+    (c .before .before .several-streams .result) (c .before .before .before .before .fresh-keys .ensures .is) (c .before .before .before .order-of .ensures)
+    (c .before .before .several-streams .ensures) (s .args .d) (sym (c .before .needs-merge .ensures) ∙ c .if1 .taken)
 
 returns-2 : tie.Need-returns-2
-returns-2 c = let s = c .before .before .before .before .before .before in above-sort (told (s .args .own .now)) (keysOf (s .args .order)) _ (s .args .fetch) (c .before .before .before .order-of .result) (c .before .before .several-streams .result) (c .before .before .before .before .fresh-keys .ensures .is) (c .before .before .before .order-of .ensures) (c .before .before .several-streams .ensures) (s .args .d) (sym (c .before .needs-merge .ensures) ∙ c .if1 .left)
+returns-2 c = let s = c .before .before .before .before .before .before in
+    above-sort (told (s .args .own .now)) (keysOf (s .args .order)) _ (s .args .fetch) (c .before .before .before .order-of .result)
+    (c .before .before .several-streams .result) (c .before .before .before .before .fresh-keys .ensures .is) (c .before .before .before .order-of .ensures)
+    (c .before .before .several-streams .ensures) (s .args .d) (sym (c .before .needs-merge .ensures) ∙ c .if1 .left)
 
 pub sort-above-with-distribution-spec : {M : Type 1} → statement M
 sort-above-with-distribution-spec =

@@ -12,7 +12,8 @@ wanted-distribution-requires : tie.Need-wanted-distribution-requires
 wanted-distribution-requires c κs = search needs
 
 returns : tie.Need-returns
-returns c = c .wanted-distribution .ensures ∙ sym (ap (λ (b : Bool). cond b (distOf (decode (c .before .before .before .args .r .now)) 0) Unspecified) (c .before .if1 .taken))
+returns c = c .wanted-distribution .ensures ∙ sym (ap (λ (b : Bool). cond b (distOf (decode (c .before .before .before .args .r .now)) 0) Unspecified)
+    (c .before .if1 .taken))
 
 returns-2 : tie.Need-returns-2
 returns-2 c = search needs

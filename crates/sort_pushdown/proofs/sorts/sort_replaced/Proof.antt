@@ -27,9 +27,14 @@ removed-requires : tie.Need-removed-requires
 removed-requires c κs = search needs
 
 returns : tie.Need-returns
-returns c = λ p ks f pl x. let s = c .before .before .before .before .before .before .before .before in let n = decode (s .args .r .now) in let q = s .args .v .req in let C = told (s .args .a .now) in
-    gone-by p ks f pl _ _ false (c .before .sort-above-with-distribution .result) _ _ (c .removed .ensures) (subst (λ (l : List Key). Adds (sortAboveWithDistribution C l (q .fetch) (q .distribution)) (c .before .sort-above-with-distribution .result)) (s .pre .4) (c .before .sort-above-with-distribution .ensures))
-    (parts _ _ Unspecified (orderOf (c .before .before .before .known-order .result)) (c .before .before .fetch .result) Unspecified (c .before .before .before .known-order .ensures .is) (sort-cut n p ks f (c .before .before .fetch .result) x (c .before .before .fetch .ensures)) refl) (c .before .before .before .known-order .ensures .real)
+returns c = λ p ks f pl x. let s = c .before .before .before .before .before .before .before .before in let n = decode (s .args .r .now) in
+    let q = s .args .v .req in let C = told (s .args .a .now) in
+    gone-by p ks f pl _ _ false (c .before .sort-above-with-distribution .result) _ _ (c .removed .ensures)
+    (subst (λ (l : List Key). Adds (sortAboveWithDistribution C l (q .fetch) (q .distribution)) (c .before .sort-above-with-distribution .result))
+    (s .pre .4) (c .before .sort-above-with-distribution .ensures))
+    (parts _ _ Unspecified (orderOf (c .before .before .before .known-order .result)) (c .before .before .fetch .result) Unspecified
+    (c .before .before .before .known-order .ensures .is) (sort-cut n p ks f (c .before .before .fetch .result) x (c .before .before .fetch .ensures))
+    refl) (c .before .before .before .known-order .ensures .real)
 
 pub sort-replaced-spec : {M : Type 1} → statement M
 sort-replaced-spec =

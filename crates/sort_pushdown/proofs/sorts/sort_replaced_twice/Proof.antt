@@ -43,12 +43,20 @@ removed-requires : tie.Need-removed-requires
 removed-requires c κs = search needs
 
 returns : tie.Need-returns
-returns c = λ p ks f pl x. let s = c .before .before .before .before .before .before .before .before .before .before .before .before in let n = decode (s .args .r .now) in let q = s .args .v .req in let C = told (s .args .a .now) in let e = c .before .before .before .before .before .before .before .fresh-keys .ensures .is ∙ ap (freshKeys C []) (s .pre .4) in
+returns c = λ p ks f pl x. let s = c .before .before .before .before .before .before .before .before .before .before .before .before in
+    let n = decode (s .args .r .now) in let q = s .args .v .req in let C = told (s .args .a .now) in
+    let e = c .before .before .before .before .before .before .before .fresh-keys .ensures .is ∙ ap (freshKeys C []) (s .pre .4) in
     gone-by p ks f pl _ _ false (c .before .merge-and-sort .result) _ _ (c .removed .ensures)
     (subst (λ (l : List Op). Adds l (c .before .merge-and-sort .result))
-    (ap₂ (λ (l : List Key) (m : List Key). newMerge l (q .fetch) ++ sortAboveWithDistribution C m (c .before .before .fetch .result) Unspecified) e (c .before .before .before .keys-in .ensures .is ∙ c .before .before .before .before .known-order .ensures .is) ∙ ap (λ (g : Fetch). newMerge (freshKeys C [] (orderOf (q .order))) (q .fetch) ++ sortAboveWithDistribution C (sem.knownOrder (told (s .args .own .now))) g Unspecified) (sort-cut n p ks f (c .before .before .fetch .result) x (c .before .before .fetch .ensures)))
+    (ap₂ (λ (l : List Key) (m : List Key). newMerge l (q .fetch) ++ sortAboveWithDistribution C m (c .before .before .fetch .result) Unspecified) e
+    (c .before .before .before .keys-in .ensures .is ∙ c .before .before .before .before .known-order .ensures .is)
+    ∙ ap (λ (g : Fetch). newMerge (freshKeys C [] (orderOf (q .order))) (q .fetch) ++ sortAboveWithDistribution C
+    (sem.knownOrder (told (s .args .own .now))) g Unspecified)
+    (sort-cut n p ks f (c .before .before .fetch .result) x (c .before .before .fetch .ensures)))
     (c .before .merge-and-sort .ensures))
-    (parts _ (q .fetch) Unspecified (orderOf (c .before .before .before .before .before .order-of .result)) (q .fetch) Unspecified (c .before .before .before .before .before .order-of .ensures .is ∙ c .before .before .before .before .before .before .normal-form .ensures .is ∙ ap (sem.nf C []) e) refl refl) (c .before .before .before .before .before .order-of .ensures .real)
+    (parts _ (q .fetch) Unspecified (orderOf (c .before .before .before .before .before .order-of .result)) (q .fetch) Unspecified
+    (c .before .before .before .before .before .order-of .ensures .is ∙ c .before .before .before .before .before .before .normal-form .ensures .is
+    ∙ ap (sem.nf C []) e) refl refl) (c .before .before .before .before .before .order-of .ensures .real)
 
 pub sort-replaced-twice-spec : {M : Type 1} → statement M
 sort-replaced-twice-spec =

@@ -30,9 +30,15 @@ removed-requires : tie.Need-removed-requires
 removed-requires c κs = search needs
 
 returns : tie.Need-returns
-returns c = λ p ks f pl x. let s = c .before .before .before .before .before .before .before .before .before in let n = decode (s .args .r .now) in let q = s .args .v .req in
+returns c = λ p ks f pl x. let s = c .before .before .before .before .before .before .before .before .before in let n = decode (s .args .r .now) in
+    let q = s .args .v .req in
     gone-by p ks f pl [] _ true (c .before .no-nodes .result) _ _ (c .removed .ensures) (c .before .no-nodes .ensures)
-    (parts _ _ _ (orderOf (c .before .before .before .before .known-order .result)) (c .before .before .before .min-fetch .result) (c .before .before .root-distribution .result) (c .before .before .before .before .known-order .ensures .is) (c .before .before .before .min-fetch .ensures ∙ ap (λ (g : Fetch). minFetch g (q .fetch)) (sort-cut n p ks f (c .before .before .before .before .before .fetch .result) x (c .before .before .before .before .before .fetch .ensures))) (sort-dist n p ks f (s .args .v .root) (c .before .before .root-distribution .result) x (c .before .before .root-distribution .ensures))) (c .before .before .before .before .known-order .ensures .real)
+    (parts _ _ _ (orderOf (c .before .before .before .before .known-order .result)) (c .before .before .before .min-fetch .result)
+    (c .before .before .root-distribution .result) (c .before .before .before .before .known-order .ensures .is)
+    (c .before .before .before .min-fetch .ensures ∙ ap (λ (g : Fetch). minFetch g (q .fetch))
+    (sort-cut n p ks f (c .before .before .before .before .before .fetch .result) x (c .before .before .before .before .before .fetch .ensures)))
+    (sort-dist n p ks f (s .args .v .root) (c .before .before .root-distribution .result) x (c .before .before .root-distribution .ensures)))
+    (c .before .before .before .before .known-order .ensures .real)
 
 pub sort-unasked-spec : {M : Type 1} → statement M
 sort-unasked-spec =

@@ -32,9 +32,15 @@ removed-requires : tie.Need-removed-requires
 removed-requires c κs = search needs
 
 returns : tie.Need-returns
-returns c = λ p ks f pl x. let s = c .before .before .before .before .before .before .before .before .before .before in let n = decode (s .args .r .now) in let q = s .args .v .req in let C = told (s .args .a .now) in
+returns c = λ p ks f pl x. let s = c .before .before .before .before .before .before .before .before .before .before in let n = decode (s .args .r .now) in
+    let q = s .args .v .req in let C = told (s .args .a .now) in
     gone-by p ks f pl [] _ true (c .before .no-nodes .result) _ _ (c .removed .ensures) (c .before .no-nodes .ensures)
-    (parts _ _ Unspecified (orderOf (c .before .before .before .stricter .result)) (c .before .before .min-fetch .result) Unspecified (stricter-is C (c .before .before .before .stricter .result) (c .before .before .before .before .known-order .result) (s .args .parent) _ _ (c .before .before .before .stricter .ensures) (c .before .before .before .before .known-order .ensures .is) (s .pre .4)) (c .before .before .min-fetch .ensures ∙ ap (λ (g : Fetch). minFetch g (q .fetch)) (sort-cut n p ks f (c .before .before .before .before .before .fetch .result) x (c .before .before .before .before .before .fetch .ensures))) refl) (c .before .before .before .stricter .ensures .real)
+    (parts _ _ Unspecified (orderOf (c .before .before .before .stricter .result)) (c .before .before .min-fetch .result) Unspecified
+    (stricter-is C (c .before .before .before .stricter .result) (c .before .before .before .before .known-order .result) (s .args .parent) _ _
+    (c .before .before .before .stricter .ensures) (c .before .before .before .before .known-order .ensures .is) (s .pre .4))
+    (c .before .before .min-fetch .ensures ∙ ap (λ (g : Fetch). minFetch g (q .fetch))
+    (sort-cut n p ks f (c .before .before .before .before .before .fetch .result) x (c .before .before .before .before .before .fetch .ensures))) refl)
+    (c .before .before .before .stricter .ensures .real)
 
 pub sort-unnecessary-spec : {M : Type 1} → statement M
 sort-unnecessary-spec =

@@ -13,13 +13,18 @@ compatible-requires : tie.Need-compatible-requires
 compatible-requires c κs = search needs
 
 returns : tie.Need-returns
-returns c = let s = c .before .before .before .before in stricter-own (told (s .args .a .now)) (s .args .own) (c .before .before .keys-in .result) (keysOf (s .args .parent)) (c .before .before .keys-in .ensures) (c .before .compatible .result) (c .before .compatible .ensures) (c .if1 .taken) (s .pre .1)
+returns c = let s = c .before .before .before .before in
+    stricter-own (told (s .args .a .now)) (s .args .own) (c .before .before .keys-in .result) (keysOf (s .args .parent))
+    (c .before .before .keys-in .ensures) (c .before .compatible .result) (c .before .compatible .ensures) (c .if1 .taken) (s .pre .1)
 
 order-of-requires : tie.Need-order-of-requires
 order-of-requires c κs = search needs
 
 returns-2 : tie.Need-returns-2
-returns-2 c = let s = c .before .before .before .before .before in stricter-parent (told (s .args .a .now)) (s .args .own) (c .before .before .before .keys-in .result) (keysOf (s .args .parent)) (c .before .before .before .keys-in .ensures) (c .before .before .compatible .result) (c .before .before .compatible .ensures) (c .before .if1 .left) (c .order-of .result) (c .order-of .ensures)
+returns-2 c = let s = c .before .before .before .before .before in
+    stricter-parent (told (s .args .a .now)) (s .args .own) (c .before .before .before .keys-in .result) (keysOf (s .args .parent))
+    (c .before .before .before .keys-in .ensures) (c .before .before .compatible .result) (c .before .before .compatible .ensures) (c .before .if1 .left)
+    (c .order-of .result) (c .order-of .ensures)
 
 pub stricter-spec : {M : Type 1} → statement M
 stricter-spec =

@@ -21,7 +21,10 @@ compatible-requires : tie.Need-compatible-requires
 compatible-requires c κs = search needs
 
 returns : tie.Need-returns
-returns c = let F = told (c .before .before .before .before .before .args .own .now) in ap₂ _||_ (c .before .before .before .meets .ensures) (c .compatible .ensures ∙ ap (sem.compatible F (keysOf (c .before .before .before .before .before .args .parent))) (c .before .keys-in .ensures .is ∙ c .before .before .known-order .ensures .is))
+returns c = let F = told (c .before .before .before .before .before .args .own .now) in
+    ap₂ _||_ (c .before .before .before .meets .ensures)
+    (c .compatible .ensures ∙ ap (sem.compatible F (keysOf (c .before .before .before .before .before .args .parent)))
+    (c .before .keys-in .ensures .is ∙ c .before .before .known-order .ensures .is))
 
 pub unnecessary-spec : {M : Type 1} → statement M
 unnecessary-spec =

@@ -16,7 +16,8 @@ is-ordered-requires : tie.Need-is-ordered-requires
 is-ordered-requires c κs = search needs
 
 returns : tie.Need-returns
-returns c = ap₂ _&&_ (c .before .is-sort .ensures ∙ sort-code (decode (c .before .before .before .before .args .r .now))) (ap not (c .is-ordered .ensures) ∙ not-not (sem.isNil (sem.knownOrder (told (c .before .before .before .before .args .own .now)))))
+returns c = ap₂ _&&_ (c .before .is-sort .ensures ∙ sort-code (decode (c .before .before .before .before .args .r .now)))
+    (ap not (c .is-ordered .ensures) ∙ not-not (sem.isNil (sem.knownOrder (told (c .before .before .before .before .args .own .now)))))
 
 pub constant-sort-spec : {M : Type 1} → statement M
 constant-sort-spec = tie.close (tie.spec is-sort-requires is-ordered-requires returns)

@@ -18,7 +18,9 @@ constant-sort-requires : tie.Need-constant-sort-requires
 constant-sort-requires c κs = search needs
 
 returns : tie.Need-returns
-returns c = let s = c .before .before .before .before in let d = s .args .d in let k = isSort (decode (s .args .r .now)) && sem.isNil (sem.knownOrder (told (s .args .own .now))) in step-so k (d .quiet) (d .peak) (afterBy d (s .args .count)) (sym (c .before .constant-sort .ensures) ∙ c .if1 .taken)
+returns c = let s = c .before .before .before .before in let d = s .args .d in
+    let k = isSort (decode (s .args .r .now)) && sem.isNil (sem.knownOrder (told (s .args .own .now))) in
+    step-so k (d .quiet) (d .peak) (afterBy d (s .args .count)) (sym (c .before .constant-sort .ensures) ∙ c .if1 .taken)
 
 nodes-after-requires : tie.Need-nodes-after-requires
 nodes-after-requires c κs = search needs
@@ -30,10 +32,20 @@ add-if2 : tie.Need-add-if2
 add-if2 c = search needs
 
 returns-2 : tie.Need-returns-2
-returns-2 c = let s = c .before .before .before .before .before .before .before .before in let d = s .args .d in let k = isSort (decode (s .args .r .now)) && sem.isNil (sem.knownOrder (told (s .args .own .now))) in step-over k (d .quiet) (d .peak) (afterBy d (s .args .count)) (sym (c .before .before .before .before .before .constant-sort .ensures) ∙ c .before .before .before .before .if1 .left) (ap₂ (λ (n : ℕ) (m : ℕ). not (d .quiet) && tooMany (n + m)) (sym (c .before .before .before .nodes-after .ensures .0)) (sym (c .before .one-if .ensures .0)) ∙ c .if2 .taken)
+returns-2 c = let s = c .before .before .before .before .before .before .before .before in let d = s .args .d in
+    let k = isSort (decode (s .args .r .now)) && sem.isNil (sem.knownOrder (told (s .args .own .now))) in
+    step-over k (d .quiet) (d .peak) (afterBy d (s .args .count)) (sym (c .before .before .before .before .before .constant-sort .ensures)
+    ∙ c .before .before .before .before .if1 .left)
+    (ap₂ (λ (n : ℕ) (m : ℕ). not (d .quiet) && tooMany (n + m)) (sym (c .before .before .before .nodes-after .ensures .0))
+    (sym (c .before .one-if .ensures .0)) ∙ c .if2 .taken)
 
 returns-3 : tie.Need-returns-3
-returns-3 c = let s = c .before .before .before .before .before .before .before .before in let d = s .args .d in let k = isSort (decode (s .args .r .now)) && sem.isNil (sem.knownOrder (told (s .args .own .now))) in ap On (c .before .before .before .nodes-after .ensures .0) ∙ step-goes k (d .quiet) (d .peak) (afterBy d (s .args .count)) (sym (c .before .before .before .before .before .constant-sort .ensures) ∙ c .before .before .before .before .if1 .left) (ap₂ (λ (n : ℕ) (m : ℕ). not (d .quiet) && tooMany (n + m)) (sym (c .before .before .before .nodes-after .ensures .0)) (sym (c .before .one-if .ensures .0)) ∙ c .if2 .left)
+returns-3 c = let s = c .before .before .before .before .before .before .before .before in let d = s .args .d in
+    let k = isSort (decode (s .args .r .now)) && sem.isNil (sem.knownOrder (told (s .args .own .now))) in
+    ap On (c .before .before .before .nodes-after .ensures .0) ∙ step-goes k (d .quiet) (d .peak) (afterBy d (s .args .count))
+    (sym (c .before .before .before .before .before .constant-sort .ensures) ∙ c .before .before .before .before .if1 .left)
+    (ap₂ (λ (n : ℕ) (m : ℕ). not (d .quiet) && tooMany (n + m)) (sym (c .before .before .before .nodes-after .ensures .0))
+    (sym (c .before .one-if .ensures .0)) ∙ c .if2 .left)
 
 pub step-at-spec : {M : Type 1} → statement M
 step-at-spec =

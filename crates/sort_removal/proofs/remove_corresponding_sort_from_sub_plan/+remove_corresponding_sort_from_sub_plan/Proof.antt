@@ -64,12 +64,35 @@ remove-corresponding-sort-from-sub-plan-below t =
 
 -- what the calls ask and give
 abbrev calls : ℕ → remove-corresponding-sort-from-sub-plan-lts.Claims
-calls t =
-    (is-marked-reads.Asked, is-marked-reads.Learnt, record-at-reads.Asked, record-at-reads.Learnt, read64-reads.Asked, read64-reads.Learnt, is-sort-reads.Asked, is-sort-reads.Learnt, remove-sort-reads.Asked, remove-sort-reads.Learnt, child-count-reads.Asked, child-count-reads.Learnt, child-reads.Asked, child-reads.Learnt, wants-single-reads.Asked, wants-single-reads.Learnt, remove-corresponding-sort-from-sub-plan-below t, remove-corresponding-sort-from-sub-plan.Post, remove-by-reads.Asked, remove-by-reads.Learnt, with-single-stream-reads.Asked, with-single-stream-reads.Learnt)
+calls t = (
+  is-marked-reads.Asked,
+  is-marked-reads.Learnt,
+  record-at-reads.Asked,
+  record-at-reads.Learnt,
+  read64-reads.Asked,
+  read64-reads.Learnt,
+  is-sort-reads.Asked,
+  is-sort-reads.Learnt,
+  remove-sort-reads.Asked,
+  remove-sort-reads.Learnt,
+  child-count-reads.Asked,
+  child-count-reads.Learnt,
+  child-reads.Asked,
+  child-reads.Learnt,
+  wants-single-reads.Asked,
+  wants-single-reads.Learnt,
+  remove-corresponding-sort-from-sub-plan-below t,
+  remove-corresponding-sort-from-sub-plan.Post,
+  remove-by-reads.Asked,
+  remove-by-reads.Learnt,
+  with-single-stream-reads.Asked,
+  with-single-stream-reads.Learnt,
+)
 
 abbrev remove-corresponding-sort-from-sub-plan-Inv-loop :
     remove-corresponding-sort-from-sub-plan-lts.InvT-loop
-remove-corresponding-sort-from-sub-plan-Inv-loop m₀ u h single i r n kids₀ w₀ j₀ m kids w j = (n ≡ length (slot m₀ (index h) .kids)) × (j ≤ n) × Going m₀ u h j w kids m
+remove-corresponding-sort-from-sub-plan-Inv-loop m₀ u h single i r n kids₀ w₀ j₀ m kids w j = (n ≡ length (slot m₀ (index h) .kids)) × (j ≤ n)
+    × Going m₀ u h j w kids m
 
 abbrev remove-corresponding-sort-from-sub-plan-μ-loop :
     remove-corresponding-sort-from-sub-plan-lts.MeasureT-loop
@@ -89,7 +112,8 @@ remove-corresponding-sort-from-sub-plan-returns :
     remove-corresponding-sort-from-sub-plan.Post
     remove-corresponding-sort-from-sub-plan-Inv-loop
     remove-corresponding-sort-from-sub-plan-μ-loop
-remove-corresponding-sort-from-sub-plan-returns t c = let s = c .before .before .before in unmarked (s .args .m .now) (s .args .u) (s .args .h) (s .pre .1) (s .args .single) (sym (c .before .is-marked .ensures) ∙ not-true _ (c .if1 .taken))
+remove-corresponding-sort-from-sub-plan-returns t c = let s = c .before .before .before in
+    unmarked (s .args .m .now) (s .args .u) (s .args .h) (s .pre .1) (s .args .single) (sym (c .before .is-marked .ensures) ∙ not-true _ (c .if1 .taken))
 
 remove-corresponding-sort-from-sub-plan-record-at-requires :
     (t : ℕ) → remove-corresponding-sort-from-sub-plan-lts.Need-record-at-requires (calls t)
@@ -97,7 +121,8 @@ remove-corresponding-sort-from-sub-plan-record-at-requires :
     remove-corresponding-sort-from-sub-plan.Post
     remove-corresponding-sort-from-sub-plan-Inv-loop
     remove-corresponding-sort-from-sub-plan-μ-loop
-remove-corresponding-sort-from-sub-plan-record-at-requires t c κs = let s = c .before .before .before .before in slot-room (s .args .m .now) (s .args .u) (s .args .h) (standing (s .args .m .now) (s .args .u) (s .args .h) (s .pre .1))
+remove-corresponding-sort-from-sub-plan-record-at-requires t c κs = let s = c .before .before .before .before in
+    slot-room (s .args .m .now) (s .args .u) (s .args .h) (standing (s .args .m .now) (s .args .u) (s .args .h) (s .pre .1))
 
 remove-corresponding-sort-from-sub-plan-read64-requires :
     (t : ℕ) → remove-corresponding-sort-from-sub-plan-lts.Need-read64-requires (calls t)
@@ -105,7 +130,9 @@ remove-corresponding-sort-from-sub-plan-read64-requires :
     remove-corresponding-sort-from-sub-plan.Post
     remove-corresponding-sort-from-sub-plan-Inv-loop
     remove-corresponding-sort-from-sub-plan-μ-loop
-remove-corresponding-sort-from-sub-plan-read64-requires t c κs = let s = c .before .before .before .before .before in ap length (c .record-at .ensures) ∙ view (s .args .m .now) (s .args .u) (s .args .h) (standing (s .args .m .now) (s .args .u) (s .args .h) (s .pre .1)) .long
+remove-corresponding-sort-from-sub-plan-read64-requires t c κs = let s = c .before .before .before .before .before in
+    ap length (c .record-at .ensures) ∙ view (s .args .m .now) (s .args .u) (s .args .h)
+    (standing (s .args .m .now) (s .args .u) (s .args .h) (s .pre .1)) .long
 
 remove-corresponding-sort-from-sub-plan-slice-aggregate-is-sort :
     (t : ℕ) → remove-corresponding-sort-from-sub-plan-lts.Need-slice-aggregate-is-sort (calls t)
@@ -121,7 +148,9 @@ remove-corresponding-sort-from-sub-plan-is-sort-requires :
     remove-corresponding-sort-from-sub-plan.Post
     remove-corresponding-sort-from-sub-plan-Inv-loop
     remove-corresponding-sort-from-sub-plan-μ-loop
-remove-corresponding-sort-from-sub-plan-is-sort-requires t c κs = let s = c .before .before .before .before .before .before .before in own-proper (s .args .m .now) (s .args .u) (s .args .h) (standing (s .args .m .now) (s .args .u) (s .args .h) (s .pre .1)) _ (c .before .read64 .ensures ∙ c .before .before .record-at .ensures)
+remove-corresponding-sort-from-sub-plan-is-sort-requires t c κs = let s = c .before .before .before .before .before .before .before in
+    own-proper (s .args .m .now) (s .args .u) (s .args .h) (standing (s .args .m .now) (s .args .u) (s .args .h) (s .pre .1)) _
+    (c .before .read64 .ensures ∙ c .before .before .record-at .ensures)
 
 remove-corresponding-sort-from-sub-plan-slice-aggregate-remove-sort :
     (t : ℕ) → remove-corresponding-sort-from-sub-plan-lts.Need-slice-aggregate-remove-sort (calls t)
@@ -137,7 +166,15 @@ remove-corresponding-sort-from-sub-plan-remove-sort-requires :
     remove-corresponding-sort-from-sub-plan.Post
     remove-corresponding-sort-from-sub-plan-Inv-loop
     remove-corresponding-sort-from-sub-plan-μ-loop
-remove-corresponding-sort-from-sub-plan-remove-sort-requires t c κs = let s = c .before .before .before .before .before .before .before .before .before .before .before in (s .pre .1, sym (c .before .before .before .before .before .before .before .before .before .is-marked .ensures) ∙ not-false _ (c .before .before .before .before .before .before .before .before .if1 .left), (c .before .before .before .before .before .read64 .ensures ∙ c .before .before .before .before .before .before .record-at .ensures), is-code (decode (c .before .before .before .before .before .read64 .result)) 7 _ (c .before .before .before .is-sort .ensures) (c .before .before .if2 .taken))
+remove-corresponding-sort-from-sub-plan-remove-sort-requires t c κs = let s =
+    c .before .before .before .before .before .before .before .before .before .before .before in (
+      s .pre .1,
+      sym (c .before .before .before .before .before .before .before .before .before .is-marked .ensures)
+          ∙ not-false _ (c .before .before .before .before .before .before .before .before .if1 .left),
+      (c .before .before .before .before .before .read64 .ensures ∙ c .before .before .before .before .before .before .record-at .ensures),
+      is-code (decode (c .before .before .before .before .before .read64 .result)) 7 _ (c .before .before .before .is-sort .ensures)
+          (c .before .before .if2 .taken),
+    )
 
 remove-corresponding-sort-from-sub-plan-same-length :
     (t : ℕ) → remove-corresponding-sort-from-sub-plan-lts.Need-same-length (calls t)
@@ -161,7 +198,9 @@ remove-corresponding-sort-from-sub-plan-child-count-requires :
     remove-corresponding-sort-from-sub-plan.Post
     remove-corresponding-sort-from-sub-plan-Inv-loop
     remove-corresponding-sort-from-sub-plan-μ-loop
-remove-corresponding-sort-from-sub-plan-child-count-requires t c κs = let s = c .before .before .before .before .before .before .before .before .before .before in slot-room (s .args .m .now) (s .args .u) (s .args .h) (standing (s .args .m .now) (s .args .u) (s .args .h) (s .pre .1))
+remove-corresponding-sort-from-sub-plan-child-count-requires t c κs = let s =
+    c .before .before .before .before .before .before .before .before .before .before in
+    slot-room (s .args .m .now) (s .args .u) (s .args .h) (standing (s .args .m .now) (s .args .u) (s .args .h) (s .pre .1))
 
 remove-corresponding-sort-from-sub-plan-loop-holds :
     (t : ℕ) → remove-corresponding-sort-from-sub-plan-lts.Need-loop-holds (calls t)
@@ -169,7 +208,10 @@ remove-corresponding-sort-from-sub-plan-loop-holds :
     remove-corresponding-sort-from-sub-plan.Post
     remove-corresponding-sort-from-sub-plan-Inv-loop
     remove-corresponding-sort-from-sub-plan-μ-loop
-remove-corresponding-sort-from-sub-plan-loop-holds t c = let s = c .before .before .before .before .before .before .before .before .before .before .before in let g = going-none (s .args .m .now) (s .args .u) (s .args .h) (s .pre .1) (replicate 8 0) refl in (c .child-count .ensures ∙ few-kids (s .pre .1 .arena) (s .pre .1 .here) (g .made) .1, omega arith, g)
+remove-corresponding-sort-from-sub-plan-loop-holds t c = let s =
+    c .before .before .before .before .before .before .before .before .before .before .before in
+    let g = going-none (s .args .m .now) (s .args .u) (s .args .h) (s .pre .1) (replicate 8 0) refl in
+    (c .child-count .ensures ∙ few-kids (s .pre .1 .arena) (s .pre .1 .here) (g .made) .1, omega arith, g)
 
 remove-corresponding-sort-from-sub-plan-child-requires :
     (t : ℕ) → remove-corresponding-sort-from-sub-plan-lts.Need-child-requires (calls t)
@@ -177,7 +219,11 @@ remove-corresponding-sort-from-sub-plan-child-requires :
     remove-corresponding-sort-from-sub-plan.Post
     remove-corresponding-sort-from-sub-plan-Inv-loop
     remove-corresponding-sort-from-sub-plan-μ-loop
-remove-corresponding-sort-from-sub-plan-child-requires t c κs = let s = c .before .before .before .before .before .before .before .before .before .before .before .before .before .before in let l = c .before .before .loop in let i₀ = l .inv .0 in let i₁ = l .inv .1 in let x = c .before .loop-test .taken in let f = few-kids (s .pre .1 .arena) (s .pre .1 .here) (l .inv .2 .made) in let f₀ = f .0 in let f₁ = f .1 in let wd = l .inv .2 .made .wide in (node-room (s .pre .1 .arena) (s .pre .1 .here) (l .inv .2 .made), omega arith, f .0)
+remove-corresponding-sort-from-sub-plan-child-requires t c κs = let s =
+    c .before .before .before .before .before .before .before .before .before .before .before .before .before .before in let l = c .before .before .loop in
+    let i₀ = l .inv .0 in let i₁ = l .inv .1 in let x = c .before .loop-test .taken in
+    let f = few-kids (s .pre .1 .arena) (s .pre .1 .here) (l .inv .2 .made) in let f₀ = f .0 in let f₁ = f .1 in let wd = l .inv .2 .made .wide in
+    (node-room (s .pre .1 .arena) (s .pre .1 .here) (l .inv .2 .made), omega arith, f .0)
 
 remove-corresponding-sort-from-sub-plan-slice-aggregate-wants-single :
     (t : ℕ) → remove-corresponding-sort-from-sub-plan-lts.Need-slice-aggregate-wants-single (calls t)
@@ -193,7 +239,11 @@ remove-corresponding-sort-from-sub-plan-wants-single-requires :
     remove-corresponding-sort-from-sub-plan.Post
     remove-corresponding-sort-from-sub-plan-Inv-loop
     remove-corresponding-sort-from-sub-plan-μ-loop
-remove-corresponding-sort-from-sub-plan-wants-single-requires t c κs = let s = c .before .before .before .before .before .before .before .before .before .before .before .before .before .before .before .before in own-proper (s .args .m .now) (s .args .u) (s .args .h) (standing (s .args .m .now) (s .args .u) (s .args .h) (s .pre .1)) _ (c .before .before .before .before .before .before .before .before .before .before .read64 .ensures ∙ c .before .before .before .before .before .before .before .before .before .before .before .record-at .ensures)
+remove-corresponding-sort-from-sub-plan-wants-single-requires t c κs = let s =
+    c .before .before .before .before .before .before .before .before .before .before .before .before .before .before .before .before in
+    own-proper (s .args .m .now) (s .args .u) (s .args .h) (standing (s .args .m .now) (s .args .u) (s .args .h) (s .pre .1)) _
+    (c .before .before .before .before .before .before .before .before .before .before .read64 .ensures
+    ∙ c .before .before .before .before .before .before .before .before .before .before .before .record-at .ensures)
 
 remove-corresponding-sort-from-sub-plan-remove-corresponding-sort-from-sub-plan-requires :
     (t : ℕ) →
@@ -202,7 +252,12 @@ remove-corresponding-sort-from-sub-plan-remove-corresponding-sort-from-sub-plan-
     remove-corresponding-sort-from-sub-plan.Post
     remove-corresponding-sort-from-sub-plan-Inv-loop
     remove-corresponding-sort-from-sub-plan-μ-loop
-remove-corresponding-sort-from-sub-plan-remove-corresponding-sort-from-sub-plan-requires t c κs = let s = c .before .before .before .before .before .before .before .before .before .before .before .before .before .before .before .before .before .before in let l = c .before .before .before .before .before .before .loop in let i₀ = l .inv .0 in let i₁ = l .inv .1 in let x = c .before .before .before .before .before .loop-test .taken in let q = going-next (s .args .m .now) (s .args .u) (s .args .h) (s .pre .1) (l .j) (l .w) (l .kids) (l .m) (l .inv .2) (omega arith) _ (c .before .before .before .child .ensures) in let q₀ = q .0 in let g = s .pre .0 in (omega arith, q .1)
+remove-corresponding-sort-from-sub-plan-remove-corresponding-sort-from-sub-plan-requires t c κs = let s =
+    c .before .before .before .before .before .before .before .before .before .before .before .before .before .before .before .before .before .before in
+    let l = c .before .before .before .before .before .before .loop in let i₀ = l .inv .0 in let i₁ = l .inv .1 in
+    let x = c .before .before .before .before .before .loop-test .taken in
+    let q = going-next (s .args .m .now) (s .args .u) (s .args .h) (s .pre .1) (l .j) (l .w) (l .kids) (l .m) (l .inv .2) (omega arith) _
+    (c .before .before .before .child .ensures) in let q₀ = q .0 in let g = s .pre .0 in (omega arith, q .1)
 
 remove-corresponding-sort-from-sub-plan-mul-kids :
     (t : ℕ) → remove-corresponding-sort-from-sub-plan-lts.Need-mul-kids (calls t)
@@ -210,7 +265,12 @@ remove-corresponding-sort-from-sub-plan-mul-kids :
     remove-corresponding-sort-from-sub-plan.Post
     remove-corresponding-sort-from-sub-plan-Inv-loop
     remove-corresponding-sort-from-sub-plan-μ-loop
-remove-corresponding-sort-from-sub-plan-mul-kids t c = let s = c .before .before .before .before .before .before .before .before .before .before .before .before .before .before .before .before .before .before .before .before .before in let l = c .before .before .before .before .before .before .before .before .before .loop in let i₀ = l .inv .0 in let i₁ = l .inv .1 in let x = c .before .before .before .before .before .before .before .before .loop-test .taken in let f = few-kids (s .pre .1 .arena) (s .pre .1 .here) (l .inv .2 .made) in let f₀ = f .0 in let f₁ = f .1 in let wd = l .inv .2 .made .wide in omega arith
+remove-corresponding-sort-from-sub-plan-mul-kids t c = let s =
+    c .before .before .before .before .before .before .before .before .before .before .before .before .before .before .before .before .before .before
+    .before .before .before in let l = c .before .before .before .before .before .before .before .before .before .loop in let i₀ = l .inv .0 in
+    let i₁ = l .inv .1 in let x = c .before .before .before .before .before .before .before .before .loop-test .taken in
+    let f = few-kids (s .pre .1 .arena) (s .pre .1 .here) (l .inv .2 .made) in let f₀ = f .0 in let f₁ = f .1 in let wd = l .inv .2 .made .wide in
+    omega arith
 
 remove-corresponding-sort-from-sub-plan-array-write-kids :
     (t : ℕ) → remove-corresponding-sort-from-sub-plan-lts.Need-array-write-kids (calls t)
@@ -218,7 +278,12 @@ remove-corresponding-sort-from-sub-plan-array-write-kids :
     remove-corresponding-sort-from-sub-plan.Post
     remove-corresponding-sort-from-sub-plan-Inv-loop
     remove-corresponding-sort-from-sub-plan-μ-loop
-remove-corresponding-sort-from-sub-plan-array-write-kids t c = let s = c .before .before .before .before .before .before .before .before .before .before .before .before .before .before .before .before .before .before .before .before .before in let l = c .before .before .before .before .before .before .before .before .before .loop in let i₀ = l .inv .0 in let i₁ = l .inv .1 in let x = c .before .before .before .before .before .before .before .before .loop-test .taken in let f = few-kids (s .pre .1 .arena) (s .pre .1 .here) (l .inv .2 .made) in let f₀ = f .0 in let f₁ = f .1 in let wd = l .inv .2 .made .wide in omega arith
+remove-corresponding-sort-from-sub-plan-array-write-kids t c = let s =
+    c .before .before .before .before .before .before .before .before .before .before .before .before .before .before .before .before .before .before
+    .before .before .before in let l = c .before .before .before .before .before .before .before .before .before .loop in let i₀ = l .inv .0 in
+    let i₁ = l .inv .1 in let x = c .before .before .before .before .before .before .before .before .loop-test .taken in
+    let f = few-kids (s .pre .1 .arena) (s .pre .1 .here) (l .inv .2 .made) in let f₀ = f .0 in let f₁ = f .1 in let wd = l .inv .2 .made .wide in
+    omega arith
 
 remove-corresponding-sort-from-sub-plan-add-j :
     (t : ℕ) → remove-corresponding-sort-from-sub-plan-lts.Need-add-j (calls t)
@@ -226,7 +291,12 @@ remove-corresponding-sort-from-sub-plan-add-j :
     remove-corresponding-sort-from-sub-plan.Post
     remove-corresponding-sort-from-sub-plan-Inv-loop
     remove-corresponding-sort-from-sub-plan-μ-loop
-remove-corresponding-sort-from-sub-plan-add-j t c = let s = c .before .before .before .before .before .before .before .before .before .before .before .before .before .before .before .before .before .before .before .before .before in let l = c .before .before .before .before .before .before .before .before .before .loop in let i₀ = l .inv .0 in let i₁ = l .inv .1 in let x = c .before .before .before .before .before .before .before .before .loop-test .taken in let f = few-kids (s .pre .1 .arena) (s .pre .1 .here) (l .inv .2 .made) in let f₀ = f .0 in let f₁ = f .1 in let wd = l .inv .2 .made .wide in omega arith
+remove-corresponding-sort-from-sub-plan-add-j t c = let s =
+    c .before .before .before .before .before .before .before .before .before .before .before .before .before .before .before .before .before .before
+    .before .before .before in let l = c .before .before .before .before .before .before .before .before .before .loop in let i₀ = l .inv .0 in
+    let i₁ = l .inv .1 in let x = c .before .before .before .before .before .before .before .before .loop-test .taken in
+    let f = few-kids (s .pre .1 .arena) (s .pre .1 .here) (l .inv .2 .made) in let f₀ = f .0 in let f₁ = f .1 in let wd = l .inv .2 .made .wide in
+    omega arith
 
 remove-corresponding-sort-from-sub-plan-loop-less :
     (t : ℕ) → remove-corresponding-sort-from-sub-plan-lts.Need-loop-less (calls t)
@@ -234,7 +304,8 @@ remove-corresponding-sort-from-sub-plan-loop-less :
     remove-corresponding-sort-from-sub-plan.Post
     remove-corresponding-sort-from-sub-plan-Inv-loop
     remove-corresponding-sort-from-sub-plan-μ-loop
-remove-corresponding-sort-from-sub-plan-loop-less t c = let x = c .before .before .before .before .before .before .before .before .loop-test .taken in omega arith
+remove-corresponding-sort-from-sub-plan-loop-less t c = let x = c .before .before .before .before .before .before .before .before .loop-test .taken in
+    omega arith
 
 remove-corresponding-sort-from-sub-plan-loop-again :
     (t : ℕ) → remove-corresponding-sort-from-sub-plan-lts.Need-loop-again (calls t)
@@ -242,7 +313,21 @@ remove-corresponding-sort-from-sub-plan-loop-again :
     remove-corresponding-sort-from-sub-plan.Post
     remove-corresponding-sort-from-sub-plan-Inv-loop
     remove-corresponding-sort-from-sub-plan-μ-loop
-remove-corresponding-sort-from-sub-plan-loop-again t c = let s = c .before .before .before .before .before .before .before .before .before .before .before .before .before .before .before .before .before .before .before .before .before in let l = c .before .before .before .before .before .before .before .before .before .loop in let i₀ = l .inv .0 in let i₁ = l .inv .1 in let x = c .before .before .before .before .before .before .before .before .loop-test .taken in (i₀, omega arith, going-more (s .args .m .now) (s .args .u) (s .args .h) (s .pre .1) (l .j) (l .w) (l .kids) (l .m) (l .inv .2) (omega arith) _ (c .before .before .before .before .before .before .child .ensures) _ (c .before .before .before .before .wants-single .ensures ∙ ap (λ y. singles (decode y) (l .j)) (c .before .before .before .before .before .before .before .before .before .before .before .before .before .before .before .read64 .ensures ∙ c .before .before .before .before .before .before .before .before .before .before .before .before .before .before .before .before .record-at .ensures)) _ (c .before .before .remove-corresponding-sort-from-sub-plan .kept .0) (c .before .before .remove-corresponding-sort-from-sub-plan .result) (c .before .before .remove-corresponding-sort-from-sub-plan .ensures))
+remove-corresponding-sort-from-sub-plan-loop-again t c = let s =
+    c .before .before .before .before .before .before .before .before .before .before .before .before .before .before .before .before .before .before
+    .before .before .before in let l = c .before .before .before .before .before .before .before .before .before .loop in let i₀ = l .inv .0 in
+    let i₁ = l .inv .1 in let x = c .before .before .before .before .before .before .before .before .loop-test .taken in (
+      i₀,
+      omega arith,
+      going-more (s .args .m .now) (s .args .u) (s .args .h) (s .pre .1) (l .j) (l .w) (l .kids) (l .m) (l .inv .2) (omega arith) _
+          (c .before .before .before .before .before .before .child .ensures) _ (c .before .before .before .before .wants-single .ensures
+          ∙ ap (λ y. singles (decode y) (l .j))
+          (c .before .before .before .before .before .before .before .before .before .before .before .before .before .before .before .read64 .ensures
+          ∙ c .before .before .before .before .before .before .before .before .before .before .before .before .before .before .before .before .record-at
+          .ensures)) _ (c .before .before .remove-corresponding-sort-from-sub-plan .kept .0)
+          (c .before .before .remove-corresponding-sort-from-sub-plan .result)
+          (c .before .before .remove-corresponding-sort-from-sub-plan .ensures),
+    )
 
 remove-corresponding-sort-from-sub-plan-slice-aggregate-remove-by :
     (t : ℕ) → remove-corresponding-sort-from-sub-plan-lts.Need-slice-aggregate-remove-by (calls t)
@@ -258,7 +343,11 @@ remove-corresponding-sort-from-sub-plan-array-borrow-prefix-kids :
     remove-corresponding-sort-from-sub-plan.Post
     remove-corresponding-sort-from-sub-plan-Inv-loop
     remove-corresponding-sort-from-sub-plan-μ-loop
-remove-corresponding-sort-from-sub-plan-array-borrow-prefix-kids t c = let s = c .before .before .before .before .before .before .before .before .before .before .before .before .before .before .before in let l = c .before .before .before .loop in let i₀ = l .inv .0 in let i₁ = l .inv .1 in let x = c .before .before .loop-test .left in let f = few-kids (s .pre .1 .arena) (s .pre .1 .here) (l .inv .2 .made) in let f₀ = f .0 in let f₁ = f .1 in let wd = l .inv .2 .made .wide in omega arith
+remove-corresponding-sort-from-sub-plan-array-borrow-prefix-kids t c = let s =
+    c .before .before .before .before .before .before .before .before .before .before .before .before .before .before .before in
+    let l = c .before .before .before .loop in let i₀ = l .inv .0 in let i₁ = l .inv .1 in let x = c .before .before .loop-test .left in
+    let f = few-kids (s .pre .1 .arena) (s .pre .1 .here) (l .inv .2 .made) in let f₀ = f .0 in let f₁ = f .1 in let wd = l .inv .2 .made .wide in
+    omega arith
 
 remove-corresponding-sort-from-sub-plan-slice-aggregate-remove-by-2 :
     (t : ℕ) → remove-corresponding-sort-from-sub-plan-lts.Need-slice-aggregate-remove-by-2 (calls t)
@@ -266,7 +355,11 @@ remove-corresponding-sort-from-sub-plan-slice-aggregate-remove-by-2 :
     remove-corresponding-sort-from-sub-plan.Post
     remove-corresponding-sort-from-sub-plan-Inv-loop
     remove-corresponding-sort-from-sub-plan-μ-loop
-remove-corresponding-sort-from-sub-plan-slice-aggregate-remove-by-2 t c = let s = c .before .before .before .before .before .before .before .before .before .before .before .before .before .before .before .before in let l = c .before .before .before .before .loop in let i₀ = l .inv .0 in let i₁ = l .inv .1 in let x = c .before .before .before .loop-test .left in let f = few-kids (s .pre .1 .arena) (s .pre .1 .here) (l .inv .2 .made) in let f₀ = f .0 in let f₁ = f .1 in let wd = l .inv .2 .made .wide in sym (length-take-le _ (l .kids) (omega arith))
+remove-corresponding-sort-from-sub-plan-slice-aggregate-remove-by-2 t c = let s =
+    c .before .before .before .before .before .before .before .before .before .before .before .before .before .before .before .before in
+    let l = c .before .before .before .before .loop in let i₀ = l .inv .0 in let i₁ = l .inv .1 in let x = c .before .before .before .loop-test .left in
+    let f = few-kids (s .pre .1 .arena) (s .pre .1 .here) (l .inv .2 .made) in let f₀ = f .0 in let f₁ = f .1 in let wd = l .inv .2 .made .wide in
+    sym (length-take-le _ (l .kids) (omega arith))
 
 remove-corresponding-sort-from-sub-plan-remove-by-requires :
     (t : ℕ) → remove-corresponding-sort-from-sub-plan-lts.Need-remove-by-requires (calls t)
@@ -274,7 +367,17 @@ remove-corresponding-sort-from-sub-plan-remove-by-requires :
     remove-corresponding-sort-from-sub-plan.Post
     remove-corresponding-sort-from-sub-plan-Inv-loop
     remove-corresponding-sort-from-sub-plan-μ-loop
-remove-corresponding-sort-from-sub-plan-remove-by-requires t c κs = let s = c .before .before .before .before .before .before .before .before .before .before .before .before .before .before .before .before in let l = c .before .before .before .before .loop in let i₀ = l .inv .0 in let i₁ = l .inv .1 in let x = c .before .before .before .loop-test .left in (going-rems (s .args .m .now) (s .args .u) (s .args .h) (s .pre .1) (l .j) (l .w) (l .kids) (l .m) (l .inv .2) _ (omega arith) i₀, (c .before .before .before .before .before .before .before .before .before .before .read64 .ensures ∙ c .before .before .before .before .before .before .before .before .before .before .before .record-at .ensures) ∙ ap (λ k. k .rec) (sym (same-slot (s .pre .1 .arena) (s .pre .1 .here) (l .inv .2 .made))), not-code (decode (c .before .before .before .before .before .before .before .before .before .before .read64 .result)) 7 _ (c .before .before .before .before .before .before .before .before .is-sort .ensures) (c .before .before .before .before .before .before .before .if2 .left))
+remove-corresponding-sort-from-sub-plan-remove-by-requires t c κs = let s =
+    c .before .before .before .before .before .before .before .before .before .before .before .before .before .before .before .before in
+    let l = c .before .before .before .before .loop in let i₀ = l .inv .0 in let i₁ = l .inv .1 in let x = c .before .before .before .loop-test .left in (
+      going-rems (s .args .m .now) (s .args .u) (s .args .h) (s .pre .1) (l .j) (l .w) (l .kids) (l .m) (l .inv .2) _ (omega arith) i₀,
+      (c .before .before .before .before .before .before .before .before .before .before .read64 .ensures
+          ∙ c .before .before .before .before .before .before .before .before .before .before .before .record-at .ensures)
+          ∙ ap (λ k. k .rec) (sym (same-slot (s .pre .1 .arena) (s .pre .1 .here) (l .inv .2 .made))),
+      not-code (decode (c .before .before .before .before .before .before .before .before .before .before .read64 .result)) 7 _
+          (c .before .before .before .before .before .before .before .before .is-sort .ensures)
+          (c .before .before .before .before .before .before .before .if2 .left),
+    )
 
 remove-corresponding-sort-from-sub-plan-with-single-stream-requires :
     (t : ℕ) → remove-corresponding-sort-from-sub-plan-lts.Need-with-single-stream-requires (calls t)
@@ -282,7 +385,16 @@ remove-corresponding-sort-from-sub-plan-with-single-stream-requires :
     remove-corresponding-sort-from-sub-plan.Post
     remove-corresponding-sort-from-sub-plan-Inv-loop
     remove-corresponding-sort-from-sub-plan-μ-loop
-remove-corresponding-sort-from-sub-plan-with-single-stream-requires t c κs = let s = c .before .before .before .before .before .before .before .before .before .before .before .before .before .before .before .before .before .before .before .before .before in let l = c .before .before .before .before .before .before .before .before .before .loop in let i₀ = l .inv .0 in let i₁ = l .inv .1 in let x = c .before .before .before .before .before .before .before .before .loop-test .left in end-asks (s .args .m .now) (s .args .u) (s .args .h) (s .pre .1) (l .j) (l .w) (l .kids) (l .m) (l .inv .2) _ (omega arith) i₀ (s .args .single) (sym (c .before .before .before .before .before .before .before .before .before .before .before .before .before .before .before .before .before .before .before .is-marked .ensures) ∙ not-false _ (c .before .before .before .before .before .before .before .before .before .before .before .before .before .before .before .before .before .before .if1 .left)) _ (c .before .before .before .before .remove-by .kept .0) (c .before .before .before .before .remove-by .result) (c .before .before .before .before .remove-by .ensures)
+remove-corresponding-sort-from-sub-plan-with-single-stream-requires t c κs = let s =
+    c .before .before .before .before .before .before .before .before .before .before .before .before .before .before .before .before .before .before
+    .before .before .before in let l = c .before .before .before .before .before .before .before .before .before .loop in let i₀ = l .inv .0 in
+    let i₁ = l .inv .1 in let x = c .before .before .before .before .before .before .before .before .loop-test .left in
+    end-asks (s .args .m .now) (s .args .u) (s .args .h) (s .pre .1) (l .j) (l .w) (l .kids) (l .m) (l .inv .2) _ (omega arith) i₀ (s .args .single)
+    (sym (c .before .before .before .before .before .before .before .before .before .before .before .before .before .before .before .before .before .before
+    .before .is-marked .ensures) ∙ not-false _
+    (c .before .before .before .before .before .before .before .before .before .before .before .before .before .before .before .before .before .before .if1
+    .left)) _ (c .before .before .before .before .remove-by .kept .0) (c .before .before .before .before .remove-by .result)
+    (c .before .before .before .before .remove-by .ensures)
 
 remove-corresponding-sort-from-sub-plan-same-length-2 :
     (t : ℕ) → remove-corresponding-sort-from-sub-plan-lts.Need-same-length-2 (calls t)
@@ -290,7 +402,9 @@ remove-corresponding-sort-from-sub-plan-same-length-2 :
     remove-corresponding-sort-from-sub-plan.Post
     remove-corresponding-sort-from-sub-plan-Inv-loop
     remove-corresponding-sort-from-sub-plan-μ-loop
-remove-corresponding-sort-from-sub-plan-same-length-2 t c = c .before .before .with-single-stream .kept .0 ∙ c .before .before .before .before .before .before .before .remove-by .kept .0 ∙ c .before .before .before .before .before .before .before .before .before .before .before .before .loop .inv .2 .made .long
+remove-corresponding-sort-from-sub-plan-same-length-2 t c = c .before .before .with-single-stream .kept .0
+    ∙ c .before .before .before .before .before .before .before .remove-by .kept .0
+    ∙ c .before .before .before .before .before .before .before .before .before .before .before .before .loop .inv .2 .made .long
 
 remove-corresponding-sort-from-sub-plan-returns-3 :
     (t : ℕ) → remove-corresponding-sort-from-sub-plan-lts.Need-returns-3 (calls t)
@@ -298,7 +412,18 @@ remove-corresponding-sort-from-sub-plan-returns-3 :
     remove-corresponding-sort-from-sub-plan.Post
     remove-corresponding-sort-from-sub-plan-Inv-loop
     remove-corresponding-sort-from-sub-plan-μ-loop
-remove-corresponding-sort-from-sub-plan-returns-3 t c = let s = c .before .before .before .before .before .before .before .before .before .before .before .before .before .before .before .before .before .before .before .before .before .before .before .before in let l = c .before .before .before .before .before .before .before .before .before .before .before .before .loop in let i₀ = l .inv .0 in let i₁ = l .inv .1 in let x = c .before .before .before .before .before .before .before .before .before .before .before .loop-test .left in going-end (s .args .m .now) (s .args .u) (s .args .h) (s .pre .1) (l .j) (l .w) (l .kids) (l .m) (l .inv .2) _ (omega arith) i₀ (s .args .single) (sym (c .before .before .before .before .before .before .before .before .before .before .before .before .before .before .before .before .before .before .before .before .before .before .is-marked .ensures) ∙ not-false _ (c .before .before .before .before .before .before .before .before .before .before .before .before .before .before .before .before .before .before .before .before .before .if1 .left)) _ (c .before .before .before .before .before .before .before .remove-by .kept .0) (c .before .before .before .before .before .before .before .remove-by .result) (c .before .before .before .before .before .before .before .remove-by .ensures) _ _ (c .before .before .with-single-stream .ensures)
+remove-corresponding-sort-from-sub-plan-returns-3 t c = let s =
+    c .before .before .before .before .before .before .before .before .before .before .before .before .before .before .before .before .before .before
+    .before .before .before .before .before .before in
+    let l = c .before .before .before .before .before .before .before .before .before .before .before .before .loop in let i₀ = l .inv .0 in
+    let i₁ = l .inv .1 in let x = c .before .before .before .before .before .before .before .before .before .before .before .loop-test .left in
+    going-end (s .args .m .now) (s .args .u) (s .args .h) (s .pre .1) (l .j) (l .w) (l .kids) (l .m) (l .inv .2) _ (omega arith) i₀ (s .args .single)
+    (sym (c .before .before .before .before .before .before .before .before .before .before .before .before .before .before .before .before .before .before
+    .before .before .before .before .is-marked .ensures)
+    ∙ not-false _ (c .before .before .before .before .before .before .before .before .before .before .before .before .before .before .before .before .before
+    .before .before .before .before .if1 .left)) _ (c .before .before .before .before .before .before .before .remove-by .kept .0)
+    (c .before .before .before .before .before .before .before .remove-by .result)
+    (c .before .before .before .before .before .before .before .remove-by .ensures) _ _ (c .before .before .with-single-stream .ensures)
 
 pub +remove-corresponding-sort-from-sub-plan-spec : {M : Type 1} → statement M
 +remove-corresponding-sort-from-sub-plan-spec =

@@ -19,7 +19,8 @@ returns : tie.Need-returns
 returns c = let s = c .before .before .before in single-stream-none _ (s .args .fetch) _ (c .before .enum-told .given .1) (c .coalesce-record .ensures)
 
 returns-2 : tie.Need-returns-2
-returns-2 c = let s = c .before .before .before .before in single-stream-some _ (s .pre) _ (c .before .before .order .given .1) (s .args .fetch) _ (c .merge-record .ensures)
+returns-2 c = let s = c .before .before .before .before in
+    single-stream-some _ (s .pre) _ (c .before .before .order .given .1) (s .args .fetch) _ (c .merge-record .ensures)
 
 pub single-stream-record-spec : {M : Type 1} → statement M
 single-stream-record-spec =

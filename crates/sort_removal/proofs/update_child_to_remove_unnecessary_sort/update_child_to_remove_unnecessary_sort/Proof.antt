@@ -16,7 +16,9 @@ same-length : tie.Need-same-length
 same-length c = search needs
 
 returns : tie.Need-returns
-returns c = let s = c .before .before .before .before .before .before in marked-grown _ _ _ _ (removeOne (s .args .single) (treeOf (s .args .m .now) (s .args .h))) _ (c .before .before .before .remove-corresponding-sort-from-sub-plan .ensures) false _ (c .set-mark .ensures)
+returns c = let s = c .before .before .before .before .before .before in
+    marked-grown _ _ _ _ (removeOne (s .args .single) (treeOf (s .args .m .now) (s .args .h))) _
+    (c .before .before .before .remove-corresponding-sort-from-sub-plan .ensures) false _ (c .set-mark .ensures)
 
 pub update-child-to-remove-unnecessary-sort-spec : {M : Type 1} → statement M
 update-child-to-remove-unnecessary-sort-spec =

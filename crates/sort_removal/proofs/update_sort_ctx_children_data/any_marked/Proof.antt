@@ -24,13 +24,17 @@ loop-holds : tie.Need-loop-holds Inv-loop μ-loop
 loop-holds c = let s = c .before .before in (c .child-count .ensures ∙ view (s .args .m .now) (s .args .u) (s .args .h) (s .pre) .count, omega arith, refl)
 
 child-requires : tie.Need-child-requires Inv-loop μ-loop
-child-requires c κs = let s = c .before .before .before .before in let x = c .loop-test .taken in let l = c .before .loop in let y = l .inv .0 in kid-asks (s .args .m .now) (s .args .u) (s .args .h) (s .pre) (l .j) (omega arith)
+child-requires c κs = let s = c .before .before .before .before in let x = c .loop-test .taken in let l = c .before .loop in let y = l .inv .0 in
+    kid-asks (s .args .m .now) (s .args .u) (s .args .h) (s .pre) (l .j) (omega arith)
 
 is-marked-requires : tie.Need-is-marked-requires Inv-loop μ-loop
 is-marked-requires c κs = search needs
 
 returns : tie.Need-returns Inv-loop μ-loop
-returns c = let s = c .before .before .before .before .before .before .before in let x = c .before .before .before .loop-test .taken in let l = c .before .before .before .before .loop in let y = l .inv .0 in mark-found (s .args .m .now) (s .args .u) (s .args .h) (s .pre) (l .j) (omega arith) (sym (c .before .is-marked .ensures ∙ ap marked (c .before .before .child .ensures)) ∙ c .if1 .taken)
+returns c = let s = c .before .before .before .before .before .before .before in let x = c .before .before .before .loop-test .taken in
+    let l = c .before .before .before .before .loop in let y = l .inv .0 in
+    mark-found (s .args .m .now) (s .args .u) (s .args .h) (s .pre) (l .j) (omega arith)
+    (sym (c .before .is-marked .ensures ∙ ap marked (c .before .before .child .ensures)) ∙ c .if1 .taken)
 
 add-j : tie.Need-add-j Inv-loop μ-loop
 add-j c = let x = c .before .before .before .loop-test .taken in omega arith
@@ -39,10 +43,16 @@ loop-less : tie.Need-loop-less Inv-loop μ-loop
 loop-less c = let x = c .before .before .before .loop-test .taken in omega arith
 
 loop-again : tie.Need-loop-again Inv-loop μ-loop
-loop-again c = let x = c .before .before .before .loop-test .taken in let l = c .before .before .before .before .loop in (l .inv .0, omega arith, any-next _ (l .j) (l .inv .2) (sym (c .before .is-marked .ensures ∙ ap marked (c .before .before .child .ensures)) ∙ c .if1 .left))
+loop-again c = let x = c .before .before .before .loop-test .taken in let l = c .before .before .before .before .loop in (
+  l .inv .0,
+  omega arith,
+  any-next _ (l .j) (l .inv .2) (sym (c .before .is-marked .ensures ∙ ap marked (c .before .before .child .ensures))
+      ∙ c .if1 .left),
+)
 
 returns-2 : tie.Need-returns-2 Inv-loop μ-loop
-returns-2 c = let s = c .before .before .before .before in let x = c .loop-test .left in let l = c .before .loop in let y = l .inv .0 in let z = l .inv .1 in mark-none (s .args .m .now) (s .args .u) (s .args .h) (s .pre) (l .j) (omega arith) (l .inv .2)
+returns-2 c = let s = c .before .before .before .before in let x = c .loop-test .left in let l = c .before .loop in let y = l .inv .0 in
+    let z = l .inv .1 in mark-none (s .args .m .now) (s .args .u) (s .args .h) (s .pre) (l .j) (omega arith) (l .inv .2)
 
 pub any-marked-spec : {M : Type 1} → statement M
 any-marked-spec =

@@ -18,7 +18,11 @@ enum-told : tie.Need-enum-told
 enum-told c = search needs
 
 returns : tie.Need-returns
-returns c = let s = c .before .before .before .before .before in asked-some (treeOf (s .args .m .now) (s .args .h)) (s .args .j) _ (subst (λ x. Ordered (wanted x (s .args .j)) (c .before .before .wanted-order .result)) (op-is (s .args .m .now) (s .args .u) (s .args .h) (s .pre .0) _ (c .before .before .before .record-at .ensures)) (c .before .before .wanted-order .ensures)) _ (c .enum-told .given .1)
+returns c = let s = c .before .before .before .before .before in
+    asked-some (treeOf (s .args .m .now) (s .args .h)) (s .args .j) _
+    (subst (λ x. Ordered (wanted x (s .args .j)) (c .before .before .wanted-order .result))
+    (op-is (s .args .m .now) (s .args .u) (s .args .h) (s .pre .0) _ (c .before .before .before .record-at .ensures))
+    (c .before .before .wanted-order .ensures)) _ (c .enum-told .given .1)
 
 enum-told-2 : tie.Need-enum-told-2
 enum-told-2 c = search needs
@@ -27,7 +31,11 @@ maintains-child-requires : tie.Need-maintains-child-requires
 maintains-child-requires c κs = search needs
 
 returns-2 : tie.Need-returns-2
-returns-2 c = let s = c .before .before .before .before .before .before in asked-none (treeOf (s .args .m .now) (s .args .h)) (s .args .j) _ (subst (λ x. Ordered (wanted x (s .args .j)) (c .before .before .before .wanted-order .result)) (op-is (s .args .m .now) (s .args .u) (s .args .h) (s .pre .0) _ (c .before .before .before .before .record-at .ensures)) (c .before .before .before .wanted-order .ensures)) (c .before .enum-told2 .given .1) _ (c .maintains-child .ensures)
+returns-2 c = let s = c .before .before .before .before .before .before in
+    asked-none (treeOf (s .args .m .now) (s .args .h)) (s .args .j) _
+    (subst (λ x. Ordered (wanted x (s .args .j)) (c .before .before .before .wanted-order .result))
+    (op-is (s .args .m .now) (s .args .u) (s .args .h) (s .pre .0) _ (c .before .before .before .before .record-at .ensures))
+    (c .before .before .before .wanted-order .ensures)) (c .before .enum-told2 .given .1) _ (c .maintains-child .ensures)
 
 pub maintains-unasked-spec : {M : Type 1} → statement M
 maintains-unasked-spec =

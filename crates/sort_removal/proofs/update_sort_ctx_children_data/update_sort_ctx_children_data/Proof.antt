@@ -21,10 +21,12 @@ slice-read-h : tie.Need-slice-read-h Inv-loop μ-loop
 slice-read-h c = c .before .loop-test .taken
 
 is-connected-requires : tie.Need-is-connected-requires Inv-loop μ-loop
-is-connected-requires c κs = let s = c .before .before .before .before .before in let l = c .before .before .loop in next-at (s .args .m .now) (s .args .u) (s .args .ks .now) (l .j) (l .ks) (l .inv) (c .before .loop-test .taken) (s .pre .0)
+is-connected-requires c κs = let s = c .before .before .before .before .before in let l = c .before .before .loop in
+    next-at (s .args .m .now) (s .args .u) (s .args .ks .now) (l .j) (l .ks) (l .inv) (c .before .loop-test .taken) (s .pre .0)
 
 set-mark-requires : tie.Need-set-mark-requires Inv-loop μ-loop
-set-mark-requires c κs = let s = c .before .before .before .before .before .before in let l = c .before .before .before .loop in next-small (s .args .m .now) (s .args .u) (s .args .ks .now) (l .j) (l .ks) (l .inv) (c .before .before .loop-test .taken) (s .pre .0)
+set-mark-requires c κs = let s = c .before .before .before .before .before .before in let l = c .before .before .before .loop in
+    next-small (s .args .m .now) (s .args .u) (s .args .ks .now) (l .j) (l .ks) (l .inv) (c .before .before .loop-test .taken) (s .pre .0)
 
 mul-ks : tie.Need-mul-ks Inv-loop μ-loop
 mul-ks c = omega arith
@@ -39,13 +41,16 @@ loop-less : tie.Need-loop-less Inv-loop μ-loop
 loop-less c = let x = c .before .before .before .loop-test .taken in let y = c .before .before .before .before .loop .inv .count in omega arith
 
 loop-again : tie.Need-loop-again Inv-loop μ-loop
-loop-again c = let s = c .before .before .before .before .before .before .before in let l = c .before .before .before .before .loop in connecting-more (s .args .m .now) (s .args .u) (s .args .ks .now) (l .j) (l .ks) (l .inv) (c .before .before .before .loop-test .taken) (c .before .is-connected .result) (c .before .is-connected .ensures) (c .set-mark .result) (c .set-mark .ensures)
+loop-again c = let s = c .before .before .before .before .before .before .before in let l = c .before .before .before .before .loop in
+    connecting-more (s .args .m .now) (s .args .u) (s .args .ks .now) (l .j) (l .ks) (l .inv) (c .before .before .before .loop-test .taken)
+    (c .before .is-connected .result) (c .before .is-connected .ensures) (c .set-mark .result) (c .set-mark .ensures)
 
 same-length : tie.Need-same-length Inv-loop μ-loop
 same-length c = c .before .loop .inv .count
 
 returns : tie.Need-returns Inv-loop μ-loop
-returns c = let s = c .before .before .before .before in let l = c .before .loop in let x = c .loop-test .left in connecting-all (s .args .m .now) (s .args .u) (s .args .ks .now) (l .j) (l .ks) (omega arith) (l .inv)
+returns c = let s = c .before .before .before .before in let l = c .before .loop in let x = c .loop-test .left in
+    connecting-all (s .args .m .now) (s .args .u) (s .args .ks .now) (l .j) (l .ks) (omega arith) (l .inv)
 
 pub update-sort-ctx-children-data-spec : {M : Type 1} → statement M
 update-sort-ctx-children-data-spec =

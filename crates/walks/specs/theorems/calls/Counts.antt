@@ -23,11 +23,14 @@ use Rattle.walks.specs.theorems.push.Kept.{Fair, helper-fair, push-kept}
 use Rattle.walks.specs.theorems.ensure.Removal.{strip-count}
 
 -- ---- children before parents
-bind-cond : {A B : Type 0} (a : Bool) (x : A) (m : ℕ) (g : A → ℕ → Counted B) → bind (cond a (counted x m) (stopped TooManyNodes)) g ≡ cond a (g x m) (stopped TooManyNodes)
+bind-cond : {A B : Type 0} (a : Bool) (x : A) (m : ℕ) (g : A → ℕ → Counted B) → bind (cond a (counted x m) (stopped TooManyNodes)) g ≡ cond a (g x m)
+    (stopped TooManyNodes)
 bind-cond true x m g = refl
 bind-cond false x m g = refl
 
-settled : {A B : Type 0} (a b e : Bool) (x : A) (l : ℕ) (g : A → B) → cond a (cond b (stopped TooManyNodes) (bind (cond e (counted x l) (stopped TooManyNodes)) (λ s i. counted (g s) i))) (stopped TooManyNodes) ≡ cond (a && (not b && e)) (counted (g x) l) (stopped TooManyNodes)
+settled : {A B : Type 0} (a b e : Bool) (x : A) (l : ℕ) (g : A → B)
+    → cond a (cond b (stopped TooManyNodes) (bind (cond e (counted x l) (stopped TooManyNodes)) (λ s i. counted (g s) i))) (stopped TooManyNodes) ≡ cond
+    (a && (not b && e)) (counted (g x) l) (stopped TooManyNodes)
 settled true true e x l g = refl
 settled true false true x l g = refl
 settled true false false x l g = refl
@@ -40,16 +43,23 @@ not-many n = go (small n) refl
     go true q = ap not (le-ltb 126 n (leb-true n 126 q))
     go false q = ap not (lt-ltb 126 n (leb-false n 126 q))
 
-pub count-up : (step : Tree → Tree) (a : ℕ) (f : Plan) (n : ℕ) → n ≡ a + size f → countUp step n f ≡ cond (every small (sizesUp step a f)) (counted (transformUp step f) (a + size (transformUp step f))) (stopped TooManyNodes)
+pub count-up : (step : Tree → Tree) (a : ℕ) (f : Plan) (n : ℕ) → n ≡ a + size f → countUp step n f ≡ cond (every small (sizesUp step a f))
+    (counted (transformUp step f) (a + size (transformUp step f))) (stopped TooManyNodes)
 count-up step a none n e = ap (λ (m : ℕ). counted none m) e
 count-up step a (tree o c r) n e =
     ap (λ (w : Counted (Forest Marked)). bind w rest) (count-up step (a + suc (size r)) c n (omega arith))
     ∙ bind-cond (every small (sizesUp step (a + suc (size r)) c)) d m rest
-    ∙ ap (λ (k : ℕ). cond (every small (sizesUp step (a + suc (size r)) c)) (cond (tooMany k) (stopped TooManyNodes) (bind (countUp step k r) (λ s l. counted (plant t s) l))) (stopped TooManyNodes)) here
-    ∙ ap (λ (w : Counted (Forest Marked)). cond (every small (sizesUp step (a + suc (size r)) c)) (cond (tooMany ((a + sizeT t) + size r)) (stopped TooManyNodes) (bind w (λ s l. counted (plant t s) l))) (stopped TooManyNodes)) (count-up step (a + sizeT t) r ((a + sizeT t) + size r) refl)
-    ∙ settled (every small (sizesUp step (a + suc (size r)) c)) (tooMany ((a + sizeT t) + size r)) (every small (sizesUp step (a + sizeT t) r)) (transformUp step r) ((a + sizeT t) + size (transformUp step r)) (plant t)
-    ∙ ap (λ (b : Bool). cond (every small (sizesUp step (a + suc (size r)) c) && (b && every small (sizesUp step (a + sizeT t) r))) (counted (transformUp step (tree o c r)) ((a + sizeT t) + size (transformUp step r))) (stopped TooManyNodes)) (not-many ((a + sizeT t) + size r))
-    ∙ ap₂ (λ (b : Bool) (l : ℕ). cond b (counted (transformUp step (tree o c r)) l) (stopped TooManyNodes)) (sym (every-append small (sizesUp step (a + suc (size r)) c) (((a + sizeT t) + size r) ∷ sizesUp step (a + sizeT t) r))) last
+    ∙ ap (λ (k : ℕ). cond (every small (sizesUp step (a + suc (size r)) c))
+    (cond (tooMany k) (stopped TooManyNodes) (bind (countUp step k r) (λ s l. counted (plant t s) l))) (stopped TooManyNodes)) here
+    ∙ ap (λ (w : Counted (Forest Marked)). cond (every small (sizesUp step (a + suc (size r)) c))
+    (cond (tooMany ((a + sizeT t) + size r)) (stopped TooManyNodes) (bind w (λ s l. counted (plant t s) l))) (stopped TooManyNodes))
+    (count-up step (a + sizeT t) r ((a + sizeT t) + size r) refl)
+    ∙ settled (every small (sizesUp step (a + suc (size r)) c)) (tooMany ((a + sizeT t) + size r)) (every small (sizesUp step (a + sizeT t) r))
+    (transformUp step r) ((a + sizeT t) + size (transformUp step r)) (plant t)
+    ∙ ap (λ (b : Bool). cond (every small (sizesUp step (a + suc (size r)) c) && (b && every small (sizesUp step (a + sizeT t) r)))
+    (counted (transformUp step (tree o c r)) ((a + sizeT t) + size (transformUp step r))) (stopped TooManyNodes)) (not-many ((a + sizeT t) + size r))
+    ∙ ap₂ (λ (b : Bool) (l : ℕ). cond b (counted (transformUp step (tree o c r)) l) (stopped TooManyNodes))
+    (sym (every-append small (sizesUp step (a + suc (size r)) c) (((a + sizeT t) + size r) ∷ sizesUp step (a + sizeT t) r))) last
   where
     d : Forest Marked
     d = transformUp step c
@@ -79,10 +89,12 @@ kid-size t none e = absurd (omega arith)
 kid-size t (tree m d none) e = omega arith
 kid-size t (tree m d (tree n c r)) e = absurd (omega arith)
 
-pub carryOut-size : (D : Decision) (d : Forest Marked) → (D .gone ≡ true → count d ≡ 1) → sizeT (carryOut D d) + one (D .gone) ≡ suc (length (D .tops) + size d)
+pub carryOut-size : (D : Decision) (d : Forest Marked) → (D .gone ≡ true → count d ≡ 1) → sizeT (carryOut D d) + one (D .gone) ≡ suc
+    (length (D .tops) + size d)
 carryOut-size D d h = go (D .gone) refl
   where
-    go : (x : Bool) → D .gone ≡ x → sizeT (cover (D .tops) (cond x (kid0 (node (D .op) false d) d) (rebuild (D .op) false d))) + one x ≡ suc (length (D .tops) + size d)
+    go : (x : Bool) → D .gone ≡ x → sizeT (cover (D .tops) (cond x (kid0 (node (D .op) false d) d) (rebuild (D .op) false d))) + one x ≡ suc
+        (length (D .tops) + size d)
     go true e = omega (arith, cover-size (D .tops) (kid0 (node (D .op) false d) d), kid-size (node (D .op) false d) d (h e))
     go false e = omega (arith, cover-size (D .tops) (rebuild (D .op) false d))
 
@@ -90,12 +102,14 @@ pub one-le : (b : Bool) → one b ≤ 1
 one-le true = omega arith
 one-le false = omega arith
 
-pub one-visited : (q : Visit) (o : Op) (c : Plan) → FitsA (arity o) (count c) → Fit c → pushdownSortsHelper q o c .gone ≡ true → count (pushdownSorts (pushdownSortsHelper q o c .reqs) c) ≡ 1
+pub one-visited : (q : Visit) (o : Op) (c : Plan) → FitsA (arity o) (count c) → Fit c → pushdownSortsHelper q o c .gone ≡ true
+    → count (pushdownSorts (pushdownSortsHelper q o c .reqs) c) ≡ 1
 one-visited q o c h f e =
     let D : Decision = pushdownSortsHelper q o c in
     let F : Fair o (facts c) D = helper-fair q c o in
     let k : KeepsAll false false false (bare c) (pushdownSorts (D .reqs) c) = push-kept (D .reqs) c f in
-    sym (strip-count (pushdownSorts (D .reqs) c)) ∙ k .same ∙ ap (λ (g : Plan). count g) (strip-bare c) ∙ subst (λ (z : Arity). FitsA z (count c)) (sym (F .like .kids) ∙ pass-one (D .op) (F .gone e)) h
+    sym (strip-count (pushdownSorts (D .reqs) c)) ∙ k .same ∙ ap (λ (g : Plan). count g) (strip-bare c) ∙ subst (λ (z : Arity). FitsA z (count c))
+    (sym (F .like .kids) ∙ pass-one (D .op) (F .gone e)) h
 
 -- ---- parents before children, with any test of the count
 -- A visit that decides D, in a plan of n nodes; b: it meets a sort whose keys are all constant; rest: its children
@@ -168,8 +182,10 @@ module _ (full : ℕ → Bool) where
   every-unless false l = refl
 
   -- the refusals of a visit, of its children and of those to the right, in their order
-  in-order : (a v x y x′ y′ : Bool) (g : Forest Marked → Tree) (d : Forest Marked) (m : ℕ) (w : ℕ → Counted (Forest Marked)) (s : Forest Marked) (l : ℕ) → w m ≡ decided x′ y′ (counted s l) →
-      bind (cond a (stopped ConstantSort) (cond v (stopped TooManyNodes) (bind (decided x y (counted d m)) (λ d m. counted (g d) m)))) (λ t i. bind (w i) (λ s l. counted (plant t s) l))
+  in-order : (a v x y x′ y′ : Bool) (g : Forest Marked → Tree) (d : Forest Marked) (m : ℕ) (w : ℕ → Counted (Forest Marked)) (s : Forest Marked) (l : ℕ)
+      → w m ≡ decided x′ y′ (counted s l) →
+      bind (cond a (stopped ConstantSort) (cond v (stopped TooManyNodes) (bind (decided x y (counted d m)) (λ d m. counted (g d) m))))
+      (λ t i. bind (w i) (λ s l. counted (plant t s) l))
       ≡ decided (cond a true (not v && (x && cond y true x′))) (a || (y || y′)) (counted (plant (g d) s) l)
   in-order true v x y x′ y′ g d m w s l h = refl
   in-order false true x y x′ y′ g d m w s l h = refl
@@ -184,9 +200,11 @@ module _ (full : ℕ → Bool) where
   count-down a q none n h e = ap (λ (m : ℕ). counted none m) e
   count-down a q (tree o c r) n h e =
       ap (λ (m : ℕ). countBy full q m (tree o c r)) e
-      ∙ ap (λ (w : Counted (Forest Marked)). bind (cond (constantSort o c) (stopped ConstantSort) (cond over (stopped TooManyNodes) (bind w (λ d m. counted (carryOut D d) m)))) rest)
+      ∙ ap (λ (w : Counted (Forest Marked)). bind
+      (cond (constantSort o c) (stopped ConstantSort) (cond over (stopped TooManyNodes) (bind w (λ d m. counted (carryOut D d) m)))) rest)
       (count-down b (D .reqs) c (afterwards D (a + size (tree o c r))) (h .1) (omega (arith, one-le (D .gone))))
-      ∙ in-order (constantSort o c) over (every fits below) (hasConstantSort c) (every fits right) (hasConstantSort r) (carryOut D) d (b + size d) (λ i. countBy full (λ j. q (suc j)) i r) s ((a + sizeT t) + size s)
+      ∙ in-order (constantSort o c) over (every fits below) (hasConstantSort c) (every fits right) (hasConstantSort r) (carryOut D) d (b + size d)
+      (λ i. countBy full (λ j. q (suc j)) i r) s ((a + sizeT t) + size s)
       (count-down (a + sizeT t) (λ i. q (suc i)) r (b + size d) (h .2) (omega (arith, one-le (D .gone), z)))
       ∙ ap₂ (λ (x : Bool) (m : ℕ). decided x (hasConstantSort (tree o c r)) (counted (plant t s) m)) (sym tests) (omega arith)
     where
@@ -220,7 +238,8 @@ module _ (full : ℕ → Bool) where
       z : sizeT t + one (D .gone) ≡ suc (length (D .tops) + size d)
       z = carryOut-size D d (one-visited (q 0) o c (h .0) (h .1))
 
-      tests : every fits (sizesDown a q (tree o c r)) ≡ cond (constantSort o c) true (not over && (every fits below && cond (hasConstantSort c) true (every fits right)))
+      tests : every fits (sizesDown a q (tree o c r)) ≡ cond (constantSort o c) true
+          (not over && (every fits below && cond (hasConstantSort c) true (every fits right)))
       tests =
           every-unless (constantSort o c) (reaches D (a + size (tree o c r)) ++ (below ++ cond (hasConstantSort c) [] right))
           ∙ ap (cond (constantSort o c) true)

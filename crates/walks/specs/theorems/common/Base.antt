@@ -34,7 +34,8 @@ union-of (F ∷ G ∷ fs) = ap (λ (B : Facts). blank (both F B)) (union-of (G �
 
 link-blank : (w : ℕ) (on : List On) (X Y : Facts) → blank X ≡ blank Y → blank (linkAll w on X) ≡ blank (linkAll w on Y)
 link-blank w [] X Y e = e
-link-blank w (k ∷ on) X Y e = link-blank w on (cond (ltb (k .key .col) w) (linked X (k .key .col) (w + k .other)) X) (cond (ltb (k .key .col) w) (linked Y (k .key .col) (w + k .other)) Y) (go (ltb (k .key .col) w))
+link-blank w (k ∷ on) X Y e = link-blank w on (cond (ltb (k .key .col) w) (linked X (k .key .col) (w + k .other)) X)
+    (cond (ltb (k .key .col) w) (linked Y (k .key .col) (w + k .other)) Y) (go (ltb (k .key .col) w))
   where
     go : (b : Bool) → blank (cond b (linked X (k .key .col) (w + k .other)) X) ≡ blank (cond b (linked Y (k .key .col) (w + k .other)) Y)
     go true = ap (λ (B : Facts). blank (linked B (k .key .col) (w + k .other))) e

@@ -57,7 +57,14 @@ module _ {a b h : Bool} where
   kept-refl t f = record { fit = f; pure = λ e p. p; ok = λ e p. p; bones = added-refl (skelT t); base = refl; live = λ p. p }
 
   pub kept-trans : {t u v : Tree} → Keeps a b h t u → Keeps a b h u v → Keeps a b h t v
-  kept-trans k l = record { fit = l .fit; pure = λ e p. l .pure e (k .pure e p); ok = λ e p. l .ok e (k .ok e p); bones = added-trans (k .bones) (l .bones); base = l .base ∙ k .base; live = λ p. l .live (k .live p) }
+  kept-trans k l = record {
+    fit = l .fit;
+    pure = λ e p. l .pure e (k .pure e p);
+    ok = λ e p. l .ok e (k .ok e p);
+    bones = added-trans (k .bones) (l .bones);
+    base = l .base ∙ k .base;
+    live = λ p. l .live (k .live p);
+  }
 
   pub kept-mark : {t u : Tree} (x : Bool) → Keeps a b h t u → Keeps a b h t (setMark x u)
   kept-mark x k = record { fit = k .fit; pure = k .pure; ok = k .ok; bones = k .bones; base = k .base; live = k .live }
@@ -99,7 +106,15 @@ module _ {a b h : Bool} where
 
   pub all-kept-trans : {c d e : Forest Marked} → KeepsAll a b h c d → KeepsAll a b h d e → KeepsAll a b h c e
   all-kept-trans k l =
-      record { same = l .same ∙ k .same; fit = l .fit; pure = λ i p. l .pure i (k .pure i p); ok = λ i p. l .ok i (k .ok i p); bones = added-trans (k .bones) (l .bones); bases = l .bases ∙ k .bases; live = λ p. l .live (k .live p) }
+      record {
+        same = l .same ∙ k .same;
+        fit = l .fit;
+        pure = λ i p. l .pure i (k .pure i p);
+        ok = λ i p. l .ok i (k .ok i p);
+        bones = added-trans (k .bones) (l .bones);
+        bases = l .bases ∙ k .bases;
+        live = λ p. l .live (k .live p);
+      }
 
 -- ---- nodes that can stand for one another
 pub record Like (o p : Op) : Type 0 where
@@ -114,14 +129,29 @@ pub like-refl : (o : Op) → Like o o
 like-refl o = record { kids = refl; uncut = λ e. e; ok = λ ws e. e; bones = λ s. refl; base = λ fs. refl; constant = λ fs. refl }
 
 pub like-trans : {o p q : Op} → Like o p → Like p q → Like o q
-like-trans k l = record { kids = l .kids ∙ k .kids; uncut = λ e. l .uncut (k .uncut e); ok = λ ws e. l .ok ws (k .ok ws e); bones = λ s. l .bones s ∙ k .bones s; base = λ fs. l .base fs ∙ k .base fs; constant = λ fs. l .constant fs ∙ k .constant fs }
+like-trans k l = record {
+  kids = l .kids ∙ k .kids;
+  uncut = λ e. l .uncut (k .uncut e);
+  ok = λ ws e. l .ok ws (k .ok ws e);
+  bones = λ s. l .bones s
+      ∙ k .bones s;
+  base = λ fs. l .base fs ∙ k .base fs;
+  constant = λ fs. l .constant fs ∙ k .constant fs;
+}
 
 pub remark-like : (g : Bool → Bool) (o : Op) → Like o (remark g o)
 remark-like g (source s) = like-refl (source s)
 remark-like g filter = like-refl filter
 remark-like g (projection cols) = like-refl (projection cols)
 remark-like g union = like-refl union
-remark-like g (repartition p n h ks) = record { kids = refl; uncut = λ e. refl; ok = λ ws e. e; bones = λ s. refl; base = λ fs. refl; constant = λ fs. refl }
+remark-like g (repartition p n h ks) = record {
+  kids = refl;
+  uncut = λ e. refl;
+  ok = λ ws e. e;
+  bones = λ s. refl;
+  base = λ fs. refl;
+  constant = λ fs. refl;
+}
 remark-like g (coalesce f) = like-refl (coalesce f)
 remark-like g (sortOp p ks f) = like-refl (sortOp p ks f)
 remark-like g (mergeOp ks f) = like-refl (mergeOp ks f)
@@ -133,7 +163,8 @@ remark-like g (outputRequirement ks d f) = like-refl (outputRequirement ks d f)
 remark-like g (partialSort p ks n f) = like-refl (partialSort p ks n f)
 
 -- What does not see a repartition's mark does not see it change
-pub remark-same : {A : Type 0} (v : Op → A) (g : Bool → Bool) → ((p q : Bool) (n : ℕ) (h : Bool) (ks : List Key) → v (repartition p n h ks) ≡ v (repartition q n h ks)) → (o : Op) → v (remark g o) ≡ v o
+pub remark-same : {A : Type 0} (v : Op → A) (g : Bool → Bool)
+    → ((p q : Bool) (n : ℕ) (h : Bool) (ks : List Key) → v (repartition p n h ks) ≡ v (repartition q n h ks)) → (o : Op) → v (remark g o) ≡ v o
 remark-same v g e (source s) = refl
 remark-same v g e filter = refl
 remark-same v g e (projection cols) = refl
@@ -150,29 +181,40 @@ remark-same v g e (outputRequirement ks d f) = refl
 remark-same v g e (partialSort p ks n f) = refl
 
 -- Over children that are handed something: b′ and h′ say when that cuts nothing off, and fits
-pub kept-under : {a b h : Bool} (b′ h′ : Bool) (o p : Op) (x y : Bool) (c d : Forest Marked) → Like o p → (clearOp o ≡ true → b′ ≡ true) → (OkT (node o x c) → h′ ≡ true) → FitsA (arity o) (count (strip c)) → KeepsAll a b′ h′ c d → Keeps a b h (node o x c) (node p y d)
+pub kept-under : {a b h : Bool} (b′ h′ : Bool) (o p : Op) (x y : Bool) (c d : Forest Marked) → Like o p → (clearOp o ≡ true → b′ ≡ true)
+    → (OkT (node o x c) → h′ ≡ true) → FitsA (arity o) (count (strip c)) → KeepsAll a b′ h′ c d → Keeps a b h (node o x c) (node p y d)
 kept-under {a} b′ h′ o p x y c d l u g f k =
     record {
       fit = (subst (λ (n : ℕ). FitsA (arity p) n) (sym (k .same)) (subst (λ (q : Arity). FitsA q (count (strip c))) (sym (l .kids)) f), k .fit);
       pure = λ e q. (l .uncut (q .0), k .pure (u (q .0)) (q .1));
-      ok = λ e q. (subst (λ (ws : List ℕ). nodeOk p ws ≡ true) (sym (blank-widths (known d) (known c) (k .bases))) (l .ok (map (λ F. F .width) (known c)) (q .0)), k .ok (g q) (q .1));
+      ok = λ e q. (
+        subst (λ (ws : List ℕ). nodeOk p ws ≡ true) (sym (blank-widths (known d) (known c) (k .bases)))
+            (l .ok (map (λ F. F .width) (known c)) (q .0)),
+        k .ok (g q) (q .1),
+      );
       bones = subst (Added a (bone passing o (skel (strip c)))) (sym (l .bones (skel (strip d)))) (added-bone o (k .bones));
       base = l .base (known d) ∙ op-blank o (known d) (known c) (k .bases);
       live = λ q. (l .constant (known d) ∙ constant-blank o (known d) (known c) (k .bases) ∙ q .0, k .live (q .1));
     }
 
-pub kept-node : {a b h : Bool} (o p : Op) (x y : Bool) (c d : Forest Marked) → Like o p → FitsA (arity o) (count (strip c)) → KeepsAll a b h c d → Keeps a b h (node o x c) (node p y d)
+pub kept-node : {a b h : Bool} (o p : Op) (x y : Bool) (c d : Forest Marked) → Like o p → FitsA (arity o) (count (strip c)) → KeepsAll a b h c d
+    → Keeps a b h (node o x c) (node p y d)
 kept-node {a} o p x y c d l f k =
     record {
       fit = (subst (λ (n : ℕ). FitsA (arity p) n) (sym (k .same)) (subst (λ (q : Arity). FitsA q (count (strip c))) (sym (l .kids)) f), k .fit);
       pure = λ e q. (l .uncut (q .0), k .pure e (q .1));
-      ok = λ e q. (subst (λ (ws : List ℕ). nodeOk p ws ≡ true) (sym (blank-widths (known d) (known c) (k .bases))) (l .ok (map (λ F. F .width) (known c)) (q .0)), k .ok e (q .1));
+      ok = λ e q. (
+        subst (λ (ws : List ℕ). nodeOk p ws ≡ true) (sym (blank-widths (known d) (known c) (k .bases)))
+            (l .ok (map (λ F. F .width) (known c)) (q .0)),
+        k .ok e (q .1),
+      );
       bones = subst (Added a (bone passing o (skel (strip c)))) (sym (l .bones (skel (strip d)))) (added-bone o (k .bones));
       base = l .base (known d) ∙ op-blank o (known d) (known c) (k .bases);
       live = λ q. (l .constant (known d) ∙ constant-blank o (known d) (known c) (k .bases) ∙ q .0, k .live (q .1));
     }
 
-pub kept-rebuild : {a b h : Bool} (o : Op) (x y : Bool) (c d : Forest Marked) → FitsA (arity o) (count (strip c)) → KeepsAll a b h c d → Keeps a b h (node o x c) (rebuild o y d)
+pub kept-rebuild : {a b h : Bool} (o : Op) (x y : Bool) (c d : Forest Marked) → FitsA (arity o) (count (strip c)) → KeepsAll a b h c d
+    → Keeps a b h (node o x c) (rebuild o y d)
 kept-rebuild o x y c d f k = kept-node o (rebuilt o (known d)) x y c d (remark-like _ o) f k
 
 -- A smaller assumption
@@ -212,7 +254,8 @@ Uncut b t o = b ≡ true → PureT t → clearOp o ≡ true
 abbrev Accepted : Bool → Tree → Tree → Op → Type 0
 Accepted h t u o = h ≡ true → OkT t → OkT u → nodeOk o (fact u .width ∷ []) ≡ true
 
-kept-on : {a b h : Bool} {t u : Tree} (o : Op) (x : Bool) → easing o ≡ true → Added a (skelT u) (bone passing o (skelT u ⊕ none)) → Uncut b t o → Accepted h t u o → Alive (fact u) o → Keeps a b h t u → Keeps a b h t (over o x u)
+kept-on : {a b h : Bool} {t u : Tree} (o : Op) (x : Bool) → easing o ≡ true → Added a (skelT u) (bone passing o (skelT u ⊕ none)) → Uncut b t o
+    → Accepted h t u o → Alive (fact u) o → Keeps a b h t u → Keeps a b h t (over o x u)
 kept-on {u = u} o x e s q r y k =
     record {
       fit = (subst (λ (z : Arity). FitsA z 1) (sym (ease-one o e)) refl, (k .fit .0, k .fit .1, tt));
@@ -223,16 +266,20 @@ kept-on {u = u} o x e s q r y k =
       live = λ p. let v = k .live p in (y, (v .0, v .1, tt));
     }
 
-pub kept-over : {a b h : Bool} {t u : Tree} (o : Op) (x : Bool) → passing o ≡ true → Uncut b t o → Accepted h t u o → Alive (fact u) o → Keeps a b h t u → Keeps a b h t (over o x u)
+pub kept-over : {a b h : Bool} {t u : Tree} (o : Op) (x : Bool) → passing o ≡ true → Uncut b t o → Accepted h t u o → Alive (fact u) o → Keeps a b h t u
+    → Keeps a b h t (over o x u)
 kept-over {u = u} o x e q r y k = kept-on o x (pass-ease o e) (added-same (bone-pass o (skelT u ⊕ none) e ∙ ⊕-none (skelT u))) q r y k
 
-pub kept-limit : {b h : Bool} {t u : Tree} (o : Op) (x : Bool) → isLimit o ≡ true → passing o ≡ false → Uncut b t o → Accepted h t u o → Alive (fact u) o → Keeps true b h t u → Keeps true b h t (over o x u)
+pub kept-limit : {b h : Bool} {t u : Tree} (o : Op) (x : Bool) → isLimit o ≡ true → passing o ≡ false → Uncut b t o → Accepted h t u o → Alive (fact u) o
+    → Keeps true b h t u → Keeps true b h t (over o x u)
 kept-limit {u = u} o x e n q r y k =
     kept-on o x (easing-limit o e)
-    (subst (Added true (skelT u)) (sym (ap (λ (z : Bool). cond z (skelT u ⊕ none) (tree o (skelT u ⊕ none) none)) n)) (added-over o refl e (added-same (⊕-none (skelT u)))))
+    (subst (Added true (skelT u)) (sym (ap (λ (z : Bool). cond z (skelT u ⊕ none) (tree o (skelT u ⊕ none) none)) n))
+    (added-over o refl e (added-same (⊕-none (skelT u)))))
     q r y k
 
-pub kept-kid : {a b h : Bool} (o : Op) (x : Bool) (c : Forest Marked) → passing o ≡ true → FitsA (arity o) (count (strip c)) → Fit (strip c) → Keeps a b h (node o x c) (kid0 (node o x c) c)
+pub kept-kid : {a b h : Bool} (o : Op) (x : Bool) (c : Forest Marked) → passing o ≡ true → FitsA (arity o) (count (strip c)) → Fit (strip c)
+    → Keeps a b h (node o x c) (kid0 (node o x c) c)
 kept-kid o x none e f g = absurd (omega (arith, subst (λ (z : Arity). FitsA z 0) (pass-one o e) f))
 kept-kid o x (tree m d none) e f g =
     record {
@@ -249,19 +296,28 @@ pub kept-first : {a b h : Bool} (t : Tree) → passing (opT t) ≡ true → FitT
 kept-first t e f = kept-kid (opT t) (t .top .mark) (t .kids) e (f .0) (f .1)
 
 -- One node of kinds 5 to 8 for another, no sort, over rewritten children
-pub kept-swap : {a b h : Bool} (o p : Op) (x y : Bool) (c d : Forest Marked) → passing o ≡ true → passing p ≡ true → isSort p ≡ false → (b ≡ true → clearOp o ≡ true → clearOp p ≡ true) → (h ≡ true → nodeOk o (map (λ F. F .width) (known d)) ≡ true → Ok (strip d) → nodeOk p (map (λ F. F .width) (known d)) ≡ true) → FitsA (arity o) (count (strip c)) → KeepsAll a b h c d → Keeps a b h (node o x c) (node p y d)
+pub kept-swap : {a b h : Bool} (o p : Op) (x y : Bool) (c d : Forest Marked) → passing o ≡ true → passing p ≡ true → isSort p ≡ false
+    → (b ≡ true → clearOp o ≡ true → clearOp p ≡ true) → (h ≡ true → nodeOk o (map (λ F. F .width) (known d)) ≡ true → Ok (strip d)
+    → nodeOk p (map (λ F. F .width) (known d)) ≡ true) → FitsA (arity o) (count (strip c)) → KeepsAll a b h c d → Keeps a b h (node o x c) (node p y d)
 kept-swap {a} o p x y c d i j n u g f k =
     record {
-      fit = (subst (λ (q : Arity). FitsA q (count (strip d))) (pass-one o i ∙ sym (pass-one p j)) (subst (λ (n : ℕ). FitsA (arity o) n) (sym (k .same)) f), k .fit);
+      fit = (
+        subst (λ (q : Arity). FitsA q (count (strip d))) (pass-one o i ∙ sym (pass-one p j)) (subst (λ (n : ℕ). FitsA (arity o) n) (sym (k .same)) f),
+        k .fit,
+      );
       pure = λ e q. (u e (q .0), k .pure e (q .1));
-      ok = λ e q. let v = k .ok e (q .1) in (g e (subst (λ (ws : List ℕ). nodeOk o ws ≡ true) (sym (blank-widths (known d) (known c) (k .bases))) (q .0)) v, v);
-      bones = subst (λ (s : Plan). Added a s (bone passing p (skel (strip d)))) (sym (bone-pass o (skel (strip c)) i)) (subst (Added a (skel (strip c))) (sym (bone-pass p (skel (strip d)) j)) (k .bones));
+      ok = λ e q. let v = k .ok e (q .1) in
+          (g e (subst (λ (ws : List ℕ). nodeOk o ws ≡ true) (sym (blank-widths (known d) (known c) (k .bases))) (q .0)) v, v);
+      bones = subst (λ (s : Plan). Added a s (bone passing p (skel (strip d)))) (sym (bone-pass o (skel (strip c)) i))
+          (subst (Added a (skel (strip c))) (sym (bone-pass p (skel (strip d)) j)) (k .bones));
       base = ease-blank p (known d) (pass-ease p j) ∙ blank-at (known d) (known c) 0 (k .bases) ∙ sym (ease-blank o (known c) (pass-ease o i));
       live = λ q. (no-sort p (known d) n, k .live (q .1));
     }
 
 -- ---- one induction for the kinds that the walks treat apart
-pub shape-ind : (P : Op → Type 0) → ((p : Bool) (ks : List Key) (f : Fetch) → P (sortOp p ks f)) → ((ks : List Key) (f : Fetch) → P (mergeOp ks f)) → ((p : Bool) (n : ℕ) (h : Bool) (ks : List Key) → P (repartition p n h ks)) → ((f : Fetch) → P (coalesce f)) → ((o : Op) → shape o ≡ another → P o) → (o : Op) → P o
+pub shape-ind : (P : Op → Type 0) → ((p : Bool) (ks : List Key) (f : Fetch) → P (sortOp p ks f)) → ((ks : List Key) (f : Fetch) → P (mergeOp ks f))
+    → ((p : Bool) (n : ℕ) (h : Bool) (ks : List Key) → P (repartition p n h ks)) → ((f : Fetch) → P (coalesce f)) → ((o : Op) → shape o ≡ another → P o)
+    → (o : Op) → P o
 shape-ind P s m r c q (source d) = q (source d) refl
 shape-ind P s m r c q filter = q filter refl
 shape-ind P s m r c q (projection cols) = q (projection cols) refl
@@ -300,16 +356,20 @@ pub uncut-fetch : (f : Fetch) → isAll f ≡ true → ((isAll f && true) && tru
 uncut-fetch f e = ap (λ (x : Bool). (x && true) && true) e
 
 -- add_sort_above, over u
-pub kept-sortAbove : {a b h : Bool} {t u : Tree} (w : List Key) (f : Fetch) → (b ≡ true → PureT t → isAll f ≡ true) → (h ≡ true → OkT t → OkT u → KeysFit (fact u .width) (freshKeys (fact u) [] w) × (fetchOk f ≡ true)) → Keeps a b h t u → Keeps a b h t (addSortAbove w f u)
+pub kept-sortAbove : {a b h : Bool} {t u : Tree} (w : List Key) (f : Fetch) → (b ≡ true → PureT t → isAll f ≡ true)
+    → (h ≡ true → OkT t → OkT u → KeysFit (fact u .width) (freshKeys (fact u) [] w) × (fetchOk f ≡ true)) → Keeps a b h t u
+    → Keeps a b h t (addSortAbove w f u)
 kept-sortAbove {a} {b} {h} {t} {u} w f q r k = go (freshKeys (fact u) [] w) refl r
   where
     p : Bool
     p = ltb 1 (fact u .streams)
 
-    go : (ks : List Key) → freshKeys (fact u) [] w ≡ ks → (h ≡ true → OkT t → OkT u → KeysFit (fact u .width) ks × (fetchOk f ≡ true)) → Keeps a b h t (cover (newSort p ks f) u)
+    go : (ks : List Key) → freshKeys (fact u) [] w ≡ ks → (h ≡ true → OkT t → OkT u → KeysFit (fact u .width) ks × (fetchOk f ≡ true))
+        → Keeps a b h t (cover (newSort p ks f) u)
     go [] e s = k
     go (j ∷ ks) e s =
-        kept-over (sortOp p (j ∷ ks) f) false refl (λ i v. uncut-fetch f (q i v)) (λ i v x. let y = s i v x in sort-ok p j ks f (fact u .width ∷ []) (y .0) (y .1) (refl, narrowT u x))
+        kept-over (sortOp p (j ∷ ks) f) false refl (λ i v. uncut-fetch f (q i v)) (λ i v x. let y = s i v x in
+        sort-ok p j ks f (fact u .width ∷ []) (y .0) (y .1) (refl, narrowT u x))
         (fresh-alive (fact u) (fact-canon u .classes .const) p f w j ks e) k
 
 -- ---- marks first false
@@ -318,10 +378,12 @@ strip-bare none = refl
 strip-bare (tree o c r) = ap₂ (λ (x y : Plan). tree o x y) (strip-bare c) (strip-bare r)
 
 -- A walk keeps what its step keeps
-pub walk-kept : {a b h : Bool} (step : Tree → Tree) → ((t : Tree) → FitT t → Keeps a b h t (step t)) → (f : Plan) → Fit f → KeepsAll a b h (bare f) (transformUp step f)
+pub walk-kept : {a b h : Bool} (step : Tree → Tree) → ((t : Tree) → FitT t → Keeps a b h t (step t)) → (f : Plan) → Fit f
+    → KeepsAll a b h (bare f) (transformUp step f)
 walk-kept step g none f = all-kept-none
 walk-kept {a} {b} {h} step g (tree o c r) f =
     let k : KeepsAll a b h (bare c) (transformUp step c) = walk-kept step g c (f .1) in
     let fits : FitsA (arity o) (count (strip (bare c))) = subst (λ (x : Plan). FitsA (arity o) (count x)) (sym (strip-bare c)) (f .0) in
-    let here : Keeps a b h (node o false (bare c)) (rebuild o false (transformUp step c)) = kept-rebuild o false false (bare c) (transformUp step c) fits k in
+    let here : Keeps a b h (node o false (bare c)) (rebuild o false (transformUp step c)) =
+    kept-rebuild o false false (bare c) (transformUp step c) fits k in
     kept-plant (kept-trans here (g (rebuild o false (transformUp step c)) (here .fit))) (walk-kept step g r (f .2))

@@ -35,10 +35,15 @@ all-below w all-nil = refl
 all-below w (all-cons {x = k} h hs) = ap₂ _&&_ (lt-ltb (k .col) w h) (all-below w hs)
 
 pub keys-of : (w : ℕ) (ks : List Key) → keysOk w ks ≡ true → KeysFit w ks
-keys-of w ks e = record { short = leb-true (length ks) 8 (search (and-left, and-right)); inside = below-all w ks (search (and-left, and-right)); apart = search (and-left, and-right) }
+keys-of w ks e = record {
+  short = leb-true (length ks) 8 (search (and-left, and-right));
+  inside = below-all w ks (search (and-left, and-right));
+  apart = search (and-left, and-right);
+}
 
 pub keys-to : {w : ℕ} {ks : List Key} → KeysFit w ks → keysOk w ks ≡ true
-keys-to {w} {ks} h = ap₂ _&&_ (ap₂ _&&_ (le-leb 0 (length ks) (omega arith)) (le-leb (length ks) 8 (h .short))) (ap₂ _&&_ (all-below w (h .inside)) (h .apart))
+keys-to {w} {ks} h = ap₂ _&&_ (ap₂ _&&_ (le-leb 0 (length ks) (omega arith)) (le-leb (length ks) 8 (h .short)))
+    (ap₂ _&&_ (all-below w (h .inside)) (h .apart))
 
 pub no-keys : {w : ℕ} → KeysFit w []
 no-keys = record { short = omega arith; inside = all-nil; apart = refl }
@@ -50,12 +55,14 @@ pub data Apart : List ℕ → List Key → Type 0 where
 
 apart-seen : {seen : List ℕ} {ks : List Key} (c : ℕ) → member c seen ≡ true → Apart seen ks → member c (map (λ k. k .col) ks) ≡ false
 apart-seen c m apart-nil = refl
-apart-seen c m (apart-cons {seen = seen} {k = k} e h) = ap₂ _||_ (ne-eqb c (k .col) (λ q. no-bool (sym e ∙ ap (λ (d : ℕ). member d seen) (sym q) ∙ m))) (apart-seen c (or-right (eqb c (k .col)) (member c seen) m) h)
+apart-seen c m (apart-cons {seen = seen} {k = k} e h) = ap₂ _||_ (ne-eqb c (k .col) (λ q. no-bool (sym e ∙ ap (λ (d : ℕ). member d seen) (sym q) ∙ m)))
+    (apart-seen c (or-right (eqb c (k .col)) (member c seen) m) h)
 
 pub apart-distinct : {seen : List ℕ} {ks : List Key} → Apart seen ks → distinct (map (λ k. k .col) ks) ≡ true
 apart-distinct apart-nil = refl
 apart-distinct (apart-cons {seen = seen} {k = k} {ks = ks} e h) =
-    ap₂ (λ (x y : Bool). not x && y) (apart-seen (k .col) (ap (λ (b : Bool). b || member (k .col) seen) (eq-eqb (k .col) (k .col) refl)) h) (apart-distinct h)
+    ap₂ (λ (x y : Bool). not x && y) (apart-seen (k .col) (ap (λ (b : Bool). b || member (k .col) seen) (eq-eqb (k .col) (k .col) refl)) h)
+    (apart-distinct h)
 
 normal-apart : {cs : ℕ → Bool} {low : ℕ → ℕ} {seen : List ℕ} {ks : List Key} → Normal cs low seen ks → Apart seen ks
 normal-apart n-nil = apart-nil
@@ -72,7 +79,8 @@ nf-length cs low seen (k ∷ ks) = go (cs (low (k .col)) || member (low (k .col)
     c : ℕ
     c = low (k .col)
 
-    go : (b : Bool) → length (nfBy cs low seen ks) ≤ length ks → length (nfBy cs low (c ∷ seen) ks) ≤ length ks → length (cond b (nfBy cs low seen ks) (withColumn c k ∷ nfBy cs low (c ∷ seen) ks)) ≤ suc (length ks)
+    go : (b : Bool) → length (nfBy cs low seen ks) ≤ length ks → length (nfBy cs low (c ∷ seen) ks) ≤ length ks
+        → length (cond b (nfBy cs low seen ks) (withColumn c k ∷ nfBy cs low (c ∷ seen) ks)) ≤ suc (length ks)
     go true h _ = omega arith
     go false _ h = omega arith
 
@@ -90,7 +98,8 @@ module _ (F : Facts) where
   fresh-length seen [] = omega arith
   fresh-length seen (k ∷ ks) = go (isC F (k .col) || member (k .col) seen) (fresh-length seen ks) (fresh-length (k .col ∷ seen) ks)
     where
-      go : (b : Bool) → length (freshKeys F seen ks) ≤ length ks → length (freshKeys F (k .col ∷ seen) ks) ≤ length ks → length (cond b (freshKeys F seen ks) (k ∷ freshKeys F (k .col ∷ seen) ks)) ≤ suc (length ks)
+      go : (b : Bool) → length (freshKeys F seen ks) ≤ length ks → length (freshKeys F (k .col ∷ seen) ks) ≤ length ks
+          → length (cond b (freshKeys F seen ks) (k ∷ freshKeys F (k .col ∷ seen) ks)) ≤ suc (length ks)
       go true h _ = omega arith
       go false _ h = omega arith
 
@@ -98,7 +107,8 @@ module _ (F : Facts) where
   fresh-all seen all-nil = all-nil
   fresh-all {P} seen (all-cons {x = k} {l = ks} p ps) = go (isC F (k .col) || member (k .col) seen) (fresh-all seen ps) (fresh-all (k .col ∷ seen) ps)
     where
-      go : (b : Bool) → All P (freshKeys F seen ks) → All P (freshKeys F (k .col ∷ seen) ks) → All P (cond b (freshKeys F seen ks) (k ∷ freshKeys F (k .col ∷ seen) ks))
+      go : (b : Bool) → All P (freshKeys F seen ks) → All P (freshKeys F (k .col ∷ seen) ks)
+          → All P (cond b (freshKeys F seen ks) (k ∷ freshKeys F (k .col ∷ seen) ks))
       go true h _ = h
       go false _ h = all-cons p h
 
@@ -106,7 +116,8 @@ module _ (F : Facts) where
   fresh-apart seen [] = apart-nil
   fresh-apart seen (k ∷ ks) = go (isC F (k .col) || member (k .col) seen) refl (fresh-apart seen ks) (fresh-apart (k .col ∷ seen) ks)
     where
-      go : (b : Bool) → (isC F (k .col) || member (k .col) seen) ≡ b → Apart seen (freshKeys F seen ks) → Apart (k .col ∷ seen) (freshKeys F (k .col ∷ seen) ks) → Apart seen (cond b (freshKeys F seen ks) (k ∷ freshKeys F (k .col ∷ seen) ks))
+      go : (b : Bool) → (isC F (k .col) || member (k .col) seen) ≡ b → Apart seen (freshKeys F seen ks)
+          → Apart (k .col ∷ seen) (freshKeys F (k .col ∷ seen) ks) → Apart seen (cond b (freshKeys F seen ks) (k ∷ freshKeys F (k .col ∷ seen) ks))
       go true e h _ = h
       go false e _ h = apart-cons (or-false (isC F (k .col)) (member (k .col) seen) e .1) h
 

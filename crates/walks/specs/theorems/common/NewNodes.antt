@@ -56,7 +56,8 @@ proj-length : (F : Facts) (cols : List ℕ) (ks : List Key) → length (projOrde
 proj-length F cols [] = omega arith
 proj-length F cols (k ∷ ks) = go (ltb (carried F cols (k .col)) (length cols)) (proj-length F cols ks)
   where
-    go : (b : Bool) → length (projOrder F cols ks) ≤ length ks → length (cond b (withColumn (carried F cols (k .col)) k ∷ projOrder F cols ks) []) ≤ suc (length ks)
+    go : (b : Bool) → length (projOrder F cols ks) ≤ length ks → length (cond b (withColumn (carried F cols (k .col)) k ∷ projOrder F cols ks) []) ≤ suc
+        (length ks)
     go true h = omega arith
     go false h = omega arith
 
@@ -117,8 +118,10 @@ op-short (sortOp p ks f) fs e hs = nf-short (at0 fs) ks (some-short ks (search a
 op-short (mergeOp ks f) fs e hs = nf-short (at0 fs) ks (some-short ks (search and-left))
 op-short (globalLimit s f note) fs e hs = if-short (eqb (at0 fs .streams) 1) (at0 fs) (all-nth nothing none-short hs 0)
 op-short (localLimit f note) fs e hs = all-nth nothing none-short hs 0
-op-short (sortMergeJoin t on) fs e hs = nf-short (joinBase t on (at0 fs) (at1 fs)) (joinOrder t (smjKept t) (at0 fs) (at1 fs)) (join-length t (smjKept t) (at0 fs) (at1 fs) (all-nth nothing none-short hs 0) (all-nth nothing none-short hs 1))
-op-short (hashJoin t on) fs e hs = nf-short (joinBase t on (at0 fs) (at1 fs)) (joinOrder t (hashKept t) (at0 fs) (at1 fs)) (join-length t (hashKept t) (at0 fs) (at1 fs) (all-nth nothing none-short hs 0) (all-nth nothing none-short hs 1))
+op-short (sortMergeJoin t on) fs e hs = nf-short (joinBase t on (at0 fs) (at1 fs)) (joinOrder t (smjKept t) (at0 fs) (at1 fs))
+    (join-length t (smjKept t) (at0 fs) (at1 fs) (all-nth nothing none-short hs 0) (all-nth nothing none-short hs 1))
+op-short (hashJoin t on) fs e hs = nf-short (joinBase t on (at0 fs) (at1 fs)) (joinOrder t (hashKept t) (at0 fs) (at1 fs))
+    (join-length t (hashKept t) (at0 fs) (at1 fs) (all-nth nothing none-short hs 0) (all-nth nothing none-short hs 1))
 op-short (outputRequirement ks d f) fs e hs = all-nth nothing none-short hs 0
 op-short (partialSort p ks n f) fs e hs = nf-short (at0 fs) ks (some-short ks (search (and-left, and-right)))
 
@@ -132,7 +135,8 @@ OrderFits F = KeysFit (F .width) (F .order)
 
 each-order : {fs : List Facts} → All Short fs → All Fits fs → All Canon fs → All OrderFits fs
 each-order all-nil all-nil all-nil = all-nil
-each-order (all-cons s ss) (all-cons f fs) (all-cons c cs) = all-cons (record { short = s; inside = f; apart = normal-distinct (c .normal) }) (each-order ss fs cs)
+each-order (all-cons s ss) (all-cons f fs) (all-cons c cs) = all-cons (record { short = s; inside = f; apart = normal-distinct (c .normal) })
+    (each-order ss fs cs)
 
 pub orders-fit : (f : Plan) → Ok f → All OrderFits (facts f)
 orders-fit f h = each-order (shorts f h) (fits f (ok-to f h)) (canon f)
@@ -188,22 +192,28 @@ Over ws = (eqb (length ws) 1 ≡ true) × (leb (getD ws 0 0) 32 ≡ true)
 some-keys : (k : Key) (ks : List Key) → length (k ∷ ks) ≤ 8 → some (k ∷ ks) ≡ true
 some-keys k ks h = ap₂ _&&_ (le-leb 1 (length (k ∷ ks)) (omega arith)) (le-leb (length (k ∷ ks)) 8 h)
 
-pub sort-ok : (p : Bool) (k : Key) (ks : List Key) (f : Fetch) (ws : List ℕ) → KeysFit (getD ws 0 0) (k ∷ ks) → fetchOk f ≡ true → Over ws → nodeOk (sortOp p (k ∷ ks) f) ws ≡ true
+pub sort-ok : (p : Bool) (k : Key) (ks : List Key) (f : Fetch) (ws : List ℕ) → KeysFit (getD ws 0 0) (k ∷ ks) → fetchOk f ≡ true → Over ws
+    → nodeOk (sortOp p (k ∷ ks) f) ws ≡ true
 sort-ok p k ks f ws h e n =
-    ap₂ _&&_ (ap₂ _&&_ (ap₂ _&&_ (some-keys k ks (h .short)) e) (n .0)) (ap₂ _&&_ (and-right (few (k ∷ ks)) (keysFit (getD ws 0 0) (k ∷ ks)) (keys-to h)) (n .1))
+    ap₂ _&&_ (ap₂ _&&_ (ap₂ _&&_ (some-keys k ks (h .short)) e) (n .0)) (ap₂ _&&_ (and-right (few (k ∷ ks)) (keysFit (getD ws 0 0) (k ∷ ks)) (keys-to h))
+    (n .1))
 
-pub merge-ok : (k : Key) (ks : List Key) (f : Fetch) (ws : List ℕ) → KeysFit (getD ws 0 0) (k ∷ ks) → fetchOk f ≡ true → Over ws → nodeOk (mergeOp (k ∷ ks) f) ws ≡ true
+pub merge-ok : (k : Key) (ks : List Key) (f : Fetch) (ws : List ℕ) → KeysFit (getD ws 0 0) (k ∷ ks) → fetchOk f ≡ true → Over ws
+    → nodeOk (mergeOp (k ∷ ks) f) ws ≡ true
 merge-ok k ks f ws h e n = sort-ok true k ks f ws h e n
 
 pub coalesce-ok : (f : Fetch) (ws : List ℕ) → fetchOk f ≡ true → Over ws → nodeOk (coalesce f) ws ≡ true
 coalesce-ok f ws e n = ap₂ _&&_ (ap₂ _&&_ e (n .0)) (n .1)
 
-pub local-ok : (m : ℕ) (note : List Key) (ws : List ℕ) → KeysFit (getD ws 0 0) note → fetchOk (AtMost m) ≡ true → Over ws → nodeOk (localLimit (AtMost m) note) ws ≡ true
+pub local-ok : (m : ℕ) (note : List Key) (ws : List ℕ) → KeysFit (getD ws 0 0) note → fetchOk (AtMost m) ≡ true → Over ws
+    → nodeOk (localLimit (AtMost m) note) ws ≡ true
 local-ok m note ws h e n =
     let k : keysOk (getD ws 0 0) note ≡ true = keys-to h in
-    ap₂ _&&_ (ap₂ _&&_ (ap₂ _&&_ (and-left (few note) (keysFit (getD ws 0 0) note) k) e) (n .0)) (ap₂ _&&_ (and-right (few note) (keysFit (getD ws 0 0) note) k) (n .1))
+    ap₂ _&&_ (ap₂ _&&_ (ap₂ _&&_ (and-left (few note) (keysFit (getD ws 0 0) note) k) e) (n .0))
+    (ap₂ _&&_ (and-right (few note) (keysFit (getD ws 0 0) note) k) (n .1))
 
-pub global-ok : (m : ℕ) (note : List Key) (ws : List ℕ) → KeysFit (getD ws 0 0) note → fetchOk (AtMost m) ≡ true → Over ws → nodeOk (globalLimit 0 (AtMost m) note) ws ≡ true
+pub global-ok : (m : ℕ) (note : List Key) (ws : List ℕ) → KeysFit (getD ws 0 0) note → fetchOk (AtMost m) ≡ true → Over ws
+    → nodeOk (globalLimit 0 (AtMost m) note) ws ≡ true
 global-ok m note ws h e n = local-ok m note ws h e n
 
 -- A kind of one child has one of at most 32 columns
@@ -255,7 +265,8 @@ take-keys n w ks h = record { short = omega (arith, take-length n ks, h .short);
     taken : (m : ℕ) (l : List Key) → distinct (map (λ k. k .col) l) ≡ true → distinct (map (λ k. k .col) (take m l)) ≡ true
     taken zero l e = refl
     taken (suc m) [] e = refl
-    taken (suc m) (k ∷ l) e = ap₂ (λ (x y : Bool). not x && y) (out (k .col) m l (not-true (member (k .col) (map (λ k. k .col) l)) (search and-left))) (taken m l (search and-right))
+    taken (suc m) (k ∷ l) e = ap₂ (λ (x y : Bool). not x && y) (out (k .col) m l (not-true (member (k .col) (map (λ k. k .col) l)) (search and-left)))
+        (taken m l (search and-right))
 
 -- Each wanted list fits its child
 abbrev pub wantsFit : (ℕ → List Key) → List Facts → Bool
@@ -283,7 +294,8 @@ nth-width (F ∷ fs) zero = refl
 nth-width (F ∷ fs) (suc n) = nth-width fs n
 
 sort-keys : (ks : List Key) (fs : List Facts) → length ks ≤ 8 → keysFit (getD (map (λ F. F .width) fs) 0 0) ks ≡ true → KeysFit (at0 fs .width) ks
-sort-keys ks fs h e = keys-of (at0 fs .width) ks (ap₂ _&&_ (ap₂ _&&_ (le-leb 0 (length ks) (omega arith)) (le-leb (length ks) 8 h)) (ap (λ (w : ℕ). keysFit w ks) (sym (nth-width fs 0)) ∙ e))
+sort-keys ks fs h e = keys-of (at0 fs .width) ks (ap₂ _&&_ (ap₂ _&&_ (le-leb 0 (length ks) (omega arith)) (le-leb (length ks) 8 h))
+    (ap (λ (w : ℕ). keysFit w ks) (sym (nth-width fs 0)) ∙ e))
 
 pub one-child : (fs : List Facts) → eqb (length (map (λ F. F .width) fs)) 1 ≡ true → length fs ≡ 1
 one-child fs e = sym (map-length (λ F. F .width) fs) ∙ eqb-true (length (map (λ F. F .width) fs)) 1 e
@@ -299,14 +311,21 @@ wanted-fits union fs e = nothing-wanted fs
 wanted-fits (repartition p n h ks) fs e = nothing-wanted fs
 wanted-fits (coalesce f) fs e = nothing-wanted fs
 wanted-fits (sortOp p ks f) fs e = nothing-wanted fs
-wanted-fits (mergeOp ks f) fs e = only-first (wanted (mergeOp ks f)) fs (one-child fs (search (and-left, and-right))) (sort-keys ks fs (some-short ks (search (and-left, and-right))) (search (and-left, and-right)))
+wanted-fits (mergeOp ks f) fs e = only-first (wanted (mergeOp ks f)) fs (one-child fs (search (and-left, and-right)))
+    (sort-keys ks fs (some-short ks (search (and-left, and-right))) (search (and-left, and-right)))
 wanted-fits (globalLimit s f note) fs e = nothing-wanted fs
 wanted-fits (localLimit f note) fs e = nothing-wanted fs
 wanted-fits (sortMergeJoin t on) fs e =
-    let k = on-keys (getD (map (λ F. F .width) fs) 0 0) (getD (map (λ F. F .width) fs) 1 0) on (search (and-left, and-right)) (search (and-left, and-right)) in
-    first-two (wanted (sortMergeJoin t on)) fs (two-children fs (search (and-left, and-right))) (subst (λ (w : ℕ). KeysFit w (map (λ k. k .key) on)) (nth-width fs 0) (k .0)) (subst (λ (w : ℕ). KeysFit w (map rightKey on)) (nth-width fs 1) (k .1))
+    let k = on-keys (getD (map (λ F. F .width) fs) 0 0) (getD (map (λ F. F .width) fs) 1 0) on (search (and-left, and-right))
+    (search (and-left, and-right)) in
+    first-two (wanted (sortMergeJoin t on)) fs (two-children fs (search (and-left, and-right)))
+    (subst (λ (w : ℕ). KeysFit w (map (λ k. k .key) on)) (nth-width fs 0) (k .0))
+    (subst (λ (w : ℕ). KeysFit w (map rightKey on)) (nth-width fs 1) (k .1))
 wanted-fits (hashJoin t on) fs e = nothing-wanted fs
 wanted-fits (outputRequirement ks d f) fs e =
     let c : columnsOk (outputRequirement ks d f) (map (λ F. F .width) fs) ≡ true = search (and-left, and-right) in
-    only-first (wanted (outputRequirement ks d f)) fs (one-child fs (search (and-left, and-right))) (sort-keys ks fs (few-short ks (search (and-left, and-right))) (and-left (keysFit (getD (map (λ F. F .width) fs) 0 0) ks) (distributionFits (getD (map (λ F. F .width) fs) 0 0) d) c))
-wanted-fits (partialSort p ks n f) fs e = only-first (wanted (partialSort p ks n f)) fs (one-child fs (search (and-left, and-right))) (take-keys n (at0 fs .width) ks (sort-keys ks fs (some-short ks (search (and-left, and-right))) (search (and-left, and-right))))
+    only-first (wanted (outputRequirement ks d f)) fs (one-child fs (search (and-left, and-right)))
+    (sort-keys ks fs (few-short ks (search (and-left, and-right)))
+    (and-left (keysFit (getD (map (λ F. F .width) fs) 0 0) ks) (distributionFits (getD (map (λ F. F .width) fs) 0 0) d) c))
+wanted-fits (partialSort p ks n f) fs e = only-first (wanted (partialSort p ks n f)) fs (one-child fs (search (and-left, and-right)))
+    (take-keys n (at0 fs .width) ks (sort-keys ks fs (some-short ks (search (and-left, and-right))) (search (and-left, and-right))))

@@ -61,7 +61,8 @@ module _ (F : Facts) (hF : Canon F) where
   pub fresh-nf : (raw low : List ℕ) (ks : List Key) → Seen raw low → nf F low (freshKeys F raw ks) ≡ nf F low ks
   fresh-nf raw low [] h = refl
   fresh-nf raw low (k ∷ ks) h =
-      go (isC F (k .col) || member (k .col) raw) refl (isC F c || member c low) refl (fresh-nf raw low ks h) (λ g. fresh-nf (k .col ∷ raw) low ks g) (λ g. fresh-nf (k .col ∷ raw) (c ∷ low) ks g)
+      go (isC F (k .col) || member (k .col) raw) refl (isC F c || member c low) refl (fresh-nf raw low ks h) (λ g. fresh-nf (k .col ∷ raw) low ks g)
+      (λ g. fresh-nf (k .col ∷ raw) (c ∷ low) ks g)
     where
       c : ℕ
       c = cl F (k .col)
@@ -85,14 +86,17 @@ module _ (F : Facts) (hF : Canon F) where
       go true e false q ih _ _ = no-bool (sym q ∙ drops e)
       go false e true q _ ih _ =
           ap (λ (x : Bool). cond x (nf F low (freshKeys F (k .col ∷ raw) ks)) (k′ ∷ nf F (c ∷ low) (freshKeys F (k .col ∷ raw) ks))) q
-          ∙ ih (seen-more (k .col) raw low h (in-low (isC F c) (member c low) q (hF .classes .const (k .col) ∙ or-false (isC F (k .col)) (member (k .col) raw) e .0)))
+          ∙ ih (seen-more (k .col) raw low h
+          (in-low (isC F c) (member c low) q (hF .classes .const (k .col) ∙ or-false (isC F (k .col)) (member (k .col) raw) e .0)))
         where
           in-low : (x y : Bool) → x || y ≡ true → x ≡ false → y ≡ true
           in-low true y p r = no-bool (sym r)
           in-low false y p r = p
       go false e false q _ _ ih =
           ap (λ (x : Bool). cond x (nf F low (freshKeys F (k .col ∷ raw) ks)) (k′ ∷ nf F (c ∷ low) (freshKeys F (k .col ∷ raw) ks))) q
-          ∙ ap (λ (l : List Key). k′ ∷ l) (ih (seen-more (k .col) raw (c ∷ low) (λ x m. or-right (eqb (cl F x) c) (member (cl F x) low) (h x m)) (ap (λ (x : Bool). x || member c low) (eq-eqb c c refl))))
+          ∙ ap (λ (l : List Key). k′ ∷ l)
+          (ih (seen-more (k .col) raw (c ∷ low) (λ x m. or-right (eqb (cl F x) c) (member (cl F x) low) (h x m))
+          (ap (λ (x : Bool). x || member c low) (eq-eqb c c refl))))
 
 pub fresh-same : (F : Facts) → Canon F → (ks : List Key) → nf F [] (freshKeys F [] ks) ≡ nf F [] ks
 fresh-same F h ks = fresh-nf F h [] [] ks (λ c e. no-bool e)

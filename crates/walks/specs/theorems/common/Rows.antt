@@ -29,7 +29,8 @@ use Rattle.walks.specs.theorems.ensure.Kept.{ensure-kept}
 bags-append : (E : Env) (i j : ℕ) (a b : Plan) → bags E i j (a ⊕ b) ≡ bags E i j a ++ bags E (past nextS a i) (past nextF a j) b
 bags-append E i j none b = refl
 bags-append E i j (tree o c r) b =
-    ap (λ (l : List (List Row)). bagOp E i j o (bags E (nextS o i) (nextF o j) c) ∷ l) (bags-append E (past nextS c (nextS o i)) (past nextF c (nextF o j)) r b)
+    ap (λ (l : List (List Row)). bagOp E i j o (bags E (nextS o i) (nextF o j) c) ∷ l)
+    (bags-append E (past nextS c (nextS o i)) (past nextF c (nextF o j)) r b)
 
 past-append : (n : Op → ℕ → ℕ) (a b : Plan) (i : ℕ) → past n (a ⊕ b) i ≡ past n b (past n a i)
 past-append n none b i = refl
@@ -66,7 +67,8 @@ pub skeleton-past : (n : Op → ℕ → ℕ) → ((o : Op) (i : ℕ) → easing 
 skeleton-past n h none i = refl
 skeleton-past n h (tree o c r) i = go (easing o) refl (λ k. skeleton-past n h c k) (λ k. skeleton-past n h r k)
   where
-    go : (b : Bool) → easing o ≡ b → ((k : ℕ) → past n (prune easing c) k ≡ past n c k) → ((k : ℕ) → past n (prune easing r) k ≡ past n r k) → past n (cond b (prune easing c) (tree o (prune easing c) none) ⊕ prune easing r) i ≡ past n r (past n c (n o i))
+    go : (b : Bool) → easing o ≡ b → ((k : ℕ) → past n (prune easing c) k ≡ past n c k) → ((k : ℕ) → past n (prune easing r) k ≡ past n r k)
+        → past n (cond b (prune easing c) (tree o (prune easing c) none) ⊕ prune easing r) i ≡ past n r (past n c (n o i))
     go true e p q = past-append n (prune easing c) (prune easing r) i ∙ q (past n (prune easing c) i) ∙ ap (past n r) (p i ∙ ap (past n c) (sym (h o i e)))
     go false e p q = q (past n (prune easing c) (n o i)) ∙ ap (past n r) (p (n o i))
 
@@ -84,13 +86,16 @@ skeleton-bags E i j (tree o c r) h = go (easing o) refl (λ k l. skeleton-bags E
         bags E i j (cond b (prune easing c) (tree o (prune easing c) none) ⊕ prune easing r) ≡ bags E i j (tree o c r)
     go true e p q =
         bags-append E i j (prune easing c) (prune easing r)
-        ∙ ap₂ (λ (x y : List (List Row)). x ++ y) (p i j) (q (past nextS (prune easing c) i) (past nextF (prune easing c) j) ∙ ap₂ (λ (x y : ℕ). bags E x y r) (skeleton-past nextS ease-nextS c i) (skeleton-past nextF ease-nextF c j))
+        ∙ ap₂ (λ (x y : List (List Row)). x ++ y) (p i j) (q (past nextS (prune easing c) i) (past nextF (prune easing c) j)
+        ∙ ap₂ (λ (x y : ℕ). bags E x y r) (skeleton-past nextS ease-nextS c i) (skeleton-past nextF ease-nextF c j))
         ∙ one-bag E i j c (bags E (past nextS c i) (past nextF c j) r) (subst (λ (z : Arity). FitsA z (count c)) (ease-one o e) (h .0))
         ∙ ap₂ (λ (x y : ℕ). getD (bags E x y c) 0 [] ∷ bags E (past nextS c x) (past nextF c y) r) (sym (ease-nextS o i e)) (sym (ease-nextF o j e))
-        ∙ ap (λ (x : List Row). x ∷ bags E (past nextS c (nextS o i)) (past nextF c (nextF o j)) r) (sym (eased-bag E i j o (bags E (nextS o i) (nextF o j) c) e))
+        ∙ ap (λ (x : List Row). x ∷ bags E (past nextS c (nextS o i)) (past nextF c (nextF o j)) r)
+        (sym (eased-bag E i j o (bags E (nextS o i) (nextF o j) c) e))
     go false e p q =
         ap₂ (λ (x y : List (List Row)). bagOp E i j o x ∷ y) (p (nextS o i) (nextF o j))
-        (q (past nextS (prune easing c) (nextS o i)) (past nextF (prune easing c) (nextF o j)) ∙ ap₂ (λ (x y : ℕ). bags E x y r) (skeleton-past nextS ease-nextS c (nextS o i)) (skeleton-past nextF ease-nextF c (nextF o j)))
+        (q (past nextS (prune easing c) (nextS o i)) (past nextF (prune easing c) (nextF o j)) ∙ ap₂ (λ (x y : ℕ). bags E x y r)
+        (skeleton-past nextS ease-nextS c (nextS o i)) (skeleton-past nextF ease-nextF c (nextF o j)))
 
 -- What a rewrite keeps, said of plans; a: limits may be added
 pub record SamePlan (a : Bool) (f g : Plan) : Type 0 where
@@ -116,12 +121,15 @@ kept-plan {a} f d k =
       live = λ h. k .live (subst Live (sym (strip-bare f)) h);
     }
 
-pub same-plan-rows : {a : Bool} {E E′ : Env} (f g : Plan) {x y : Forest Streams} → SameInputs E E′ f → Fit f → clear f ≡ true → SamePlan a f g → Run E 0 0 f x → Run E′ 0 0 g y → Each SameRows (roots x) (roots y)
-same-plan-rows {E′ = E′} f g d h e s = same-rows f g d (sym (skeleton-bags E′ 0 0 g (s .fit)) ∙ ap (bags E′ 0 0) (eased f g (s .bones)) ∙ skeleton-bags E′ 0 0 f h) (pure-simple f (clear-pure f e)) (pure-simple g (clear-pure g (s .uncut e)))
+pub same-plan-rows : {a : Bool} {E E′ : Env} (f g : Plan) {x y : Forest Streams} → SameInputs E E′ f → Fit f → clear f ≡ true → SamePlan a f g
+    → Run E 0 0 f x → Run E′ 0 0 g y → Each SameRows (roots x) (roots y)
+same-plan-rows {E′ = E′} f g d h e s = same-rows f g d (sym (skeleton-bags E′ 0 0 g (s .fit)) ∙ ap (bags E′ 0 0) (eased f g (s .bones))
+    ∙ skeleton-bags E′ 0 0 f h) (pure-simple f (clear-pure f e)) (pure-simple g (clear-pure g (s .uncut e)))
 
 -- ---- ensuring
 pub ensure-plan : (f : Plan) → Fit f → SamePlan true f (ensure f)
 ensure-plan f h = kept-plan f (transformUp ensureSorting f) (ensure-kept f h)
 
-pub ensure-rows : {E E′ : Env} (f : Plan) {x y : Forest Streams} → SameInputs E E′ f → Fit f → clear f ≡ true → Run E 0 0 f x → Run E′ 0 0 (ensure f) y → Each SameRows (roots x) (roots y)
+pub ensure-rows : {E E′ : Env} (f : Plan) {x y : Forest Streams} → SameInputs E E′ f → Fit f → clear f ≡ true → Run E 0 0 f x → Run E′ 0 0 (ensure f) y
+    → Each SameRows (roots x) (roots y)
 ensure-rows f d h e = same-plan-rows f (ensure f) d h e (ensure-plan f h)

@@ -71,7 +71,8 @@ added-none (add-limit e l h) = no-bool e
 -- ---- without limits, both are one
 prune-append : (p : Op → Bool) (f g : Plan) → prune p (f ⊕ g) ≡ prune p f ⊕ prune p g
 prune-append p none g = refl
-prune-append p (tree o c r) g = ap (λ (x : Plan). bone p o (prune p c) ⊕ x) (prune-append p r g) ∙ sym (⊕-assoc (bone p o (prune p c)) (prune p r) (prune p g))
+prune-append p (tree o c r) g = ap (λ (x : Plan). bone p o (prune p c) ⊕ x) (prune-append p r g)
+    ∙ sym (⊕-assoc (bone p o (prune p c)) (prune p r) (prune p g))
 
 pub easing-limit : (o : Op) → isLimit o ≡ true → easing o ≡ true
 easing-limit o e = go (or-cases (eqb (code o) 9) (eqb (code o) 10) e)
@@ -84,16 +85,20 @@ added-eased : {a : Bool} {f g : Plan} → Added a f g → prune easing g ≡ pru
 added-eased add-none = refl
 added-eased (add-tree {o = o} h k) = ap₂ (λ (x y : Plan). bone easing o x ⊕ y) (added-eased h) (added-eased k)
 added-eased {f = f} (add-limit {o = o} {d = d} {s = s} e l h) =
-    ap (λ (b : Bool). cond b (prune easing d) (tree o (prune easing d) none) ⊕ prune easing s) (easing-limit o l) ∙ sym (prune-append easing d s) ∙ added-eased h
+    ap (λ (b : Bool). cond b (prune easing d) (tree o (prune easing d) none) ⊕ prune easing s) (easing-limit o l) ∙ sym (prune-append easing d s)
+    ∙ added-eased h
 
 pub pass-ease : (o : Op) → passing o ≡ true → easing o ≡ true
-pass-ease o e = ap₂ _&&_ (and-left (leb 5 (code o)) (leb (code o) 8) e) (le-leb (code o) 10 (omega (arith, leb-true (code o) 8 (and-right (leb 5 (code o)) (leb (code o) 8) e))))
+pass-ease o e = ap₂ _&&_ (and-left (leb 5 (code o)) (leb (code o) 8) e)
+    (le-leb (code o) 10 (omega (arith, leb-true (code o) 8 (and-right (leb 5 (code o)) (leb (code o) 8) e))))
 
 skel-eased : (f : Plan) → prune easing (skel f) ≡ prune easing f
 skel-eased none = refl
-skel-eased (tree o c r) = prune-append easing (bone passing o (skel c)) (skel r) ∙ ap₂ (λ (x y : Plan). x ⊕ y) (go (passing o) refl (skel-eased c)) (skel-eased r)
+skel-eased (tree o c r) = prune-append easing (bone passing o (skel c)) (skel r) ∙ ap₂ (λ (x y : Plan). x ⊕ y) (go (passing o) refl (skel-eased c))
+    (skel-eased r)
   where
-    go : (b : Bool) → passing o ≡ b → prune easing (skel c) ≡ prune easing c → prune easing (cond b (skel c) (tree o (skel c) none)) ≡ bone easing o (prune easing c)
+    go : (b : Bool) → passing o ≡ b → prune easing (skel c) ≡ prune easing c → prune easing (cond b (skel c) (tree o (skel c) none)) ≡ bone easing o
+        (prune easing c)
     go true e ih = ih ∙ sym (ap (λ (x : Bool). cond x (prune easing c) (tree o (prune easing c) none)) (pass-ease o e))
     go false e ih = ⊕-none (bone easing o (prune easing (skel c))) ∙ ap (bone easing o) ih
 

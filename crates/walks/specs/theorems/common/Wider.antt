@@ -42,7 +42,8 @@ front-refl (k ∷ p) = front-cons (front-refl p)
 front-prefix : (p : List Key) {q r : List Key} → prefixb p q ≡ true → Front q r → prefixb p r ≡ true
 front-prefix [] e f = refl
 front-prefix (k ∷ p) e front-nil = no-bool e
-front-prefix (k ∷ p) e (front-cons {k = l} {p = q} f) = ap₂ _&&_ (and-left (eqKey k l) (prefixb p q) e) (front-prefix p (and-right (eqKey k l) (prefixb p q) e) f)
+front-prefix (k ∷ p) e (front-cons {k = l} {p = q} f) = ap₂ _&&_ (and-left (eqKey k l) (prefixb p q) e)
+    (front-prefix p (and-right (eqKey k l) (prefixb p q) e) f)
 
 front-cond : (b : Bool) {p q : List Key} → Front p q → Front (cond b p []) (cond b q [])
 front-cond true f = f
@@ -63,9 +64,12 @@ front-within w (front-cons {k = k} f) = front-cond (ltb (k .col) w) (front-cons 
 
 front-nf : (cs : ℕ → Bool) (low : ℕ → ℕ) (seen : List ℕ) {p q : List Key} → Front p q → Front (nfBy cs low seen p) (nfBy cs low seen q)
 front-nf cs low seen front-nil = front-nil
-front-nf cs low seen (front-cons {k = k} {p = p} {q = q} f) = go (cs (low (k .col)) || member (low (k .col)) seen) (front-nf cs low seen f) (front-nf cs low (low (k .col) ∷ seen) f)
+front-nf cs low seen (front-cons {k = k} {p = p} {q = q} f) = go (cs (low (k .col)) || member (low (k .col)) seen) (front-nf cs low seen f)
+    (front-nf cs low (low (k .col) ∷ seen) f)
   where
-    go : (b : Bool) → Front (nfBy cs low seen p) (nfBy cs low seen q) → Front (nfBy cs low (low (k .col) ∷ seen) p) (nfBy cs low (low (k .col) ∷ seen) q) → Front (cond b (nfBy cs low seen p) (withColumn (low (k .col)) k ∷ nfBy cs low (low (k .col) ∷ seen) p)) (cond b (nfBy cs low seen q) (withColumn (low (k .col)) k ∷ nfBy cs low (low (k .col) ∷ seen) q))
+    go : (b : Bool) → Front (nfBy cs low seen p) (nfBy cs low seen q) → Front (nfBy cs low (low (k .col) ∷ seen) p) (nfBy cs low (low (k .col) ∷ seen) q)
+        → Front (cond b (nfBy cs low seen p) (withColumn (low (k .col)) k ∷ nfBy cs low (low (k .col) ∷ seen) p))
+        (cond b (nfBy cs low seen q) (withColumn (low (k .col)) k ∷ nfBy cs low (low (k .col) ∷ seen) q))
     go true h _ = h
     go false _ h = front-cons h
 
@@ -102,11 +106,13 @@ module _ (F G : Facts) (w : Wider F G) where
       marked : counts p F ≡ true → counts p G ≡ true
       marked e =
           let m : p ≡ true = search and-left in
-          ap₂ _&&_ m (ap₂ _&&_ (ap not (front-some (w .order) (not-true (isNil (F .order)) (search (and-left, and-right))))) (lt-ltb 1 (G .streams) (w .several (ltb-true 1 (F .streams) (search (and-left, and-right))))))
+          ap₂ _&&_ m (ap₂ _&&_ (ap not (front-some (w .order) (not-true (isNil (F .order)) (search (and-left, and-right)))))
+          (lt-ltb 1 (G .streams) (w .several (ltb-true 1 (F .streams) (search (and-left, and-right))))))
 
       go : (a : Bool) → eqb (F .streams) 1 ≡ a → (b : Bool) → counts p F ≡ b → Front (cond (a || b) (F .order) []) (cond (keepsOrder p G) (G .order) [])
       go true e b f = one (w .alone (eqb-true (F .streams) 1 e))
-      go false e true f = subst (λ (x : Bool). Front (F .order) (cond x (G .order) [])) (sym (or-right (eqb (G .streams) 1) (counts p G) (marked f))) (w .order)
+      go false e true f = subst (λ (x : Bool). Front (F .order) (cond x (G .order) [])) (sym (or-right (eqb (G .streams) 1) (counts p G) (marked f)))
+          (w .order)
       go false e false f = front-nil
 
   limit-order : Front (cond (eqb (F .streams) 1) (F .order) []) (cond (eqb (G .streams) 1) (G .order) [])
@@ -122,7 +128,9 @@ module _ (F G : Facts) (w : Wider F G) where
 
   project-blank : (cols : List ℕ) (ks : List Key) → projOrder G cols ks ≡ projOrder F cols ks
   project-blank cols [] = refl
-  project-blank cols (k ∷ ks) = ap₂ (λ (B : Facts) (l : List Key). cond (ltb (carried B cols (k .col)) (length cols)) (withColumn (carried B cols (k .col)) k ∷ l) []) (w .base) (project-blank cols ks)
+  project-blank cols (k ∷ ks) =
+      ap₂ (λ (B : Facts) (l : List Key). cond (ltb (carried B cols (k .col)) (length cols)) (withColumn (carried B cols (k .col)) k ∷ l) []) (w .base)
+      (project-blank cols ks)
 
   front-project : (cols : List ℕ) {p q : List Key} → Front p q → Front (projOrder F cols p) (projOrder F cols q)
   front-project cols front-nil = front-nil
@@ -185,16 +193,20 @@ right-front RightSemi w f = f
 right-front RightAnti w f = f
 
 join-front : (t : JoinType) (k : Kept) (F G F′ G′ : Facts) → Wider F F′ → Wider G G′ → Front (joinOrder t k F G) (joinOrder t k F′ G′)
-join-front t kLeft F G F′ G′ v w = subst (λ (x : ℕ). Front (joinOrder t kLeft F G) (leftOrder t x (F′ .order))) (sym (ap (λ (B : Facts). B .width) (v .base))) (left-front t (F .width) (v .order))
-join-front t kRight F G F′ G′ v w = subst (λ (x : ℕ). Front (joinOrder t kRight F G) (rightOrder t x (G′ .order))) (sym (ap (λ (B : Facts). B .width) (v .base))) (right-front t (F .width) (w .order))
+join-front t kLeft F G F′ G′ v w = subst (λ (x : ℕ). Front (joinOrder t kLeft F G) (leftOrder t x (F′ .order)))
+    (sym (ap (λ (B : Facts). B .width) (v .base))) (left-front t (F .width) (v .order))
+join-front t kRight F G F′ G′ v w = subst (λ (x : ℕ). Front (joinOrder t kRight F G) (rightOrder t x (G′ .order)))
+    (sym (ap (λ (B : Facts). B .width) (v .base))) (right-front t (F .width) (w .order))
 join-front t kNone F G F′ G′ v w = front-nil
 
 -- n streams, and n′ after
-join-wider : (t : JoinType) (k : Kept) (on : List On) (F G F′ G′ : Facts) (n n′ : ℕ) → Wider F F′ → Wider G G′ → blank (joinBase t on F′ G′) ≡ blank (joinBase t on F G) → (n ≡ 1 → (joinOrder t k F G ≡ []) ⊎ (n′ ≡ 1)) → (1 < n → 1 < n′) → Wider (joinFacts t k on F G n) (joinFacts t k on F′ G′ n′)
+join-wider : (t : JoinType) (k : Kept) (on : List On) (F G F′ G′ : Facts) (n n′ : ℕ) → Wider F F′ → Wider G G′ → blank (joinBase t on F′ G′) ≡ blank
+    (joinBase t on F G) → (n ≡ 1 → (joinOrder t k F G ≡ []) ⊎ (n′ ≡ 1)) → (1 < n → 1 < n′) → Wider (joinFacts t k on F G n) (joinFacts t k on F′ G′ n′)
 join-wider t k on F G F′ G′ n n′ v w b a s =
     record {
       base = b;
-      order = subst (λ (B : Facts). Front (nf (joinBase t on F G) [] (joinOrder t k F G)) (nf B [] (joinOrder t k F′ G′))) (sym b) (front-nf (isC (joinBase t on F G)) (cl (joinBase t on F G)) [] (join-front t k F G F′ G′ v w));
+      order = subst (λ (B : Facts). Front (nf (joinBase t on F G) [] (joinOrder t k F G)) (nf B [] (joinOrder t k F′ G′))) (sym b)
+          (front-nf (isC (joinBase t on F G)) (cl (joinBase t on F G)) [] (join-front t k F G F′ G′ v w));
       alone = λ e. none-joined (a e);
       several = s;
     }
@@ -257,10 +269,12 @@ module _ {fs gs : List Facts} (ws : Each Wider fs gs) (hs : All Some fs) (ks : A
 
   merge-join : (t : JoinType) (on : List On) → Wider (factsOp (sortMergeJoin t on) fs) (factsOp (sortMergeJoin t on) gs)
   merge-join t on =
-      join-wider t (smjKept t) on (at0 fs) (at1 fs) (at0 gs) (at1 gs) (cond (byRight t) (at1 fs .streams) (at0 fs .streams)) (cond (byRight t) (at1 gs .streams) (at0 gs .streams)) w0 w1
+      join-wider t (smjKept t) on (at0 fs) (at1 fs) (at0 gs) (at1 gs) (cond (byRight t) (at1 fs .streams) (at0 fs .streams))
+      (cond (byRight t) (at1 gs .streams) (at0 gs .streams)) w0 w1
       (op-blank (sortMergeJoin t on) gs fs (bases-of ws)) (alone t) (several (byRight t))
     where
-      alone : (t : JoinType) → cond (byRight t) (at1 fs .streams) (at0 fs .streams) ≡ 1 → (joinOrder t (smjKept t) (at0 fs) (at1 fs) ≡ []) ⊎ (cond (byRight t) (at1 gs .streams) (at0 gs .streams) ≡ 1)
+      alone : (t : JoinType) → cond (byRight t) (at1 fs .streams) (at0 fs .streams) ≡ 1 → (joinOrder t (smjKept t) (at0 fs) (at1 fs) ≡ []) ⊎
+          (cond (byRight t) (at1 gs .streams) (at0 gs .streams) ≡ 1)
       alone Inner e = no-left Inner (at0 fs) (at1 fs) (w0 .alone e)
       alone Left e = no-left Left (at0 fs) (at1 fs) (w0 .alone e)
       alone Right e = no-right Right (at0 fs) (at1 fs) (w1 .alone e)
@@ -276,7 +290,8 @@ module _ {fs gs : List Facts} (ws : Each Wider fs gs) (hs : All Some fs) (ks : A
 
   hash-join : (t : JoinType) (on : List On) → Wider (factsOp (hashJoin t on) fs) (factsOp (hashJoin t on) gs)
   hash-join t on =
-      join-wider t (hashKept t) on (at0 fs) (at1 fs) (at0 gs) (at1 gs) (at1 fs .streams) (at1 gs .streams) w0 w1 (op-blank (hashJoin t on) gs fs (bases-of ws)) (alone (hashKept t) (kept-right t)) (w1 .several)
+      join-wider t (hashKept t) on (at0 fs) (at1 fs) (at0 gs) (at1 gs) (at1 fs .streams) (at1 gs .streams) w0 w1
+      (op-blank (hashJoin t on) gs fs (bases-of ws)) (alone (hashKept t) (kept-right t)) (w1 .several)
     where
       kept-right : (u : JoinType) → (hashKept u ≡ kRight) ⊎ (hashKept u ≡ kNone)
       kept-right Inner = inl refl
@@ -289,7 +304,8 @@ module _ {fs gs : List Facts} (ws : Each Wider fs gs) (hs : All Some fs) (ks : A
       kept-right RightAnti = inl refl
 
       alone : (k : Kept) → (k ≡ kRight) ⊎ (k ≡ kNone) → at1 fs .streams ≡ 1 → (joinOrder t k (at0 fs) (at1 fs) ≡ []) ⊎ (at1 gs .streams ≡ 1)
-      alone k (inl q) e = subst (λ (x : Kept). (joinOrder t x (at0 fs) (at1 fs) ≡ []) ⊎ (at1 gs .streams ≡ 1)) (sym q) (no-right t (at0 fs) (at1 fs) (w1 .alone e))
+      alone k (inl q) e = subst (λ (x : Kept). (joinOrder t x (at0 fs) (at1 fs) ≡ []) ⊎ (at1 gs .streams ≡ 1)) (sym q)
+          (no-right t (at0 fs) (at1 fs) (w1 .alone e))
       alone k (inr q) e = inl (ap (λ (x : Kept). joinOrder t x (at0 fs) (at1 fs)) q)
 
   sort-wider : (p : Bool) (l : List Key) (f : Fetch) → 1 < sortStreams p (at0 fs) → Wider (factsOp (sortOp p l f) fs) (factsOp (sortOp p l f) gs)
@@ -305,7 +321,8 @@ module _ {fs gs : List Facts} (ws : Each Wider fs gs) (hs : All Some fs) (ks : A
   op-wider (coalesce f) h = single (at0 fs) (at0 gs) [] [] (w0 .base) front-nil
   op-wider (sortOp p l f) h = sort-wider p l f (h .0 refl)
   op-wider (mergeOp l f) h = single (at0 fs) (at0 gs) (nf (at0 fs) [] l) (nf (at0 gs) [] l) (w0 .base) (same-nf (at0 fs) (at0 gs) w0 l)
-  op-wider (globalLimit s f note) h = single (at0 fs) (at0 gs) (cond (eqb (at0 fs .streams) 1) (at0 fs .order) []) (cond (eqb (at0 gs .streams) 1) (at0 gs .order) []) (w0 .base) (limit-order (at0 fs) (at0 gs) w0)
+  op-wider (globalLimit s f note) h = single (at0 fs) (at0 gs) (cond (eqb (at0 fs .streams) 1) (at0 fs .order) [])
+      (cond (eqb (at0 gs .streams) 1) (at0 gs .order) []) (w0 .base) (limit-order (at0 fs) (at0 gs) w0)
   op-wider (localLimit f note) h = w0
   op-wider (sortMergeJoin t on) h = merge-join t on
   op-wider (hashJoin t on) h = hash-join t on

@@ -48,7 +48,8 @@ updated-op m c d = go (anyMark c || isNil (roots c))
     go false = refl
 
 abbrev Removed : Bool → Bool → Bool → Forest Marked → Forest Marked → Op → Type 0
-Removed b h x c d o = FitsA (arity o) (count (strip c)) → Fit (strip c) → KeepsAll true b h c d → Keeps true b h (node o x c) (removeBy (shape o) (record { op = o; mark = x }) c d)
+Removed b h x c d o = FitsA (arity o) (count (strip c)) → Fit (strip c) → KeepsAll true b h c d → Keeps true b h (node o x c)
+    (removeBy (shape o) (record { op = o; mark = x }) c d)
 
 abbrev Stepped : Bool → Bool → Bool → Forest Marked → Op → Type 0
 Stepped b h x c o = FitT (node o x c) → Keeps true b h (node o x c) (ensureBy (shape o) (node o x c))
@@ -58,16 +59,22 @@ module _ {b h : Bool} where
   kept-connected {u = u} x k = kept-trans k (remarked u x (connectedEach (u .kids)) (strip-connected (u .kids)) (k .fit))
 
   -- ---- removing
-  single-stream-over : (ks : List Key) (f : Fetch) (t : Tree) → FitT t → (PureT t → isAll f ≡ true) → (OkT t → KeysFit (fact t .width) ks × (fetchOk f ≡ true)) → Keeps true b h t (over (singleStreamOp ks f) false t)
-  single-stream-over [] f t g q r = kept-over (coalesce Unlimited) false refl (λ i p. refl) (λ i v w. coalesce-ok Unlimited (fact t .width ∷ []) refl (refl, narrowT t w)) refl (kept-refl t g)
+  single-stream-over : (ks : List Key) (f : Fetch) (t : Tree) → FitT t → (PureT t → isAll f ≡ true)
+      → (OkT t → KeysFit (fact t .width) ks × (fetchOk f ≡ true)) → Keeps true b h t (over (singleStreamOp ks f) false t)
+  single-stream-over [] f t g q r = kept-over (coalesce Unlimited) false refl (λ i p. refl)
+      (λ i v w. coalesce-ok Unlimited (fact t .width ∷ []) refl (refl, narrowT t w)) refl (kept-refl t g)
   single-stream-over (k ∷ ks) f t g q r =
-      kept-over (mergeOp (k ∷ ks) f) false refl (λ i p. uncut-fetch f (q p)) (λ i v w. let s = r w in merge-ok k ks f (fact t .width ∷ []) (s .0) (s .1) (refl, narrowT t w)) refl (kept-refl t g)
+      kept-over (mergeOp (k ∷ ks) f) false refl (λ i p. uncut-fetch f (q p)) (λ i v w. let s = r w in
+      merge-ok k ks f (fact t .width ∷ []) (s .0) (s .1) (refl, narrowT t w)) refl (kept-refl t g)
 
   single-stream-kept : {t u : Tree} (s : Bool) → Keeps true b h t u → Keeps true b h t (withSingleStream s u)
   single-stream-kept {u = u} s k =
-      kept-trans k (kept-cond (s && ltb 1 (fact u .streams)) (kept-connected false (single-stream-over (fact u .order) (fetchT u) u (k .fit) (pure-fetch u) (λ w. (order-fits u w, fetch-ok u w)))) (kept-refl u (k .fit)))
+      kept-trans k (kept-cond (s && ltb 1 (fact u .streams))
+      (kept-connected false (single-stream-over (fact u .order) (fetchT u) u (k .fit) (pure-fetch u) (λ w. (order-fits u w, fetch-ok u w))))
+      (kept-refl u (k .fit)))
 
-  updated-kept : (m : Marked) (c d : Forest Marked) → FitsA (arity (m .op)) (count (strip c)) → KeepsAll true b h c d → Keeps true b h (at m c) (updatedAfterRemoval m c d)
+  updated-kept : (m : Marked) (c d : Forest Marked) → FitsA (arity (m .op)) (count (strip c)) → KeepsAll true b h c d
+      → Keeps true b h (at m c) (updatedAfterRemoval m c d)
   updated-kept m c d f k =
       let r : Keeps true b h (at m c) (rebuild (m .op) (m .mark) d) = kept-rebuild (m .op) (m .mark) (m .mark) c d f k in
       kept-cond (anyMark c || isNil (roots c)) (kept-connected false r) r
@@ -87,25 +94,30 @@ module _ {b h : Bool} where
       (λ p n q ks i g k.
       let m : Marked = record { op = repartition p n q ks; mark = x } in
       let r : Keeps true b h (at m c) (updatedAfterRemoval m c d) = updated-kept m c d i k in
-      kept-trans r (kept-node (opT (updatedAfterRemoval m c d)) _ (updatedAfterRemoval m c d .top .mark) _ (updatedAfterRemoval m c d .kids) _ (remark-like (λ z. false) (opT (updatedAfterRemoval m c d))) (r .fit .0) (all-kept-refl (updatedAfterRemoval m c d .kids) (r .fit .1))))
+      kept-trans r (kept-node (opT (updatedAfterRemoval m c d)) _ (updatedAfterRemoval m c d .top .mark) _ (updatedAfterRemoval m c d .kids) _
+      (remark-like (λ z. false) (opT (updatedAfterRemoval m c d))) (r .fit .0) (all-kept-refl (updatedAfterRemoval m c d .kids) (r .fit .1))))
       (λ f i g k. updated-kept _ c d i k)
       (λ o e i g k. subst (λ (s : Shape). Keeps true b h (node o x c) (removeBy s (record { op = o; mark = x }) c d)) (sym e) (updated-kept _ c d i k))
 
-  removeTop-kept : (s : Bool) (m : Marked) (c d : Forest Marked) → FitsA (arity (m .op)) (count (strip c)) → Fit (strip c) → KeepsAll true b h c d → Keeps true b h (at m c) (removeTop s m c d)
+  removeTop-kept : (s : Bool) (m : Marked) (c d : Forest Marked) → FitsA (arity (m .op)) (count (strip c)) → Fit (strip c) → KeepsAll true b h c d
+      → Keeps true b h (at m c) (removeTop s m c d)
   removeTop-kept s m c d i g k = single-stream-kept s (removeBy-kept (m .mark) c d (m .op) i g k)
 
   pub removeKids-kept : (q : ℕ → Bool) (c : Forest Marked) → Fit (strip c) → KeepsAll true b h c (removeKids q c)
   removeKids-kept q none f = all-kept-none
   removeKids-kept q (tree m c r) f =
-      kept-plant (kept-cond (m .mark) (removeTop-kept (q 0) m c (removeKids (singles (m .op)) c) (f .0) (f .1) (removeKids-kept (singles (m .op)) c (f .1))) (kept-refl (at m c) (f .0, f .1)))
+      kept-plant (kept-cond (m .mark) (removeTop-kept (q 0) m c (removeKids (singles (m .op)) c) (f .0) (f .1) (removeKids-kept (singles (m .op)) c (f .1)))
+      (kept-refl (at m c) (f .0, f .1)))
       (removeKids-kept (λ i. q (suc i)) r (f .2))
 
   updateChild-kept : (s : Bool) (t : Tree) → FitT t → Keeps true b h t (updateChildToRemoveUnnecessarySort s t)
   updateChild-kept s t f =
-      kept-mark false (kept-cond (t .top .mark) (removeTop-kept s (t .top) (t .kids) (removeKids (singles (opT t)) (t .kids)) (f .0) (f .1) (removeKids-kept (singles (opT t)) (t .kids) (f .1))) (kept-refl t f))
+      kept-mark false (kept-cond (t .top .mark) (removeTop-kept s (t .top) (t .kids) (removeKids (singles (opT t)) (t .kids)) (f .0) (f .1)
+      (removeKids-kept (singles (opT t)) (t .kids) (f .1))) (kept-refl t f))
 
   -- ---- a sort that is not needed
-  limited-kept : (p : Bool) (ks : List Key) (f : Fetch) (x : Bool) (c : Forest Marked) → FitT (node (sortOp p ks f) x c) → Keeps true b h (node (sortOp p ks f) x c) (limited f (node (sortOp p ks f) x c) (kid0 (node (sortOp p ks f) x c) c))
+  limited-kept : (p : Bool) (ks : List Key) (f : Fetch) (x : Bool) (c : Forest Marked) → FitT (node (sortOp p ks f) x c)
+      → Keeps true b h (node (sortOp p ks f) x c) (limited f (node (sortOp p ks f) x c) (kid0 (node (sortOp p ks f) x c) c))
   limited-kept p ks Unlimited x c f =
       let t : Tree = node (sortOp p ks Unlimited) x c in
       let u : Tree = kid0 t c in
@@ -126,24 +138,32 @@ module _ {b h : Bool} where
       note v = subst (λ (F : Facts). KeysFit (F .width) (fact t .order)) (sym (k .base)) (order-fits t v)
 
       go : (y : Bool) → Keeps true b h t (over (cond y (globalLimit 0 (AtMost n) (fact t .order)) (localLimit (AtMost n) (fact t .order))) false u)
-      go true = kept-limit _ false refl refl (λ i q. q .0) (λ i v w. global-ok n (fact t .order) (fact u .width ∷ []) (note v) (node-fetch (sortOp p ks (AtMost n)) (map (λ F. F .width) (known c)) (v .0)) (refl, narrowT u w)) refl k
-      go false = kept-limit _ false refl refl (λ i q. q .0) (λ i v w. local-ok n (fact t .order) (fact u .width ∷ []) (note v) (node-fetch (sortOp p ks (AtMost n)) (map (λ F. F .width) (known c)) (v .0)) (refl, narrowT u w)) refl k
+      go true = kept-limit _ false refl refl (λ i q. q .0)
+          (λ i v w. global-ok n (fact t .order) (fact u .width ∷ []) (note v) (node-fetch (sortOp p ks (AtMost n)) (map (λ F. F .width) (known c)) (v .0))
+          (refl, narrowT u w)) refl k
+      go false = kept-limit _ false refl refl (λ i q. q .0)
+          (λ i v w. local-ok n (fact t .order) (fact u .width ∷ []) (note v) (node-fetch (sortOp p ks (AtMost n)) (map (λ F. F .width) (known c)) (v .0))
+          (refl, narrowT u w)) refl k
 
-  immediate-kept : (p : Bool) (ks : List Key) (f : Fetch) (x : Bool) (c : Forest Marked) → FitT (node (sortOp p ks f) x c) → Keeps true b h (node (sortOp p ks f) x c) (analyzeImmediateSortRemoval p ks f (node (sortOp p ks f) x c) (kid0 (node (sortOp p ks f) x c) c))
+  immediate-kept : (p : Bool) (ks : List Key) (f : Fetch) (x : Bool) (c : Forest Marked) → FitT (node (sortOp p ks f) x c)
+      → Keeps true b h (node (sortOp p ks f) x c) (analyzeImmediateSortRemoval p ks f (node (sortOp p ks f) x c) (kid0 (node (sortOp p ks f) x c) c))
   immediate-kept p ks f x c g =
       let t : Tree = node (sortOp p ks f) x c in
       let u : Tree = setMark false (kid0 t c) in
       let k : Keeps true b h t u = kept-mark false (kept-first t refl g) in
-      kept-cond (not p && ltb 1 (fact (kid0 t c) .streams)) (kept-over (mergeOp ks f) false refl (λ i q. q .0) (λ i v w. merged-ok p ks f x c g v) refl k) (limited-kept p ks f x c g)
+      kept-cond (not p && ltb 1 (fact (kid0 t c) .streams)) (kept-over (mergeOp ks f) false refl (λ i q. q .0) (λ i v w. merged-ok p ks f x c g v) refl k)
+      (limited-kept p ks f x c g)
     where
       -- the sort's own keys, over its own child
-      merged-ok : (p : Bool) (ks : List Key) (f : Fetch) (x : Bool) (c : Forest Marked) → FitT (node (sortOp p ks f) x c) → OkT (node (sortOp p ks f) x c) → nodeOk (mergeOp ks f) (fact (kid0 (node (sortOp p ks f) x c) c) .width ∷ []) ≡ true
+      merged-ok : (p : Bool) (ks : List Key) (f : Fetch) (x : Bool) (c : Forest Marked) → FitT (node (sortOp p ks f) x c) → OkT (node (sortOp p ks f) x c)
+          → nodeOk (mergeOp ks f) (fact (kid0 (node (sortOp p ks f) x c) c) .width ∷ []) ≡ true
       merged-ok p ks f x none g v = absurd (omega (arith, g .0))
       merged-ok p ks f x (tree m d none) g v = v .0
       merged-ok p ks f x (tree m d (tree n e r)) g v = absurd (omega (arith, g .0))
 
 -- ---- the loop
-ensureChild-kept : (w : List Key) (b s : Bool) (f : Fetch) (t : Tree) → FitT t → Keeps true (isAll f) (keysOk (fact t .width) w && fetchOk f) t (ensureChild w b s f t)
+ensureChild-kept : (w : List Key) (b s : Bool) (f : Fetch) (t : Tree) → FitT t → Keeps true (isAll f) (keysOk (fact t .width) w && fetchOk f) t
+    (ensureChild w b s f t)
 ensureChild-kept [] b s f t g = kept-cond (isNil (fact t .order) || not b) (updateChild-kept s t g) (kept-refl t g)
 ensureChild-kept (k ∷ w) b s f t g =
     kept-cond (met (fact t) (k ∷ w)) (kept-refl t g)
@@ -155,17 +175,23 @@ ensureChild-kept (k ∷ w) b s f t g =
     below : Keeps true (isAll f) (keysOk (fact t .width) (k ∷ w) && fetchOk f) t u
     below = kept-cond (isNil (fact t .order)) (kept-refl t g) (updateChild-kept s t g)
 
-    new : (keysOk (fact t .width) (k ∷ w) && fetchOk f) ≡ true → OkT t → OkT u → KeysFit (fact u .width) (freshKeys (fact u) [] (k ∷ w)) × (fetchOk f ≡ true)
+    new : (keysOk (fact t .width) (k ∷ w) && fetchOk f) ≡ true → OkT t → OkT u → KeysFit (fact u .width) (freshKeys (fact u) [] (k ∷ w))
+        × (fetchOk f ≡ true)
     new e v x = (
-      fresh-keys (fact u) (fact u .width) (k ∷ w) (subst (λ (F : Facts). KeysFit (F .width) (k ∷ w)) (sym (below .base)) (keys-of (fact t .width) (k ∷ w) (and-left (keysOk (fact t .width) (k ∷ w)) (fetchOk f) e))),
+      fresh-keys (fact u) (fact u .width) (k ∷ w)
+          (subst (λ (F : Facts). KeysFit (F .width) (k ∷ w)) (sym (below .base))
+          (keys-of (fact t .width) (k ∷ w) (and-left (keysOk (fact t .width) (k ∷ w)) (fetchOk f) e))),
       and-right (keysOk (fact t .width) (k ∷ w)) (fetchOk f) e,
     )
 
-pub ensureEach-kept : (w : ℕ → List Key) (b s : ℕ → Bool) (f : Fetch) (c : Forest Marked) → Fit (strip c) → KeepsAll true (isAll f) (wantsFit w (known c) && fetchOk f) c (ensureEach w b s f c)
+pub ensureEach-kept : (w : ℕ → List Key) (b s : ℕ → Bool) (f : Fetch) (c : Forest Marked) → Fit (strip c)
+    → KeepsAll true (isAll f) (wantsFit w (known c) && fetchOk f) c (ensureEach w b s f c)
 ensureEach-kept w b s f none g = all-kept-none
 ensureEach-kept w b s f (tree m c r) g =
-    kept-plant (kept-when (λ e p. e) (λ e p. split (keysOk (fact (at m c) .width) (w 0)) rest (fetchOk f) e .0) (ensureChild-kept (w 0) (b 0) (s 0) f (at m c) (g .0, g .1)))
-    (all-kept-when (λ e. split (keysOk (fact (at m c) .width) (w 0)) rest (fetchOk f) e .1) (ensureEach-kept (λ i. w (suc i)) (λ i. b (suc i)) (λ i. s (suc i)) f r (g .2)))
+    kept-plant (kept-when (λ e p. e) (λ e p. split (keysOk (fact (at m c) .width) (w 0)) rest (fetchOk f) e .0)
+    (ensureChild-kept (w 0) (b 0) (s 0) f (at m c) (g .0, g .1)))
+    (all-kept-when (λ e. split (keysOk (fact (at m c) .width) (w 0)) rest (fetchOk f) e .1)
+    (ensureEach-kept (λ i. w (suc i)) (λ i. b (suc i)) (λ i. s (suc i)) f r (g .2)))
   where
     rest : Bool
     rest = wantsFit (λ i. w (suc i)) (known r)
@@ -194,17 +220,23 @@ module _ {b h : Bool} where
   afterLoop-kept : (t : Tree) → FitT t → Keeps true b h t (afterLoop t)
   afterLoop-kept t g =
       let o : Op = opT t in
-      kept-under (isAll (outputFetch o)) (wantsFit (wanted o) (known (t .kids)) && fetchOk (outputFetch o)) o _ (t .top .mark) false (t .kids) _ (remark-like _ o) (output-all o)
+      kept-under (isAll (outputFetch o)) (wantsFit (wanted o) (known (t .kids)) && fetchOk (outputFetch o)) o _ (t .top .mark) false (t .kids) _
+      (remark-like _ o) (output-all o)
       (λ v. ap₂ _&&_ (wanted-fits o (known (t .kids)) (v .0)) (output-ok o (map (λ F. F .width) (known (t .kids))) (v .0))) (g .0)
       (ensureEach-kept (wanted o) (maintains o (known (t .kids))) (singles o) (outputFetch o) (t .kids) (g .1))
 
-  unmerged-kept : (ks : List Key) (f : Fetch) (x : Bool) (c : Forest Marked) → FitT (node (mergeOp ks f) x c) → Keeps true b h (node (mergeOp ks f) x c) (unmerged f (node (mergeOp ks f) x c))
+  unmerged-kept : (ks : List Key) (f : Fetch) (x : Bool) (c : Forest Marked) → FitT (node (mergeOp ks f) x c) → Keeps true b h (node (mergeOp ks f) x c)
+      (unmerged f (node (mergeOp ks f) x c))
   unmerged-kept ks Unlimited x c g = kept-first (node (mergeOp ks Unlimited) x c) refl g
   unmerged-kept ks (AtMost n) x c g =
       record {
         fit = g;
         pure = λ e p. p;
-        ok = λ e p. (local-ok n (fact t .order) ws (subst (λ (w : ℕ). KeysFit w (fact t .order)) (sym (nth-width (known c) 0)) (order-fits t p)) (node-fetch (mergeOp ks (AtMost n)) ws (p .0)) (over-of (mergeOp ks (AtMost n)) ws refl (p .0)), p .1);
+        ok = λ e p. (
+          local-ok n (fact t .order) ws (subst (λ (w : ℕ). KeysFit w (fact t .order)) (sym (nth-width (known c) 0)) (order-fits t p))
+              (node-fetch (mergeOp ks (AtMost n)) ws (p .0)) (over-of (mergeOp ks (AtMost n)) ws refl (p .0)),
+          p .1,
+        );
         bones = added-over _ refl refl (added-refl (skel (strip c)));
         base = refl;
         live = λ p. (refl, p .1);
@@ -225,7 +257,8 @@ module _ {b h : Bool} where
       (λ ks f g.
       let t : Tree = node (mergeOp ks f) x c in
       let k : Keeps true b h t (afterLoop t) = afterLoop-kept t g in
-      kept-cond (leb (at0 (known (afterLoop t .kids)) .streams) 1) (kept-trans k (unmerged-kept ks f false (afterLoop t .kids) (k .fit))) (kept-connected false k))
+      kept-cond (leb (at0 (known (afterLoop t .kids)) .streams) 1) (kept-trans k (unmerged-kept ks f false (afterLoop t .kids) (k .fit)))
+      (kept-connected false k))
       (λ p n q ks g. kept-connected false (afterLoop-kept (node (repartition p n q ks) x c) g))
       (λ f g. kept-connected false (afterLoop-kept (node (coalesce f) x c) g))
       (λ o e g. subst (λ (s : Shape). Keeps true b h (node o x c) (ensureBy s (node o x c))) (sym e) (kept-connected false (afterLoop-kept (node o x c) g)))

@@ -79,7 +79,8 @@ walk-live none h = tt
 walk-live (tree o c r) h =
     let d : Forest Marked = transformUp ensureSorting c in
     let k : KeepsAll true true true (bare c) d = ensure-kept c (h .1) in
-    let i : Keeps true true true (node o false (bare c)) (rebuild o false d) = kept-rebuild o false false (bare c) d (subst (λ (g : Plan). FitsA (arity o) (count g)) (sym (strip-bare c)) (h .0)) k in
+    let i : Keeps true true true (node o false (bare c)) (rebuild o false d) = kept-rebuild o false false (bare c) d
+    (subst (λ (g : Plan). FitsA (arity o) (count g)) (sym (strip-bare c)) (h .0)) k in
     let t : LiveT (ensureSorting (rebuild o false d)) = ensureSorting-live (rebuild o false d) (i .fit) (walk-live c (h .1)) in
     (t .0, t .1, walk-live r (h .2))
 

@@ -51,7 +51,8 @@ record EnsuredChild (w : List Key) (t : Tree) : Type 0 where
   good : CheckedT t
   grants : met (fact t) w ≡ true
 
-ensureChild-good : (w : List Key) (b s : Bool) (f : Fetch) (t : Tree) → FitT t → CheckedT t → (t .top .mark ≡ true → MarkOK (opT t) (t .kids)) → EnsuredChild w (ensureChild w b s f t)
+ensureChild-good : (w : List Key) (b s : Bool) (f : Fetch) (t : Tree) → FitT t → CheckedT t → (t .top .mark ≡ true → MarkOK (opT t) (t .kids))
+    → EnsuredChild w (ensureChild w b s f t)
 ensureChild-good [] b s f t a h k = record { good = go (isNil (fact t .order) || not b); grants = refl }
   where
     go : (x : Bool) → CheckedT (cond x (updateChildToRemoveUnnecessarySort s t) t)
@@ -70,7 +71,8 @@ ensureChild-good (v ∷ w) b s f t a h k = go (met (fact t) (v ∷ w)) refl
     go true e = record { good = h; grants = e }
     go false e =
         record {
-          good = connected-good true (addSortAbove (v ∷ w) f u) (newSort-bare (ltb 1 (fact u .streams)) (freshKeys (fact u) [] (v ∷ w)) f u (under (isNil (fact t .order))));
+          good = connected-good true (addSortAbove (v ∷ w) f u) (newSort-bare (ltb 1 (fact u .streams)) (freshKeys (fact u) [] (v ∷ w)) f u
+              (under (isNil (fact t .order))));
           grants = connected-met true (addSortAbove (v ∷ w) f u) (v ∷ w) ∙ addSort-met (v ∷ w) f u;
         }
 
@@ -79,13 +81,16 @@ record EnsuredEach (w : ℕ → List Key) (n : ℕ) (d : Forest Marked) : Type 0
   grants : (i : ℕ) → i < n → met (getD (known d) i nothing) (w i) ≡ true
   size : count d ≡ n
 
-ensureEach-good : (w : ℕ → List Key) (b s : ℕ → Bool) (f : Fetch) (c : Forest Marked) → Fit (strip c) → Checked c → MarksOK c → EnsuredEach w (count c) (ensureEach w b s f c)
+ensureEach-good : (w : ℕ → List Key) (b s : ℕ → Bool) (f : Fetch) (c : Forest Marked) → Fit (strip c) → Checked c → MarksOK c
+    → EnsuredEach w (count c) (ensureEach w b s f c)
 ensureEach-good w b s f none a h k = record { good = tt; grants = λ i l. absurd (omega arith); size = refl }
 ensureEach-good w b s f (tree m c r) a h k =
-    let here : EnsuredChild (w 0) (ensureChild (w 0) (b 0) (s 0) f (at m c)) = ensureChild-good (w 0) (b 0) (s 0) f (at m c) (a .0, a .1) (h .0, h .1, h .2) (k .0) in
+    let here : EnsuredChild (w 0) (ensureChild (w 0) (b 0) (s 0) f (at m c)) = ensureChild-good (w 0) (b 0) (s 0) f (at m c) (a .0, a .1) (h .0, h .1, h .2)
+    (k .0) in
     let rest = ensureEach-good (λ i. w (suc i)) (λ i. b (suc i)) (λ i. s (suc i)) f r (a .2) (h .3) (k .1) in
     record {
-      good = good-plant (ensureChild (w 0) (b 0) (s 0) f (at m c)) (ensureEach (λ i. w (suc i)) (λ i. b (suc i)) (λ i. s (suc i)) f r) (here .good) (rest .good);
+      good = good-plant (ensureChild (w 0) (b 0) (s 0) f (at m c)) (ensureEach (λ i. w (suc i)) (λ i. b (suc i)) (λ i. s (suc i)) f r) (here .good)
+          (rest .good);
       grants = λ i. elim i [ zero ↦ λ l. here .grants | suc j ↦ λ l. rest .grants j (omega arith) ];
       size = ap suc (rest .size);
     }
@@ -94,7 +99,8 @@ ensureEach-good w b s f (tree m c r) a h k =
 afterLoop-size : (o : Op) (c : Forest Marked) → Fit (strip c) → Checked c → MarksOK c → count (ensuredKids o c) ≡ count c
 afterLoop-size o c a h k = ensureEach-good (wanted o) (maintains o (known c)) (singles o) (outputFetch o) c a h k .size
 
-afterLoop-bare : (x : Bool) (o : Op) (c : Forest Marked) → FitsA (arity o) (count c) → Fit (strip c) → Checked c → MarksOK c → BareT (afterLoop (node o x c))
+afterLoop-bare : (x : Bool) (o : Op) (c : Forest Marked) → FitsA (arity o) (count c) → Fit (strip c) → Checked c → MarksOK c
+    → BareT (afterLoop (node o x c))
 afterLoop-bare x o c f a h k =
     let d : Forest Marked = ensuredKids o c in
     let r : EnsuredEach (wanted o) (count c) d = ensureEach-good (wanted o) (maintains o (known c)) (singles o) (outputFetch o) c a h k in
@@ -113,7 +119,9 @@ limited-good (AtMost n) t c h = go (eqb (fact t .streams) 1)
     go true = (refl, λ e. (λ i. no-bool i, tt), (h .0, h .1, h .2, tt))
     go false = (refl, λ e. (λ i. no-bool i, tt), (h .0, h .1, h .2, tt))
 
-immediate-good : (p : Bool) (ks : List Key) (f : Fetch) (x : Bool) (c : Forest Marked) → count c ≡ 1 → Checked c → met (at0 (known c)) (nf (at0 (known c)) [] ks) ≡ true → CheckedT (analyzeImmediateSortRemoval p ks f (node (sortOp p ks f) x c) (kid0 (node (sortOp p ks f) x c) c))
+immediate-good : (p : Bool) (ks : List Key) (f : Fetch) (x : Bool) (c : Forest Marked) → count c ≡ 1 → Checked c
+    → met (at0 (known c)) (nf (at0 (known c)) [] ks) ≡ true
+    → CheckedT (analyzeImmediateSortRemoval p ks f (node (sortOp p ks f) x c) (kid0 (node (sortOp p ks f) x c) c))
 immediate-good p ks f x none n h e = absurd (omega arith)
 immediate-good p ks f x (tree m c r) n h e = go (not p && ltb 1 (fact (at m c) .streams))
   where
@@ -131,14 +139,20 @@ ensureBy-good x c =
     (λ ks f n a h k. merged ks f n a h k (leb (at0 (known (ensuredKids (mergeOp ks f) c)) .streams) 1))
     (λ p m q ks n a h k. connected-good false (afterLoop (node (repartition p m q ks) x c)) (afterLoop-bare x (repartition p m q ks) c n a h k))
     (λ f n a h k. connected-good false (afterLoop (node (coalesce f) x c)) (afterLoop-bare x (coalesce f) c n a h k))
-    (λ o e n a h k. subst (λ (s : Shape). CheckedT (ensureBy s (node o x c))) (sym e) (connected-good false (afterLoop (node o x c)) (afterLoop-bare x o c n a h k)))
+    (λ o e n a h k. subst (λ (s : Shape). CheckedT (ensureBy s (node o x c))) (sym e)
+    (connected-good false (afterLoop (node o x c)) (afterLoop-bare x o c n a h k)))
   where
-    sorted : (p : Bool) (ks : List Key) (f : Fetch) → count c ≡ 1 → Fit (strip c) → Checked c → MarksOK c → (b : Bool) → met (at0 (known c)) (nf (at0 (known c)) [] ks) ≡ b → CheckedT (cond b (analyzeImmediateSortRemoval p ks f (node (sortOp p ks f) x c) (kid0 (node (sortOp p ks f) x c) c)) (updateSortCtxChildrenData false (afterLoop (node (sortOp p ks f) x c))))
+    sorted : (p : Bool) (ks : List Key) (f : Fetch) → count c ≡ 1 → Fit (strip c) → Checked c → MarksOK c → (b : Bool)
+        → met (at0 (known c)) (nf (at0 (known c)) [] ks) ≡ b
+        → CheckedT (cond b (analyzeImmediateSortRemoval p ks f (node (sortOp p ks f) x c) (kid0 (node (sortOp p ks f) x c) c))
+        (updateSortCtxChildrenData false (afterLoop (node (sortOp p ks f) x c))))
     sorted p ks f n a h k true e = immediate-good p ks f x c n h e
     sorted p ks f n a h k false e = connected-good false (afterLoop (node (sortOp p ks f) x c)) (afterLoop-bare x (sortOp p ks f) c n a h k)
 
-    merged : (ks : List Key) (f : Fetch) → count c ≡ 1 → Fit (strip c) → Checked c → MarksOK c → (b : Bool) → CheckedT (cond b (unmerged f (afterLoop (node (mergeOp ks f) x c))) (updateSortCtxChildrenData false (afterLoop (node (mergeOp ks f) x c))))
-    merged ks f n a h k true = unmerged-good f (afterLoop (node (mergeOp ks f) x c)) (afterLoop-size (mergeOp ks f) c a h k ∙ n) (afterLoop-bare x (mergeOp ks f) c n a h k .1)
+    merged : (ks : List Key) (f : Fetch) → count c ≡ 1 → Fit (strip c) → Checked c → MarksOK c → (b : Bool)
+        → CheckedT (cond b (unmerged f (afterLoop (node (mergeOp ks f) x c))) (updateSortCtxChildrenData false (afterLoop (node (mergeOp ks f) x c))))
+    merged ks f n a h k true = unmerged-good f (afterLoop (node (mergeOp ks f) x c)) (afterLoop-size (mergeOp ks f) c a h k ∙ n)
+        (afterLoop-bare x (mergeOp ks f) c n a h k .1)
     merged ks f n a h k false = connected-good false (afterLoop (node (mergeOp ks f) x c)) (afterLoop-bare x (mergeOp ks f) c n a h k)
 
 connected-count : (c : Forest Marked) → count (connectedEach c) ≡ count c
@@ -161,10 +175,14 @@ ensureSorting-good t f a h = go (isNil (roots c)) refl
     n : FitsA (arity (opT t)) (count c)
     n = subst (FitsA (arity (opT t))) (sym (connected-count (t .kids))) f
 
-    go : (b : Bool) → isNil (roots c) ≡ b → CheckedT (cond b (updateSortCtxChildrenData false t) (ensureBy (shape (opT t)) (updateSortCtxChildrenData false t)))
+    go : (b : Bool) → isNil (roots c) ≡ b
+        → CheckedT (cond b (updateSortCtxChildrenData false t) (ensureBy (shape (opT t)) (updateSortCtxChildrenData false t)))
     go true e =
-        let z : length (known c) ≡ count c = known-count c in
-        (wants-in (opT t) (known c) (subst (FitsA (arity (opT t))) (sym z) n) (λ i l. absurd (omega (arith, no-kids c e))), λ l. connected-marks (t .kids), g)
+        let z : length (known c) ≡ count c = known-count c in (
+          wants-in (opT t) (known c) (subst (FitsA (arity (opT t))) (sym z) n) (λ i l. absurd (omega (arith, no-kids c e))),
+          λ l. connected-marks (t .kids),
+          g,
+        )
     go false e = ensureBy-good false c (opT t) n (subst Fit (sym (strip-connected (t .kids))) a) g (connected-marks (t .kids))
 
 walk-count : (step : Tree → Tree) (f : Plan) → count (transformUp step f) ≡ count f
@@ -177,7 +195,9 @@ ensure-good (tree o c r) h =
     let d : Forest Marked = transformUp ensureSorting c in
     let like : arity (rebuilt o (known d)) ≡ arity o = remark-same arity _ (λ p q n b ks. refl) o in
     good-plant (ensureSorting (rebuild o false d)) (transformUp ensureSorting r)
-    (ensureSorting-good (rebuild o false d) (subst (λ (a : Arity). FitsA a (count d)) (sym like) (subst (FitsA (arity o)) (sym (walk-count ensureSorting c)) (h .0))) (ensure-kept c (h .1) .fit) (ensure-good c (h .1)))
+    (ensureSorting-good (rebuild o false d)
+    (subst (λ (a : Arity). FitsA a (count d)) (sym like) (subst (FitsA (arity o)) (sym (walk-count ensureSorting c)) (h .0)))
+    (ensure-kept c (h .1) .fit) (ensure-good c (h .1)))
     (ensure-good r (h .2))
 
 good-check : (c : Forest Marked) → Checked c → check (strip c) ≡ true

@@ -61,7 +61,8 @@ any-below : (n : ℕ) (p : ℕ → Bool) → anyBelow n p ≡ true → (i : ℕ)
 any-below zero p e = no-bool e
 any-below (suc n) p e = go (or-cases (p 0) (anyBelow n (λ i. p (suc i))) e) (λ h. any-below n (λ i. p (suc i)) h)
   where
-    go : (p 0 ≡ true) ⊎ (anyBelow n (λ i. p (suc i)) ≡ true) → (anyBelow n (λ i. p (suc i)) ≡ true → (i : ℕ) × (i < n) × (p (suc i) ≡ true)) → (i : ℕ) × (i < suc n) × (p i ≡ true)
+    go : (p 0 ≡ true) ⊎ (anyBelow n (λ i. p (suc i)) ≡ true) → (anyBelow n (λ i. p (suc i)) ≡ true → (i : ℕ) × (i < n) × (p (suc i) ≡ true)) → (i : ℕ)
+        × (i < suc n) × (p i ≡ true)
     go (inl h) f = (0, omega arith, h)
     go (inr h) f = let w = f h in (suc (w .0), omega (arith, w .1), w .2)
 
@@ -71,16 +72,22 @@ connected-ok o c = go (eqb (code o) 7) refl (isLimit o) refl
     p : ℕ → Bool
     p i = (maintains o (known c) i && isNil (wanted o i)) || eqb (code o) 8
 
-    free : (i : ℕ) → i < count c → (maintains o (known c) i && isNil (wanted o i) ≡ true) ⊎ (eqb (code o) 8 ≡ true) → (eqb (code o) 8 ≡ true) ⊎ ((j : ℕ) × (j < count c) × (isNil (wanted o j) ≡ true))
+    free : (i : ℕ) → i < count c → (maintains o (known c) i && isNil (wanted o i) ≡ true) ⊎ (eqb (code o) 8 ≡ true) → (eqb (code o) 8 ≡ true) ⊎
+        ((j : ℕ) × (j < count c) × (isNil (wanted o j) ≡ true))
     free i l (inl h) = inr (i, l, and-right (maintains o (known c) i) (isNil (wanted o i)) h)
     free i l (inr h) = inl h
 
-    go : (a : Bool) → eqb (code o) 7 ≡ a → (b : Bool) → isLimit o ≡ b → cond a true (cond b false (anyMark c && anyBelow (length (roots c)) p)) ≡ true → MarkOK o c
+    go : (a : Bool) → eqb (code o) 7 ≡ a → (b : Bool) → isLimit o ≡ b → cond a true (cond b false (anyMark c && anyBelow (length (roots c)) p)) ≡ true
+        → MarkOK o c
     go true q b l e = inl q
     go false q true l e = no-bool e
     go false q false l e =
         let w = any-below (length (roots c)) p (and-right (anyMark c) (anyBelow (length (roots c)) p) e) in
-        inr (record { open-end = l; below = and-left (anyMark c) (anyBelow (length (roots c)) p) e; free = free (w .0) (w .1) (or-cases (maintains o (known c) (w .0) && isNil (wanted o (w .0))) (eqb (code o) 8) (w .2)) })
+        inr (record {
+          open-end = l;
+          below = and-left (anyMark c) (anyBelow (length (roots c)) p) e;
+          free = free (w .0) (w .1) (or-cases (maintains o (known c) (w .0) && isNil (wanted o (w .0))) (eqb (code o) 8) (w .2));
+        })
 
 pub connected-marks : (c : Forest Marked) → MarksOK (connectedEach c)
 connected-marks none = tt
@@ -136,11 +143,16 @@ single-stream-good : (s : Bool) (t : Tree) → CheckedT t → CheckedT (withSing
 single-stream-good s t h = go (s && ltb 1 (fact t .streams))
   where
     go : (b : Bool) → CheckedT (cond b (updateSortCtxChildrenData false (over (singleStreamOp (fact t .order) (fetchT t)) false t)) t)
-    go true = connected-good false (over (singleStreamOp (fact t .order) (fetchT t)) false t) (single-stream-wants (fact t) (fetchT t) (fact-canon t), (h .0, h .1, h .2, tt))
+    go true = connected-good false (over (singleStreamOp (fact t .order) (fetchT t)) false t) (
+      single-stream-wants (fact t) (fetchT t) (fact-canon t),
+      (h .0, h .1, h .2, tt),
+    )
     go false = h
 
-updated-is : (m : Marked) (c d : Forest Marked) → anyMark c ≡ true → updatedAfterRemoval m c d ≡ updateSortCtxChildrenData false (rebuild (m .op) (m .mark) d)
-updated-is m c d e = ap (λ (x : Bool). cond (x || isNil (roots c)) (updateSortCtxChildrenData false (rebuild (m .op) (m .mark) d)) (rebuild (m .op) (m .mark) d)) e
+updated-is : (m : Marked) (c d : Forest Marked) → anyMark c ≡ true → updatedAfterRemoval m c d ≡ updateSortCtxChildrenData false
+    (rebuild (m .op) (m .mark) d)
+updated-is m c d e = ap (λ (x : Bool). cond (x || isNil (roots c)) (updateSortCtxChildrenData false (rebuild (m .op) (m .mark) d))
+    (rebuild (m .op) (m .mark) d)) e
 
 -- a connected node that is no sort has children
 some-kid : (c : Forest Marked) → anyMark c ≡ true → 1 ≤ count c
@@ -160,7 +172,8 @@ isOther another = true
 
 -- neither sort nor merge
 pub other-code : (o : Op) → isOther (shape o) ≡ true → (eqb (code o) 7 ≡ false) × (eqb (code o) 8 ≡ false)
-other-code = shape-ind (λ o. isOther (shape o) ≡ true → (eqb (code o) 7 ≡ false) × (eqb (code o) 8 ≡ false)) (λ p ks f e. no-bool e) (λ ks f e. no-bool e) (λ p n h ks e. (refl, refl)) (λ f e. (refl, refl)) last
+other-code = shape-ind (λ o. isOther (shape o) ≡ true → (eqb (code o) 7 ≡ false) × (eqb (code o) 8 ≡ false)) (λ p ks f e. no-bool e) (λ ks f e. no-bool e)
+    (λ p n h ks e. (refl, refl)) (λ f e. (refl, refl)) last
   where
     last : (o : Op) → shape o ≡ another → isOther (shape o) ≡ true → (eqb (code o) 7 ≡ false) × (eqb (code o) 8 ≡ false)
     last (source s) e h = (refl, refl)
@@ -179,11 +192,13 @@ other-code = shape-ind (λ o. isOther (shape o) ≡ true → (eqb (code o) 7 ≡
     last (partialSort p ks n f) e h = (refl, refl)
 
 -- a node that wants nothing, over any children
-free-good : (b : Bool) (o : Op) (x : Bool) (d : Forest Marked) → isNil (wanted o 0) ≡ true → Checked d → CheckedT (updateSortCtxChildrenData b (rebuild o x d))
+free-good : (b : Bool) (o : Op) (x : Bool) (d : Forest Marked) → isNil (wanted o 0) ≡ true → Checked d
+    → CheckedT (updateSortCtxChildrenData b (rebuild o x d))
 free-good b o x d e h = connected-good b (rebuild o x d) (wants-remark _ o (known d) ∙ no-orders-met o (known d) e, h)
 
 abbrev Removal : Bool → Forest Marked → Forest Marked → Op → Type 0
-Removal x c d o = FitsA (arity o) (count c) → CheckedT (node o x c) → MarkOK o c → count d ≡ count c → Checked d → CheckedT (removeBy (shape o) (record { op = o; mark = x }) c d)
+Removal x c d o = FitsA (arity o) (count c) → CheckedT (node o x c) → MarkOK o c → count d ≡ count c → Checked d
+    → CheckedT (removeBy (shape o) (record { op = o; mark = x }) c d)
 
 -- the connection of a node that is no sort
 link-of : (o : Op) (c : Forest Marked) → eqb (code o) 7 ≡ false → MarkOK o c → Link o c
@@ -213,14 +228,17 @@ removeBy-good x c d =
     let codes = other-code o (ap isOther e) in
     let l : Link o c = link-of o c (codes .0) k in
     subst (λ (s : Shape). CheckedT (removeBy s (record { op = o; mark = x }) c d)) (sym e)
-    (subst (λ (t : Tree). CheckedT t) (sym (updated-is (record { op = o; mark = x }) c d (l .below))) (free-good false o x d (nil-of o c a (codes .1) (l .free)) g)))
+    (subst (λ (t : Tree). CheckedT t) (sym (updated-is (record { op = o; mark = x }) c d (l .below)))
+    (free-good false o x d (nil-of o c a (codes .1) (l .free)) g)))
   where
-    nil-of : (o : Op) (c : Forest Marked) → FitsA (arity o) (count c) → eqb (code o) 8 ≡ false → (eqb (code o) 8 ≡ true) ⊎ ((i : ℕ) × (i < count c) × (isNil (wanted o i) ≡ true)) → isNil (wanted o 0) ≡ true
+    nil-of : (o : Op) (c : Forest Marked) → FitsA (arity o) (count c) → eqb (code o) 8 ≡ false → (eqb (code o) 8 ≡ true) ⊎
+        ((i : ℕ) × (i < count c) × (isNil (wanted o i) ≡ true)) → isNil (wanted o 0) ≡ true
     nil-of o c a e (inl h) = no-bool (sym e ∙ h)
     nil-of o c a e (inr h) = nil-zero o (count c) (h .0) a (h .1) (h .2)
 
 -- marks of the children of a node that is removed: a sort's are not looked at
-removeTop-good : (s : Bool) (m : Marked) (c d : Forest Marked) → FitsA (arity (m .op)) (count c) → CheckedT (at m c) → MarkOK (m .op) c → count d ≡ count c → Checked d → CheckedT (removeTop s m c d)
+removeTop-good : (s : Bool) (m : Marked) (c d : Forest Marked) → FitsA (arity (m .op)) (count c) → CheckedT (at m c) → MarkOK (m .op) c → count d ≡ count c
+    → Checked d → CheckedT (removeTop s m c d)
 removeTop-good s m c d a h k n g = single-stream-good s (removeBy (shape (m .op)) m c d) (removeBy-good (m .mark) c d (m .op) a h k n g)
 
 open-of : (o : Op) (c : Forest Marked) → MarkOK o c → isLimit o ≡ false
@@ -235,17 +253,21 @@ removeKids-good q (tree m c r) a h k =
     (go (m .mark) refl (λ ok. removeKids-good (singles (m .op)) c (a .1) (h .2) ok))
     (removeKids-good (λ i. q (suc i)) r (a .2) (h .3) (k .1))
   where
-    go : (b : Bool) → m .mark ≡ b → (MarksOK c → Checked (removeKids (singles (m .op)) c)) → CheckedT (cond b (removeTop (q 0) m c (removeKids (singles (m .op)) c)) (at m c))
+    go : (b : Bool) → m .mark ≡ b → (MarksOK c → Checked (removeKids (singles (m .op)) c))
+        → CheckedT (cond b (removeTop (q 0) m c (removeKids (singles (m .op)) c)) (at m c))
     go true e ih =
         let ok : MarkOK (m .op) c = k .0 e in
-        removeTop-good (q 0) m c (removeKids (singles (m .op)) c) (subst (FitsA (arity (m .op))) (strip-count c) (a .0)) (h .0, h .1, h .2) ok (remove-count (singles (m .op)) c) (ih (h .1 (open-of (m .op) c ok)))
+        removeTop-good (q 0) m c (removeKids (singles (m .op)) c) (subst (FitsA (arity (m .op))) (strip-count c) (a .0)) (h .0, h .1, h .2) ok
+        (remove-count (singles (m .op)) c) (ih (h .1 (open-of (m .op) c ok)))
     go false e ih = (h .0, h .1, h .2)
 
 pub remove-good : (s : Bool) (t : Tree) → FitT t → CheckedT t → MarkOK (opT t) (t .kids) → CheckedT (removeCorrespondingSortFromSubPlan s t)
 remove-good s t a h ok =
-    removeTop-good s (t .top) (t .kids) (removeKids (singles (opT t)) (t .kids)) (subst (FitsA (arity (opT t))) (strip-count (t .kids)) (a .0)) h ok (remove-count (singles (opT t)) (t .kids)) (removeKids-good (singles (opT t)) (t .kids) (a .1) (h .2) (h .1 (open-of (opT t) (t .kids) ok)))
+    removeTop-good s (t .top) (t .kids) (removeKids (singles (opT t)) (t .kids)) (subst (FitsA (arity (opT t))) (strip-count (t .kids)) (a .0)) h ok
+    (remove-count (singles (opT t)) (t .kids)) (removeKids-good (singles (opT t)) (t .kids) (a .1) (h .2) (h .1 (open-of (opT t) (t .kids) ok)))
 
-pub updateChild-good : (s : Bool) (t : Tree) → FitT t → CheckedT t → (t .top .mark ≡ true → MarkOK (opT t) (t .kids)) → CheckedT (updateChildToRemoveUnnecessarySort s t)
+pub updateChild-good : (s : Bool) (t : Tree) → FitT t → CheckedT t → (t .top .mark ≡ true → MarkOK (opT t) (t .kids))
+    → CheckedT (updateChildToRemoveUnnecessarySort s t)
 updateChild-good s t a h k = go (t .top .mark) refl
   where
     go : (b : Bool) → t .top .mark ≡ b → CheckedT (cond b (removeCorrespondingSortFromSubPlan s t) t)

@@ -1,4 +1,5 @@
--- After ensuring, in every run every node's facts hold of its streams and every wanted order is there: declared facts are the sources', which the walk keeps.
+-- After ensuring, in every run every node's facts hold of its streams and every wanted order is there: declared facts are the sources', which the walk
+-- keeps.
 use mathlib.Core.Path.{_≡_, refl, sym, ap, _∙_, subst}
 use mathlib.Core.Bool.{Bool, true, false, cond}
 use Prim.Native.Nat.{ℕ}
@@ -43,7 +44,8 @@ pub sources-bones : (E : Env) (i : ℕ) (f : Plan) → Sources E i f → Sources
 sources-bones E i none h = tt
 sources-bones E i (tree o c r) h = go (easing o) refl (sources-bones E (nextS o i) c (h .1)) (sources-bones E (past nextS c (nextS o i)) r (h .2))
   where
-    go : (b : Bool) → easing o ≡ b → Sources E (nextS o i) (prune easing c) → Sources E (past nextS c (nextS o i)) (prune easing r) → Sources E i (cond b (prune easing c) (tree o (prune easing c) none) ⊕ prune easing r)
+    go : (b : Bool) → easing o ≡ b → Sources E (nextS o i) (prune easing c) → Sources E (past nextS c (nextS o i)) (prune easing r)
+        → Sources E i (cond b (prune easing c) (tree o (prune easing c) none) ⊕ prune easing r)
     go true e p q =
         sources-join E i (prune easing c) (prune easing r) (subst (λ (k : ℕ). Sources E k (prune easing c)) (ease-nextS o i e) p)
         (subst (λ (k : ℕ). Sources E k (prune easing r)) (ap (past nextS c) (ease-nextS o i e) ∙ sym (skeleton-past nextS ease-nextS c i)) q)
@@ -57,9 +59,18 @@ sources-back E i (tree o c r) h₀ = go (easing o) refl (λ k p. sources-back E 
         Sources E i (cond b (prune easing c) (tree o (prune easing c) none) ⊕ prune easing r) → Sources E i (tree o c r)
     go true e p q h =
         let s = sources-part E i (prune easing c) (prune easing r) h in
-        let n : i ≡ nextS o i = sym (ease-nextS o i e) in
-        (ease-source E i o e, subst (λ (k : ℕ). Sources E k c) n (p i (s .0)), q (past nextS c (nextS o i)) (subst (λ (k : ℕ). Sources E k (prune easing r)) (skeleton-past nextS ease-nextS c i ∙ ap (past nextS c) n) (s .1)))
-    go false e p q h = (h .0, p (nextS o i) (h .1), q (past nextS c (nextS o i)) (subst (λ (k : ℕ). Sources E k (prune easing r)) (skeleton-past nextS ease-nextS c (nextS o i)) (h .2)))
+        let n : i ≡ nextS o i = sym (ease-nextS o i e) in (
+          ease-source E i o e,
+          subst (λ (k : ℕ). Sources E k c) n (p i (s .0)),
+          q (past nextS c (nextS o i))
+              (subst (λ (k : ℕ). Sources E k (prune easing r)) (skeleton-past nextS ease-nextS c i ∙ ap (past nextS c) n) (s .1)),
+        )
+    go false e p q h = (
+      h .0,
+      p (nextS o i) (h .1),
+      q (past nextS c (nextS o i))
+          (subst (λ (k : ℕ). Sources E k (prune easing r)) (skeleton-past nextS ease-nextS c (nextS o i)) (h .2)),
+    )
 
 -- A rewrite that keeps the skeleton keeps what the sources declare
 pub sources-kept : {a : Bool} (E : Env) (f g : Plan) → SamePlan a f g → Sources E 0 f → Sources E 0 g

@@ -58,7 +58,8 @@ rebuilt-facts (source s) fs = refl
 rebuilt-facts filter fs = refl
 rebuilt-facts (projection cols) fs = refl
 rebuilt-facts union fs = refl
-rebuilt-facts (repartition p n h ks) fs = ap (λ (b : Bool). ordered (at0 fs) n (cond b (at0 fs .order) [])) (same (eqb (at0 fs .streams) 1) p (not (isNil (at0 fs .order)) && ltb 1 (at0 fs .streams)))
+rebuilt-facts (repartition p n h ks) fs = ap (λ (b : Bool). ordered (at0 fs) n (cond b (at0 fs .order) []))
+    (same (eqb (at0 fs .streams) 1) p (not (isNil (at0 fs .order)) && ltb 1 (at0 fs .streams)))
   where
     same : (a p x : Bool) → a || ((p && x) && x) ≡ a || (p && x)
     same true p x = refl
@@ -143,11 +144,17 @@ lift-opens o (tree m c r) b f e =
     let k : Keeps false true true (at m c) x = skip-kept o (m .op) (m .mark) c (bottleneck-pass (m .op) b) (f .0) (f .1) in
     let z = coalesce-facts (m .op) (known c) (search and-left) in
     record {
-      wider = each-cons (record { base = k .base; order = subst (λ (l : List Key). Front l (fact x .order)) (sym (z .1)) front-nil; alone = λ _. inl (z .1); several = λ (l : 1 < factsOp (m .op) (known c) .streams). absurd (omega (arith, z .0)) }) (same-each (known r));
+      wider = each-cons (record {
+        base = k .base;
+        order = subst (λ (l : List Key). Front l (fact x .order)) (sym (z .1)) front-nil;
+        alone = λ _. inl (z .1);
+        several = λ (l : 1 < factsOp (m .op) (known c) .streams). absurd (omega (arith, z .0));
+      }) (same-each (known r));
       passes = pass-plant x r (skip-pass o (at m c) c h (h .1)) (rest-pass m c r e);
     }
 
-pub first-removed-opens : (x : Bool) (o : Op) (c d : Forest Marked) → Fit (strip c) → check (strip c) ≡ true → Opened c d → Opened c (firstBottleneckRemoved x o c d)
+pub first-removed-opens : (x : Bool) (o : Op) (c d : Forest Marked) → Fit (strip c) → check (strip c) ≡ true → Opened c d
+    → Opened c (firstBottleneckRemoved x o c d)
 first-removed-opens x o c d f e k = go (firstIs bottleneck c) refl x
   where
     go : (y : Bool) → firstIs bottleneck c ≡ y → (z : Bool) → Opened c (cond (y && z) (liftFirst o c) d)
@@ -156,7 +163,8 @@ first-removed-opens x o c d f e k = go (firstIs bottleneck c) refl x
     go false q z = k
 
 -- ---- a node put back over opened children
-same-streams : (p : Bool) (n : ℕ) (h : Bool) (ks : List Key) (o : Op) (fs : List Facts) → samePartitioning (repartition p n h ks) o ≡ true → factsOp o fs .streams ≡ n
+same-streams : (p : Bool) (n : ℕ) (h : Bool) (ks : List Key) (o : Op) (fs : List Facts) → samePartitioning (repartition p n h ks) o ≡ true
+    → factsOp o fs .streams ≡ n
 same-streams p n h ks o fs =
     shape-ind (λ x. samePartitioning (repartition p n h ks) x ≡ true → factsOp x fs .streams ≡ n)
     (λ q l f e. no-bool e)
@@ -166,7 +174,8 @@ same-streams p n h ks o fs =
     (λ x s e. no-bool (ap (λ (z : Shape). eqPartitioning (parted n h ks) (partitioning z)) (sym s) ∙ e))
     o
 
-idle-streams : (p : Bool) (n : ℕ) (h : Bool) (ks : List Key) (d : Forest Marked) → idle (aRepartition p n h ks) (repartition p n h ks) d ≡ true → at0 (known d) .streams ≡ n
+idle-streams : (p : Bool) (n : ℕ) (h : Bool) (ks : List Key) (d : Forest Marked) → idle (aRepartition p n h ks) (repartition p n h ks) d ≡ true
+    → at0 (known d) .streams ≡ n
 idle-streams p n h ks d e = go (or-cases (not h && eqb n (at0 (known d) .streams)) (firstIs (samePartitioning (repartition p n h ks)) d) e)
   where
     first : (c : Forest Marked) → firstIs (samePartitioning (repartition p n h ks)) c ≡ true → at0 (known c) .streams ≡ n
@@ -192,7 +201,8 @@ first-fact d (tree m c r) n = refl
 abbrev Gone : Forest Marked → Forest Marked → Op → Type 0
 Gone c d o = FitsA (arity o) (count (strip c)) → idle (shape o) o d ≡ true → Wider (factsOp o (known c)) (at0 (known d)) × (count (strip d) ≡ 1)
 
-idle-opens : (m : Marked) (c d : Forest Marked) → FitsA (arity (m .op)) (count (strip c)) → KeepsAll false true true c d → All Some (known c) → All Some (known d) → Stays (m .op) (known c) → wantsMet (m .op) (known c) ≡ true → Opened c d → OpenedT (at m c) (withoutIdle m d)
+idle-opens : (m : Marked) (c d : Forest Marked) → FitsA (arity (m .op)) (count (strip c)) → KeepsAll false true true c d → All Some (known c)
+    → All Some (known d) → Stays (m .op) (known c) → wantsMet (m .op) (known c) ≡ true → Opened c d → OpenedT (at m c) (withoutIdle m d)
 idle-opens m c d f k hs ks st e op = go (idle (shape (m .op)) (m .op) d) refl
   where
     t : Tree
@@ -211,13 +221,15 @@ idle-opens m c d f k hs ks st e op = go (idle (shape (m .op)) (m .op) d) refl
         (λ o s n q. no-bool (ap (λ (z : Shape). idle z o d) (sym s) ∙ q))
 
     go : (y : Bool) → idle (shape (m .op)) (m .op) d ≡ y → OpenedT (at m c) (cond y (kid0 t d) t)
-    go true q = let g = gone (m .op) f q in record { wider = subst (Wider (factsOp (m .op) (known c))) (sym (first-fact t d (g .1))) (g .0); passes = kid-pass t d (g .1) (op .passes) }
+    go true q = let g = gone (m .op) f q in
+        record { wider = subst (Wider (factsOp (m .op) (known c))) (sym (first-fact t d (g .1))) (g .0); passes = kid-pass t d (g .1) (op .passes) }
     go false q = record { wider = over-opened; passes = (wants-remark _ (m .op) (known d) ∙ wants-wider (m .op) (op .wider) e, op .passes) }
 
 some-known : (c : Forest Marked) → Ok (strip c) → All Some (known c)
 some-known c h = streams-some (strip c) (ok-to (strip c) h)
 
-open-node : (m : Marked) (c d : Forest Marked) (b : Bool) → FitsA (arity (m .op)) (count (strip c)) → Ok (strip c) → KeepsAll false true true c d → (m .mark ≡ true → Stays (m .op) (known c) × Opened c d) → PassT (at m c) → OpenedT (at m c) (cond (m .mark && b) (withoutIdle m d) (at m c))
+open-node : (m : Marked) (c d : Forest Marked) (b : Bool) → FitsA (arity (m .op)) (count (strip c)) → Ok (strip c) → KeepsAll false true true c d
+    → (m .mark ≡ true → Stays (m .op) (known c) × Opened c d) → PassT (at m c) → OpenedT (at m c) (cond (m .mark && b) (withoutIdle m d) (at m c))
 open-node m c d b f h k s p = go (m .mark) refl b
   where
     as-it-was : OpenedT (at m c) (at m c)
@@ -228,14 +240,21 @@ open-node m c d b f h k s p = go (m .mark) refl b
     go true e false = as-it-was
     go false e y = as-it-was
 
-pub openEach-opens : (q : ℕ → Bool) (c : Forest Marked) → Fit (strip c) → Ok (strip c) → MarksStay c → check (strip c) ≡ true → Opened c (removeBottleneckInSubplanImpl q c)
+pub openEach-opens : (q : ℕ → Bool) (c : Forest Marked) → Fit (strip c) → Ok (strip c) → MarksStay c → check (strip c) ≡ true
+    → Opened c (removeBottleneckInSubplanImpl q c)
 openEach-opens q none f h n e = record { wider = each-nil; passes = refl }
 openEach-opens q (tree m c r) f h n e =
     let x : Bool = not (singles (m .op) 0) in
     let o : Forest Marked = removeBottleneckInSubplanImpl (λ i. not (singles (m .op) i)) c in
     let d : Forest Marked = firstBottleneckRemoved x (m .op) c o in
-    let k : KeepsAll false true true c d = first-removed-kept x (m .op) c o (f .1) (removeBottleneckInSubplanImpl-kept (λ i. not (singles (m .op) i)) c (f .1)) in
+    let k : KeepsAll false true true c d = first-removed-kept x (m .op) c o (f .1)
+    (removeBottleneckInSubplanImpl-kept (λ i. not (singles (m .op) i)) c (f .1)) in
     let p : PassT (at m c) = first-pass m c r e in
-    let here : OpenedT (at m c) (cond (m .mark && q 0) (withoutIdle m d) (at m c)) = open-node m c d (q 0) (f .0) (h .1) k (λ i. let y = n .0 i in (y .0, first-removed-opens x (m .op) c o (f .1) (p .1) (openEach-opens (λ i. not (singles (m .op) i)) c (f .1) (h .1) (y .1) (p .1)))) p in
+    let here : OpenedT (at m c) (cond (m .mark && q 0) (withoutIdle m d) (at m c)) = open-node m c d (q 0) (f .0) (h .1) k (λ i. let y = n .0 i in
+    (y .0, first-removed-opens x (m .op) c o (f .1) (p .1) (openEach-opens (λ i. not (singles (m .op) i)) c (f .1) (h .1) (y .1) (p .1)))) p in
     let rest : Opened r (removeBottleneckInSubplanImpl (λ i. q (suc i)) r) = openEach-opens (λ i. q (suc i)) r (f .2) (h .2) (n .1) (rest-pass m c r e) in
-    record { wider = each-cons (here .wider) (rest .wider); passes = pass-plant (cond (m .mark && q 0) (withoutIdle m d) (at m c)) (removeBottleneckInSubplanImpl (λ i. q (suc i)) r) (here .passes) (rest .passes) }
+    record {
+      wider = each-cons (here .wider) (rest .wider);
+      passes = pass-plant (cond (m .mark && q 0) (withoutIdle m d) (at m c))
+          (removeBottleneckInSubplanImpl (λ i. q (suc i)) r) (here .passes) (rest .passes);
+    }

@@ -55,14 +55,16 @@ part-pass o p e = go (partitioning (shape o)) p e
     go a (outputRequirement ks d f) e = no-bool (sym (no a) ∙ e)
     go a (partialSort p ks n f) e = no-bool (sym (no a) ∙ e)
 
-pub skip-kept : {b h : Bool} (o p : Op) (x : Bool) (c : Forest Marked) → passing p ≡ true → FitsA (arity p) (count (strip c)) → Fit (strip c) → Keeps false b h (node p x c) (skipSame o (node p x c) c)
+pub skip-kept : {b h : Bool} (o p : Op) (x : Bool) (c : Forest Marked) → passing p ≡ true → FitsA (arity p) (count (strip c)) → Fit (strip c)
+    → Keeps false b h (node p x c) (skipSame o (node p x c) c)
 skip-kept o p x none e f g = kept-refl (node p x none) (f, g)
 skip-kept {b} {h} o p x (tree m c r) e f g = go (samePartitioning o (m .op)) refl (λ i. skip-kept o (m .op) (m .mark) c i (g .0) (g .1))
   where
     k : Keeps false b h (node p x (tree m c r)) (at m c)
     k = kept-kid p x (tree m c r) e f g
 
-    go : (y : Bool) → samePartitioning o (m .op) ≡ y → (passing (m .op) ≡ true → Keeps false b h (at m c) (skipSame o (at m c) c)) → Keeps false b h (node p x (tree m c r)) (cond y (skipSame o (at m c) c) (at m c))
+    go : (y : Bool) → samePartitioning o (m .op) ≡ y → (passing (m .op) ≡ true → Keeps false b h (at m c) (skipSame o (at m c) c))
+        → Keeps false b h (node p x (tree m c r)) (cond y (skipSame o (at m c) c) (at m c))
     go true i ih = kept-trans k (ih (part-pass o (m .op) i))
     go false i ih = k
 
@@ -73,7 +75,8 @@ lift-kept : {b h : Bool} (o : Op) (c : Forest Marked) → firstIs bottleneck c �
 lift-kept o none e g = all-kept-none
 lift-kept o (tree m c r) e g = kept-plant (skip-kept o (m .op) (m .mark) c (bottleneck-pass (m .op) e) (g .0) (g .1)) (all-kept-refl r (g .2))
 
-pub first-removed-kept : {b h : Bool} (x : Bool) (o : Op) (c d : Forest Marked) → Fit (strip c) → KeepsAll false b h c d → KeepsAll false b h c (firstBottleneckRemoved x o c d)
+pub first-removed-kept : {b h : Bool} (x : Bool) (o : Op) (c d : Forest Marked) → Fit (strip c) → KeepsAll false b h c d
+    → KeepsAll false b h c (firstBottleneckRemoved x o c d)
 first-removed-kept {b} {h} x o c d g k = go (firstIs bottleneck c) refl x
   where
     go : (y : Bool) → firstIs bottleneck c ≡ y → (z : Bool) → KeepsAll false b h c (cond (y && z) (liftFirst o c) d)
@@ -83,12 +86,14 @@ first-removed-kept {b} {h} x o c d g k = go (firstIs bottleneck c) refl x
 
 -- A node that is idle is a repartition
 idle-pass : (o : Op) (d : Forest Marked) → idle (shape o) o d ≡ true → passing o ≡ true
-idle-pass o d = shape-ind (λ p. idle (shape p) p d ≡ true → passing p ≡ true) (λ p ks f e. refl) (λ ks f e. refl) (λ p n h ks e. refl) (λ f e. refl) (λ p s e. no-bool (sym (ap (λ (z : Shape). idle z p d) s) ∙ e)) o
+idle-pass o d = shape-ind (λ p. idle (shape p) p d ≡ true → passing p ≡ true) (λ p ks f e. refl) (λ ks f e. refl) (λ p n h ks e. refl) (λ f e. refl)
+    (λ p s e. no-bool (sym (ap (λ (z : Shape). idle z p d) s) ∙ e)) o
 
 pass-remark : (g : Bool → Bool) (o : Op) → passing (remark g o) ≡ passing o
 pass-remark g o = remark-same passing g (λ p q n h ks. refl) o
 
-pub idle-kept : {b h : Bool} (m : Marked) (c d : Forest Marked) → FitsA (arity (m .op)) (count (strip c)) → KeepsAll false b h c d → Keeps false b h (at m c) (withoutIdle m d)
+pub idle-kept : {b h : Bool} (m : Marked) (c d : Forest Marked) → FitsA (arity (m .op)) (count (strip c)) → KeepsAll false b h c d
+    → Keeps false b h (at m c) (withoutIdle m d)
 idle-kept {b} {h} m c d f k = go (idle (shape (m .op)) (m .op) d) refl
   where
     t : Tree
@@ -101,15 +106,19 @@ idle-kept {b} {h} m c d f k = go (idle (shape (m .op)) (m .op) d) refl
     go true e = kept-trans i (kept-first t (pass-remark _ (m .op) ∙ idle-pass (m .op) d e) (i .fit))
     go false e = i
 
-pub removeBottleneckInSubplanImpl-kept : {b h : Bool} (q : ℕ → Bool) (c : Forest Marked) → Fit (strip c) → KeepsAll false b h c (removeBottleneckInSubplanImpl q c)
+pub removeBottleneckInSubplanImpl-kept : {b h : Bool} (q : ℕ → Bool) (c : Forest Marked) → Fit (strip c)
+    → KeepsAll false b h c (removeBottleneckInSubplanImpl q c)
 removeBottleneckInSubplanImpl-kept q none g = all-kept-none
 removeBottleneckInSubplanImpl-kept q (tree m c r) g =
-    kept-plant (kept-cond (m .mark && q 0) (idle-kept m c _ (g .0) (first-removed-kept (not (singles (m .op) 0)) (m .op) c _ (g .1) (removeBottleneckInSubplanImpl-kept (λ i. not (singles (m .op) i)) c (g .1)))) (kept-refl (at m c) (g .0, g .1)))
+    kept-plant (kept-cond (m .mark && q 0)
+    (idle-kept m c _ (g .0) (first-removed-kept (not (singles (m .op) 0)) (m .op) c _ (g .1)
+    (removeBottleneckInSubplanImpl-kept (λ i. not (singles (m .op) i)) c (g .1)))) (kept-refl (at m c) (g .0, g .1)))
     (removeBottleneckInSubplanImpl-kept (λ i. q (suc i)) r (g .2))
 
 pub without-self-kept : {b h : Bool} (t : Tree) → passing (opT t) ≡ true → FitT t → Keeps false b h t (withoutSelf t)
 without-self-kept {b} {h} t e g =
-    let k : KeepsAll false b h (t .kids) (bottlenecksRemoved t) = first-removed-kept true (opT t) (t .kids) _ (g .1) (removeBottleneckInSubplanImpl-kept (λ i. true) (t .kids) (g .1)) in
+    let k : KeepsAll false b h (t .kids) (bottlenecksRemoved t) = first-removed-kept true (opT t) (t .kids) _ (g .1)
+    (removeBottleneckInSubplanImpl-kept (λ i. true) (t .kids) (g .1)) in
     let u : Tree = removeBottleneckInSubplan t in
     let i : Keeps false b h t u = kept-rebuild (opT t) (t .top .mark) (t .top .mark) (t .kids) (bottlenecksRemoved t) (g .0) k in
     kept-trans i (kept-first u (pass-remark _ (opT t) ∙ e) (i .fit))
@@ -131,7 +140,10 @@ own-width t e g = go (t .kids) (subst (λ (z : Arity). FitsA z (count (strip (t 
     go (tree m c (tree j d r)) n = absurd (omega arith)
 
 cascade-kept : {b h : Bool} (ks : List Key) (f : Fetch) (t : Tree) → Sorts ks f t → FitT t → Keeps false b h t (cascade ks f t)
-cascade-kept {b} {h} ks f t s g = kept-cond (leb (fact t .streams) 1) (kept-over (mergeOp ks f) false refl (λ i q. uncut-fetch f (s .uncut q)) (λ i v w. subst (λ (x : ℕ). nodeOk (mergeOp ks f) (x ∷ []) ≡ true) (sym (ap (λ (F : Facts). F .width) (sorted .base))) (own v)) refl sorted) (kept-refl t g)
+cascade-kept {b} {h} ks f t s g =
+    kept-cond (leb (fact t .streams) 1) (kept-over (mergeOp ks f) false refl (λ i q. uncut-fetch f (s .uncut q))
+    (λ i v w. subst (λ (x : ℕ). nodeOk (mergeOp ks f) (x ∷ []) ≡ true) (sym (ap (λ (F : Facts). F .width) (sorted .base))) (own v)) refl sorted)
+    (kept-refl t g)
   where
     k : Keeps false b h t (withoutSelf t)
     k = without-self-kept t (s .pass) g
@@ -146,7 +158,8 @@ cascade-kept {b} {h} ks f t s g = kept-cond (leb (fact t .streams) 1) (kept-over
         (keys-of w ks (ap₂ _&&_ (ap₂ _&&_ (le-leb 0 (length ks) (omega arith)) n) m), search (and-left, and-right))
 
     new : OkT t → KeysFit (fact (withoutSelf t) .width) (freshKeys (fact (withoutSelf t)) [] ks) × (fetchOk f ≡ true)
-    new v = let p = given (fact t .width) (own v) in (fresh-keys (fact (withoutSelf t)) (fact (withoutSelf t) .width) ks (subst (λ (F : Facts). KeysFit (F .width) ks) (sym (k .base)) (p .0)), p .1)
+    new v = let p = given (fact t .width) (own v) in
+        (fresh-keys (fact (withoutSelf t)) (fact (withoutSelf t) .width) ks (subst (λ (F : Facts). KeysFit (F .width) ks) (sym (k .base)) (p .0)), p .1)
 
     sorted : Keeps false b h t (addSortAboveWithCheck ks f (withoutSelf t))
     sorted = kept-cond (met (fact (withoutSelf t)) ks) k (kept-sortAbove ks f (λ i q. s .uncut q) (λ i v w. new v) k)
@@ -160,7 +173,9 @@ parallelBy-kept {b} {h} x c =
     (λ p ks f g. cascade-kept ks f (node (sortOp p ks f) x c) (record { pass = refl; uncut = λ q. op-fetch (sortOp p ks f) (q .0); fits = λ v. v .0 }) g)
     (λ ks f g. cascade-kept ks f (node (mergeOp ks f) x c) (record { pass = refl; uncut = λ q. op-fetch (mergeOp ks f) (q .0); fits = λ v. v .0 }) g)
     (λ p n q ks g. kept-refl (node (repartition p n q ks) x c) g)
-    (λ f g. kept-over (coalesce f) false refl (λ i q. q .0) (λ i v w. coalesce-ok f (fact (withoutSelf (node (coalesce f) x c)) .width ∷ []) (node-fetch (coalesce f) (map (λ F. F .width) (known c)) (v .0)) (refl, narrowT (withoutSelf (node (coalesce f) x c)) w)) refl (without-self-kept (node (coalesce f) x c) refl g))
+    (λ f g. kept-over (coalesce f) false refl (λ i q. q .0) (λ i v w. coalesce-ok f (fact (withoutSelf (node (coalesce f) x c)) .width ∷ [])
+    (node-fetch (coalesce f) (map (λ F. F .width) (known c)) (v .0)) (refl, narrowT (withoutSelf (node (coalesce f) x c)) w)) refl
+    (without-self-kept (node (coalesce f) x c) refl g))
     (λ o e g. subst (λ (z : Shape). Keeps false b h (node o x c) (parallelBy z (node o x c))) (sym e) (kept-refl (node o x c) g))
 
 pub parallelizeSorts-kept : {b h : Bool} (t : Tree) → FitT t → Keeps false b h t (parallelizeSorts t)
@@ -172,5 +187,6 @@ parallelizeSorts-kept {b} {h} t g =
 pub parallelize-plan : (f : Plan) → Fit f → SamePlan false f (parallelize f)
 parallelize-plan f h = kept-plan f (transformUp parallelizeSorts f) (walk-kept parallelizeSorts (λ t g. parallelizeSorts-kept t g) f h)
 
-pub parallelize-rows : {E E′ : Env} (f : Plan) {x y : Forest Streams} → SameInputs E E′ f → Fit f → clear f ≡ true → Run E 0 0 f x → Run E′ 0 0 (parallelize f) y → Each SameRows (roots x) (roots y)
+pub parallelize-rows : {E E′ : Env} (f : Plan) {x y : Forest Streams} → SameInputs E E′ f → Fit f → clear f ≡ true → Run E 0 0 f x
+    → Run E′ 0 0 (parallelize f) y → Each SameRows (roots x) (roots y)
 parallelize-rows f d h e = same-plan-rows f (parallelize f) d h e (parallelize-plan f h)

@@ -51,11 +51,13 @@ record Ready (t : Tree) : Type 0 where
 
 module _ (t : Tree) (h : Ready t) where
   root-opens : Opened (t .kids) (bottlenecksRemoved t)
-  root-opens = first-removed-opens true (opT t) (t .kids) (removeBottleneckInSubplanImpl (λ i. true) (t .kids)) (h .fit .1) (h .passes .1) (openEach-opens (λ i. true) (t .kids) (h .fit .1) (h .ok .1) (h .kids) (h .passes .1))
+  root-opens = first-removed-opens true (opT t) (t .kids) (removeBottleneckInSubplanImpl (λ i. true) (t .kids)) (h .fit .1) (h .passes .1)
+      (openEach-opens (λ i. true) (t .kids) (h .fit .1) (h .ok .1) (h .kids) (h .passes .1))
 
   root-count : passing (opT t) ≡ true → count (strip (bottlenecksRemoved t)) ≡ 1
   root-count e =
-      let k : KeepsAll false true true (t .kids) (bottlenecksRemoved t) = first-removed-kept true (opT t) (t .kids) (removeBottleneckInSubplanImpl (λ i. true) (t .kids)) (h .fit .1) (removeBottleneckInSubplanImpl-kept (λ i. true) (t .kids) (h .fit .1)) in
+      let k : KeepsAll false true true (t .kids) (bottlenecksRemoved t) = first-removed-kept true (opT t) (t .kids)
+      (removeBottleneckInSubplanImpl (λ i. true) (t .kids)) (h .fit .1) (removeBottleneckInSubplanImpl-kept (λ i. true) (t .kids) (h .fit .1)) in
       k .same ∙ subst (λ (a : Arity). FitsA a (count (strip (t .kids)))) (pass-one (opT t) e) (h .fit .0)
 
   without-self-pass : passing (opT t) ≡ true → PassT (withoutSelf t)
@@ -100,7 +102,12 @@ cascade-steps ks f t h e o = go (leb (fact t .streams) 1) refl
 
     go : (b : Bool) → leb (fact t .streams) 1 ≡ b → Stepped t (cond b (over (mergeOp ks f) false u) t)
     go true l =
-        let one : fact t .streams ≡ 1 = omega (arith, leb-true (fact t .streams) 1 l, all-head (streams-some (tree (opT t) (strip (t .kids)) none) (ok-to (tree (opT t) (strip (t .kids)) none) (h .ok .0, h .ok .1, tt)))) in
+        let one : fact t .streams ≡ 1 =
+        omega (
+          arith,
+          leb-true (fact t .streams) 1 l,
+          all-head (streams-some (tree (opT t) (strip (t .kids)) none) (ok-to (tree (opT t) (strip (t .kids)) none) (h .ok .0, h .ok .1, tt))),
+        ) in
         record {
           same = facts-are (fact (over (mergeOp ks f) false u)) (fact t) base (sym one) (ap (λ (B : Facts). nf B [] ks) base ∙ sym o);
           passes = (ap₂ _&&_ (checked-met ks f (withoutSelf t)) refl, pass-plant u none (checked-pass ks f (withoutSelf t) (without-self-pass t h e)) refl);
@@ -125,20 +132,27 @@ marked-steps x c =
     (λ ks f h g. connected-or (mergeOp ks f) h g (cascade-steps ks f (node (mergeOp ks f) x c) h refl refl))
     (λ p n q ks h g. connected-or (repartition p n q ks) h g (unchanged (node (repartition p n q ks) x c) h (λ _ z. no-bool z)))
     (λ f h g. connected-or (coalesce f) h g (coalesce-steps f h))
-    (λ o s h g. subst (λ (z : Shape). Stepped (node o x c) (cond (headMark c) (parallelBy z (node o x c)) (node o x c))) (sym s) (connected-or o h g (unchanged (node o x c) h (λ _ z. no-bool (sym (other-code o (ap isOther s) .0) ∙ z)))))
+    (λ o s h g. subst (λ (z : Shape). Stepped (node o x c) (cond (headMark c) (parallelBy z (node o x c)) (node o x c))) (sym s)
+    (connected-or o h g (unchanged (node o x c) h (λ _ z. no-bool (sym (other-code o (ap isOther s) .0) ∙ z)))))
   where
     -- without a connected child the node stays, and is no marked sort
-    connected-or : {v : Tree} (o : Op) → Ready (node o x c) → (x ≡ true → isSort o ≡ true → headMark c ≡ true) → Stepped (node o x c) v → Stepped (node o x c) (cond (headMark c) v (node o x c))
+    connected-or : {v : Tree} (o : Op) → Ready (node o x c) → (x ≡ true → isSort o ≡ true → headMark c ≡ true) → Stepped (node o x c) v
+        → Stepped (node o x c) (cond (headMark c) v (node o x c))
     connected-or {v} o h g s = go (headMark c) refl
       where
         go : (b : Bool) → headMark c ≡ b → Stepped (node o x c) (cond b v (node o x c))
         go true e = s
         go false e = unchanged (node o x c) h (λ y z. no-bool (sym e ∙ g y z))
 
-    coalesce-steps : (f : Fetch) → Ready (node (coalesce f) x c) → Stepped (node (coalesce f) x c) (over (coalesce f) false (withoutSelf (node (coalesce f) x c)))
+    coalesce-steps : (f : Fetch) → Ready (node (coalesce f) x c) → Stepped (node (coalesce f) x c)
+        (over (coalesce f) false (withoutSelf (node (coalesce f) x c)))
     coalesce-steps f h =
         let t : Tree = node (coalesce f) x c in
-        record { same = ap (λ (B : Facts). ordered B 1 []) (without-self-kept {b = false} {h = false} t refl (h .fit) .base); passes = (refl, pass-plant (withoutSelf t) none (without-self-pass t h refl) refl); fine = λ q. no-bool q }
+        record {
+          same = ap (λ (B : Facts). ordered B 1 []) (without-self-kept {b = false} {h = false} t refl (h .fit) .base);
+          passes = (refl, pass-plant (withoutSelf t) none (without-self-pass t h refl) refl);
+          fine = λ q. no-bool q;
+        }
 
 step-steps : (t : Tree) → Ready t → Stepped t (parallelizeSorts t)
 step-steps t h =
@@ -152,10 +166,14 @@ step-steps t h =
     ready = record { fit = h .fit; ok = h .ok; kids = h .kids; whole = h .whole; passes = h .passes }
 
     -- a sort is marked by its one child
-    sort-child : (o : Op) (c : Forest Marked) → FitsA (arity o) (count (strip c)) → updateCoalesceCtxChildren o c ≡ true → isSort o ≡ true → headMark c ≡ true
-    sort-child o c = shape-ind (λ p. FitsA (arity p) (count (strip c)) → updateCoalesceCtxChildren p c ≡ true → isSort p ≡ true → headMark c ≡ true) (λ p ks f i y z. by-child p ks f c i y) (λ ks f i y z. no-bool z) (λ p m q ks i y z. no-bool z) (λ f i y z. no-bool z) (λ p s i y z. no-bool (sym (other-code p (ap isOther s) .0) ∙ z)) o
+    sort-child : (o : Op) (c : Forest Marked) → FitsA (arity o) (count (strip c)) → updateCoalesceCtxChildren o c ≡ true → isSort o ≡ true
+        → headMark c ≡ true
+    sort-child o c = shape-ind (λ p. FitsA (arity p) (count (strip c)) → updateCoalesceCtxChildren p c ≡ true → isSort p ≡ true → headMark c ≡ true)
+        (λ p ks f i y z. by-child p ks f c i y) (λ ks f i y z. no-bool z) (λ p m q ks i y z. no-bool z) (λ f i y z. no-bool z)
+        (λ p s i y z. no-bool (sym (other-code p (ap isOther s) .0) ∙ z)) o
       where
-        by-child : (p : Bool) (ks : List Key) (f : Fetch) (c : Forest Marked) → count (strip c) ≡ 1 → updateCoalesceCtxChildren (sortOp p ks f) c ≡ true → headMark c ≡ true
+        by-child : (p : Bool) (ks : List Key) (f : Fetch) (c : Forest Marked) → count (strip c) ≡ 1 → updateCoalesceCtxChildren (sortOp p ks f) c ≡ true
+            → headMark c ≡ true
         by-child p ks f none i y = absurd (omega arith)
         by-child p ks f (tree m d r) i y = go (m .mark) refl
           where
@@ -181,7 +199,8 @@ parallelize-walks (tree o c r) h p e =
     let w : Walked c d = parallelize-walks c (h .1) (nos .0) (search (and-left, and-right)) in
     let v : Walked r (transformUp parallelizeSorts r) = parallelize-walks r (h .2) (nos .1) (search (and-left, and-right)) in
     let k : KeepsAll false true true (bare c) d = walk-kept parallelizeSorts (λ t g. parallelizeSorts-kept t g) c (ok-fit c (h .1)) in
-    let i : Keeps false true true (node o false (bare c)) (rebuild o false d) = kept-rebuild o false false (bare c) d (subst (λ (g : Plan). FitsA (arity o) (count g)) (sym (strip-bare c)) (ok-fit (tree o c r) h .0)) k in
+    let i : Keeps false true true (node o false (bare c)) (rebuild o false d) = kept-rebuild o false false (bare c) d
+    (subst (λ (g : Plan). FitsA (arity o) (count g)) (sym (strip-bare c)) (ok-fit (tree o c r) h .0)) k in
     let t : Tree = rebuild o false d in
     let q : wantsMet o (facts c) ≡ true = search and-left in
     let ready : Ready t =

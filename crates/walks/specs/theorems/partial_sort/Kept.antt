@@ -28,7 +28,8 @@ use Rattle.walks.specs.theorems.calls.Answers.{isAnswer, planOr, well-ok
 abbrev InPlace : Plan → Op → Type 0
 InPlace none p = Unit {0}
 InPlace (tree o c r) p =
-    (factsOp p (facts c) ≡ factsOp o (facts c)) × (nodeOk o (map (λ F. F .width) (facts c)) ≡ true → nodeOk p (map (λ F. F .width) (facts c)) ≡ true) × (wantsMet o (facts c) ≡ true → wantsMet p (facts c) ≡ true)
+    (factsOp p (facts c) ≡ factsOp o (facts c)) × (nodeOk o (map (λ F. F .width) (facts c)) ≡ true → nodeOk p (map (λ F. F .width) (facts c)) ≡ true)
+    × (wantsMet o (facts c) ≡ true → wantsMet p (facts c) ≡ true)
 
 pub record SetKept (f g : Plan) : Type 0 where
   pub same : facts g ≡ facts f
@@ -45,7 +46,8 @@ set-kids o c d r k =
     record {
       same = ap (λ (fs : List Facts). factsOp o fs ∷ facts r) (k .same);
       ok = λ h. (ap (λ (fs : List Facts). nodeOk o (map (λ F. F .width) fs)) (k .same) ∙ h .0, k .ok (h .1), h .2);
-      passes = λ e. let w : wantsMet o (facts c) ≡ true = search and-left in ap₂ _&&_ (ap (wantsMet o) (k .same) ∙ w) (ap₂ _&&_ (k .passes (search (and-left, and-right))) (and-right (check c) (check r) (search and-right)));
+      passes = λ e. let w : wantsMet o (facts c) ≡ true = search and-left in
+          ap₂ _&&_ (ap (wantsMet o) (k .same) ∙ w) (ap₂ _&&_ (k .passes (search (and-left, and-right))) (and-right (check c) (check r) (search and-right)));
       long = ap (λ (n : ℕ). suc (n + size r)) (k .long);
       number = refl;
     }
@@ -55,7 +57,8 @@ set-right o c r s k =
     record {
       same = ap (λ (fs : List Facts). factsOp o (facts c) ∷ fs) (k .same);
       ok = λ h. (h .0, h .1, k .ok (h .2));
-      passes = λ e. let w : wantsMet o (facts c) ≡ true = search and-left in let x : check c ≡ true = search (and-left, and-right) in ap₂ _&&_ w (ap₂ _&&_ x (k .passes (search (and-left, and-right))));
+      passes = λ e. let w : wantsMet o (facts c) ≡ true = search and-left in let x : check c ≡ true = search (and-left, and-right) in
+          ap₂ _&&_ w (ap₂ _&&_ x (k .passes (search (and-left, and-right))));
       long = ap (λ (n : ℕ). suc (size c + n)) (k .long);
       number = ap suc (k .number);
     }
@@ -72,8 +75,10 @@ set-kept zero p (tree o c r) h =
     }
 set-kept (suc n) p (tree o c r) h = go (ltb n (size c)) (λ i. set-kept n p c i) (λ i. set-kept (n - size c) p r i) h
   where
-    go : (b : Bool) → (InPlace (fromNode n c) p → SetKept c (setNode n p c)) → (InPlace (fromNode (n - size c) r) p → SetKept r (setNode (n - size c) p r)) →
-        InPlace (cond b (fromNode n c) (fromNode (n - size c) r)) p → SetKept (tree o c r) (cond b (tree o (setNode n p c) r) (tree o c (setNode (n - size c) p r)))
+    go : (b : Bool) → (InPlace (fromNode n c) p → SetKept c (setNode n p c)) → (InPlace (fromNode (n - size c) r) p → SetKept r (setNode (n - size c) p r))
+        →
+        InPlace (cond b (fromNode n c) (fromNode (n - size c) r)) p
+        → SetKept (tree o c r) (cond b (tree o (setNode n p c) r) (tree o c (setNode (n - size c) p r)))
     go true k l i = set-kids o c (setNode n p c) r (k i)
     go false k l i = set-right o c r (setNode (n - size c) p r) (l i)
 
@@ -93,7 +98,8 @@ prefix-met F done (k ∷ ks) n e = go (met F more) refl n (commonPrefixLength F 
     more : List Key
     more = done ++ (k ∷ [])
 
-    go : (b : Bool) → met F more ≡ b → (n m : ℕ) → ((j : ℕ) → m ≡ suc j → met F (more ++ take (suc j) ks) ≡ true) → cond b (suc m) 0 ≡ suc n → met F (done ++ (k ∷ take n ks)) ≡ true
+    go : (b : Bool) → met F more ≡ b → (n m : ℕ) → ((j : ℕ) → m ≡ suc j → met F (more ++ take (suc j) ks) ≡ true) → cond b (suc m) 0 ≡ suc n
+        → met F (done ++ (k ∷ take n ks)) ≡ true
     go true t zero m ih q = t
     go true t (suc n) m ih q = ap (met F) (sym (append-assoc done (k ∷ []) (take (suc n) ks))) ∙ ih n (omega arith)
     go false t n m ih q = absurd (omega arith)
@@ -116,24 +122,31 @@ less m n l e = go (ltb m n) refl
 
 module _ (c : Plan) (p : Bool) (ks : List Key) (f : Fetch) where
   -- a partial sort with its prefix short of all keys
-  partial-in-place : (r : Plan) (m : ℕ) → suc m < length ks → met (at0 (facts c)) (take (suc m) ks) ≡ true → InPlace (tree (sortOp p ks f) c r) (partialSort p ks (suc m) f)
+  partial-in-place : (r : Plan) (m : ℕ) → suc m < length ks → met (at0 (facts c)) (take (suc m) ks) ≡ true → InPlace (tree (sortOp p ks f) c r)
+      (partialSort p ks (suc m) f)
   partial-in-place r m l e = (
     refl,
     λ h.
         let s : some ks && fetchOk f ≡ true = search (and-left, and-right) in
         let k : eqb (length (map (λ F. F .width) (facts c))) 1 ≡ true = search (and-left, and-right) in
-        let w : keysFit (getD (map (λ F. F .width) (facts c)) 0 0) ks && leb (getD (map (λ F. F .width) (facts c)) 0 0) 32 ≡ true = search (and-left, and-right) in
+        let w : keysFit (getD (map (λ F. F .width) (facts c)) 0 0) ks && leb (getD (map (λ F. F .width) (facts c)) 0 0) 32 ≡ true =
+        search (and-left, and-right) in
         ap₂ _&&_ (ap₂ _&&_ (ap₂ _&&_ s (ap₂ _&&_ (le-leb 1 (suc m) (omega arith)) (lt-ltb (suc m) (length ks) l))) k) w,
     λ h. ap₂ _&&_ e refl,
   )
 
-  of-prefix : (r : Plan) (m : ℕ) → commonPrefixLength (at0 (facts c)) [] ks ≡ m → eqb m (length ks) ≡ false → InPlace (tree (sortOp p ks f) c r) (ofPrefix p ks f m)
+  of-prefix : (r : Plan) (m : ℕ) → commonPrefixLength (at0 (facts c)) [] ks ≡ m → eqb m (length ks) ≡ false → InPlace (tree (sortOp p ks f) c r)
+      (ofPrefix p ks f m)
   of-prefix r zero q e = (refl, λ h. h, λ h. h)
-  of-prefix r (suc m) q e = partial-in-place r m (less (suc m) (length ks) (omega (arith, prefix-le (at0 (facts c)) [] ks)) e) (prefix-met (at0 (facts c)) [] ks m q)
+  of-prefix r (suc m) q e = partial-in-place r m (less (suc m) (length ks) (omega (arith, prefix-le (at0 (facts c)) [] ks)) e)
+      (prefix-met (at0 (facts c)) [] ks m q)
 
-  sort-in-place : (r : Plan) (o : Op) (x : Bool) (b : Bool) → eqb (commonPrefixLength (at0 (facts c)) [] ks) (length ks) ≡ b → cond x (cond b pastTheEnd (becomes (ofPrefix p ks f (commonPrefixLength (at0 (facts c)) [] ks)))) (becomes (sortOp p ks f)) ≡ becomes o → InPlace (tree (sortOp p ks f) c r) o
+  sort-in-place : (r : Plan) (o : Op) (x : Bool) (b : Bool) → eqb (commonPrefixLength (at0 (facts c)) [] ks) (length ks) ≡ b
+      → cond x (cond b pastTheEnd (becomes (ofPrefix p ks f (commonPrefixLength (at0 (facts c)) [] ks)))) (becomes (sortOp p ks f)) ≡ becomes o
+      → InPlace (tree (sortOp p ks f) c r) o
   sort-in-place r o true true q e = no-bool (ap isBecome e)
-  sort-in-place r o true false q e = subst (InPlace (tree (sortOp p ks f) c r)) (ap (opOr o) e) (of-prefix r (commonPrefixLength (at0 (facts c)) [] ks) refl q)
+  sort-in-place r o true false q e = subst (InPlace (tree (sortOp p ks f) c r)) (ap (opOr o) e)
+      (of-prefix r (commonPrefixLength (at0 (facts c)) [] ks) refl q)
   sort-in-place r o false b q e = subst (InPlace (tree (sortOp p ks f) c r)) (ap (opOr o) e) (refl, λ h. h, λ h. h)
 
 becomes-in-place : (c r : Plan) (o q : Op) → replaceWithPartialSort o c ≡ becomes q → InPlace (tree o c r) q
@@ -153,9 +166,11 @@ becomes-in-place c r o q =
 pub partial-kept : (n : ℕ) (f g : Plan) → partiallySorted n f ≡ answered g → SetKept f g
 partial-kept n f g e = go (fromNode n f) refl e
   where
-    found : (o : Op) (c r : Plan) → fromNode n f ≡ tree o c r → (x : Replaced) → replaceWithPartialSort o c ≡ x → partialAnswer n f x ≡ answered g → SetKept f g
+    found : (o : Op) (c r : Plan) → fromNode n f ≡ tree o c r → (x : Replaced) → replaceWithPartialSort o c ≡ x → partialAnswer n f x ≡ answered g
+        → SetKept f g
     found o c r i pastTheEnd j q = no-bool (ap isAnswer q)
-    found o c r i (becomes p) j q = subst (SetKept f) (ap (planOr f) q) (set-kept n p f (subst (λ (h : Plan). InPlace h p) (sym i) (becomes-in-place c r o p j)))
+    found o c r i (becomes p) j q =
+        subst (SetKept f) (ap (planOr f) q) (set-kept n p f (subst (λ (h : Plan). InPlace h p) (sym i) (becomes-in-place c r o p j)))
 
     go : (h : Plan) → fromNode n f ≡ h → partialAt n f h ≡ answered g → SetKept f g
     go none i q = no-bool (ap isAnswer q)

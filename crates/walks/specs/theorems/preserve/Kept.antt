@@ -45,23 +45,29 @@ first-kept {d = d} x k = all-kept-trans k (all-kept-strip d (markFirst x d) (str
 
 -- ---- the alternative; f is the sort's fetch
 abbrev Preserved : Bool → Bool → Fetch → Bool → Forest Marked → Forest Marked → Op → Type 0
-Preserved spr spm f x c d o = FitsA (arity o) (count (strip c)) → Fit (strip c) → KeepsAll false (isAll f) (fetchOk f) c d → Keeps false (isAll f) (fetchOk f) (node o x c) (preserveBy (shape o) spr spm f (record { op = o; mark = x }) c d)
+Preserved spr spm f x c d o = FitsA (arity o) (count (strip c)) → Fit (strip c) → KeepsAll false (isAll f) (fetchOk f) c d
+    → Keeps false (isAll f) (fetchOk f) (node o x c) (preserveBy (shape o) spr spm f (record { op = o; mark = x }) c d)
 
 -- a merge of its child's known order, in a coalesce's place
-merge-for : (g f : Fetch) (k : Key) (ks : List Key) (c : Forest Marked) → at0 (known c) .order ≡ k ∷ ks → fetchOk f ≡ true → nodeOk (coalesce g) (map (λ F. F .width) (known c)) ≡ true → Ok (strip c) → nodeOk (mergeOp (k ∷ ks) f) (map (λ F. F .width) (known c)) ≡ true
+merge-for : (g f : Fetch) (k : Key) (ks : List Key) (c : Forest Marked) → at0 (known c) .order ≡ k ∷ ks → fetchOk f ≡ true
+    → nodeOk (coalesce g) (map (λ F. F .width) (known c)) ≡ true → Ok (strip c) → nodeOk (mergeOp (k ∷ ks) f) (map (λ F. F .width) (known c)) ≡ true
 merge-for g f k ks c e i n h =
     let ws : List ℕ = map (λ F. F .width) (known c) in
     let fits : KeysFit (at0 (known c) .width) (at0 (known c) .order) = all-nth nothing no-keys (orders-fit (strip c) h) 0 in
-    merge-ok k ks f ws (subst (λ (l : List Key). KeysFit (getD ws 0 0) l) e (subst (λ (w : ℕ). KeysFit w (at0 (known c) .order)) (sym (nth-width (known c) 0)) fits)) i (over-of (coalesce g) ws refl n)
+    merge-ok k ks f ws (subst (λ (l : List Key). KeysFit (getD ws 0 0) l) e
+    (subst (λ (w : ℕ). KeysFit w (at0 (known c) .order)) (sym (nth-width (known c) 0)) fits)) i (over-of (coalesce g) ws refl n)
 
 pub preserveBy-kept : (spr spm : Bool) (f : Fetch) (x : Bool) (c d : Forest Marked) (o : Op) → Preserved spr spm f x c d o
 preserveBy-kept spr spm f x c d =
     shape-ind (Preserved spr spm f x c d)
     (λ p ks g h i k. kept-rebuild (sortOp p ks g) x false c d h k)
     (λ ks g h i k. kept-rebuild (mergeOp ks g) x false c d h k)
-    (λ p n q ks h i k. kept-cond (not (keepsOrder p (at0 (known c))) && spr) (kept-swap (repartition p n q ks) (rebuilt (repartition true n q ks) (known (markFirst true d))) x false c (markFirst true d) refl refl refl (λ e u. refl) (λ e u v. u) h (first-kept true k)) (kept-rebuild (repartition p n q ks) x false c d h k))
+    (λ p n q ks h i k. kept-cond (not (keepsOrder p (at0 (known c))) && spr)
+    (kept-swap (repartition p n q ks) (rebuilt (repartition true n q ks) (known (markFirst true d))) x false c (markFirst true d) refl refl refl
+    (λ e u. refl) (λ e u v. u) h (first-kept true k)) (kept-rebuild (repartition p n q ks) x false c d h k))
     (λ g h i k. coalesced g h i k)
-    (λ o e h i k. subst (λ (s : Shape). Keeps false (isAll f) (fetchOk f) (node o x c) (preserveBy s spr spm f (record { op = o; mark = x }) c d)) (sym e) (kept-rebuild o x false c d h k))
+    (λ o e h i k. subst (λ (s : Shape). Keeps false (isAll f) (fetchOk f) (node o x c) (preserveBy s spr spm f (record { op = o; mark = x }) c d)) (sym e)
+    (kept-rebuild o x false c d h k))
   where
     e : Forest Marked
     e = markFirst true d
@@ -69,25 +75,31 @@ preserveBy-kept spr spm f x c d =
     same-order : at0 (known e) .order ≡ at0 (known d) .order
     same-order = ap (λ (g : Plan). at0 (facts g) .order) (strip-first true d)
 
-    merged : count (strip c) ≡ 1 → KeepsAll false (isAll f) (fetchOk f) c d → (ks : List Key) → at0 (known d) .order ≡ ks → (y : Bool) → Keeps false (isAll f) (fetchOk f) (node (coalesce Unlimited) x c) (cond (y && not (isNil ks)) (node (mergeOp ks f) false e) (rebuild (coalesce Unlimited) false d))
+    merged : count (strip c) ≡ 1 → KeepsAll false (isAll f) (fetchOk f) c d → (ks : List Key) → at0 (known d) .order ≡ ks → (y : Bool)
+        → Keeps false (isAll f) (fetchOk f) (node (coalesce Unlimited) x c)
+        (cond (y && not (isNil ks)) (node (mergeOp ks f) false e) (rebuild (coalesce Unlimited) false d))
     merged h k (j ∷ ks) q true =
-        kept-swap (coalesce Unlimited) (mergeOp (j ∷ ks) f) x false c e refl refl refl (λ i u. uncut-fetch f i) (λ i n v. merge-for Unlimited f j ks e (same-order ∙ q) i n v) h (first-kept true k)
+        kept-swap (coalesce Unlimited) (mergeOp (j ∷ ks) f) x false c e refl refl refl (λ i u. uncut-fetch f i)
+        (λ i n v. merge-for Unlimited f j ks e (same-order ∙ q) i n v) h (first-kept true k)
     merged h k (j ∷ ks) q false = kept-rebuild (coalesce Unlimited) x false c d h k
     merged h k [] q true = kept-rebuild (coalesce Unlimited) x false c d h k
     merged h k [] q false = kept-rebuild (coalesce Unlimited) x false c d h k
 
-    coalesced : (g : Fetch) → count (strip c) ≡ 1 → Fit (strip c) → KeepsAll false (isAll f) (fetchOk f) c d → Keeps false (isAll f) (fetchOk f) (node (coalesce g) x c) (preserveCoalesce g spm f (record { op = coalesce g; mark = x }) c d)
+    coalesced : (g : Fetch) → count (strip c) ≡ 1 → Fit (strip c) → KeepsAll false (isAll f) (fetchOk f) c d → Keeps false (isAll f) (fetchOk f)
+        (node (coalesce g) x c) (preserveCoalesce g spm f (record { op = coalesce g; mark = x }) c d)
     coalesced Unlimited h i k = merged h k (at0 (known d) .order) refl spm
     coalesced (AtMost n) h i k = kept-mark false (kept-refl (node (coalesce (AtMost n)) x c) (h, i))
 
 pub preserveEach-kept : (spr spm : Bool) (f : Fetch) (c : Forest Marked) → Fit (strip c) → KeepsAll false (isAll f) (fetchOk f) c (preserveEach spr spm f c)
 preserveEach-kept spr spm f none h = all-kept-none
 preserveEach-kept spr spm f (tree m c r) h =
-    kept-plant (kept-cond (m .mark) (preserveBy-kept spr spm f (m .mark) c (preserveEach spr spm f c) (m .op) (h .0) (h .1) (preserveEach-kept spr spm f c (h .1))) (kept-refl (at m c) (h .0, h .1)))
+    kept-plant (kept-cond (m .mark) (preserveBy-kept spr spm f (m .mark) c (preserveEach spr spm f c) (m .op) (h .0) (h .1)
+    (preserveEach-kept spr spm f c (h .1))) (kept-refl (at m c) (h .0, h .1)))
     (preserveEach-kept spr spm f r (h .2))
 
 pub variants-kept : (spr spm : Bool) (f : Fetch) (t : Tree) → FitT t → Keeps false (isAll f) (fetchOk f) t (planWithOrderPreservingVariants spr spm f t)
-variants-kept spr spm f t h = preserveBy-kept spr spm f (t .top .mark) (t .kids) (preserveEach spr spm f (t .kids)) (opT t) (h .0) (h .1) (preserveEach-kept spr spm f (t .kids) (h .1))
+variants-kept spr spm f t h = preserveBy-kept spr spm f (t .top .mark) (t .kids) (preserveEach spr spm f (t .kids)) (opT t) (h .0) (h .1)
+    (preserveEach-kept spr spm f (t .kids) (h .1))
 
 -- ---- the step
 abbrev Replaced : Bool → Bool → Settings → Bool → Forest Marked → Op → Type 0
@@ -101,9 +113,12 @@ replaceBy-kept {b} {h} s x c =
     let u : Tree = kid0 t c in
     let a : Tree = alternatePlan s ks f t u in
     let i : Keeps false (isAll f) (fetchOk f) t u = kept-first t refl g in
-    let k : Keeps false (isAll f) (fetchOk f) t a = kept-trans i (variants-kept (s .spr || useOrderPreservingVariant s ks t u) (s .spm || useOrderPreservingVariant s ks t u) f u (i .fit)) in
-    let v : Keeps false b h t a = kept-when (λ e q. op-fetch (sortOp p ks f) (q .0)) (λ e q. node-fetch (sortOp p ks f) (map (λ F. F .width) (known c)) (q .0)) k in
-    kept-cond (headMark c) (kept-cond (met (fact a) (fact t .order)) (kept-trans v (remarked a (a .top .mark) (unmark (a .kids)) (strip-unmark (a .kids)) (v .fit))) (kept-refl t g)) (kept-refl t g))
+    let k : Keeps false (isAll f) (fetchOk f) t a =
+    kept-trans i (variants-kept (s .spr || useOrderPreservingVariant s ks t u) (s .spm || useOrderPreservingVariant s ks t u) f u (i .fit)) in
+    let v : Keeps false b h t a = kept-when (λ e q. op-fetch (sortOp p ks f) (q .0))
+    (λ e q. node-fetch (sortOp p ks f) (map (λ F. F .width) (known c)) (q .0)) k in
+    kept-cond (headMark c) (kept-cond (met (fact a) (fact t .order))
+    (kept-trans v (remarked a (a .top .mark) (unmark (a .kids)) (strip-unmark (a .kids)) (v .fit))) (kept-refl t g)) (kept-refl t g))
     (λ ks f g. kept-refl (node (mergeOp ks f) x c) g)
     (λ p n q ks g. kept-refl (node (repartition p n q ks) x c) g)
     (λ f g. kept-refl (node (coalesce f) x c) g)
@@ -115,29 +130,39 @@ step-kept {b} {h} s t g =
     kept-trans k (replaceBy-kept s false (carryEach (t .kids)) (opT t) (k .fit))
 
 pub preserve-plan : (s : Settings) (f : Plan) → Fit f → SamePlan false f (preserve s f)
-preserve-plan s f h = kept-plan f (transformUp (replaceWithOrderPreservingVariants s) f) (walk-kept (replaceWithOrderPreservingVariants s) (λ t g. step-kept s t g) f h)
+preserve-plan s f h = kept-plan f (transformUp (replaceWithOrderPreservingVariants s) f)
+    (walk-kept (replaceWithOrderPreservingVariants s) (λ t g. step-kept s t g) f h)
 
-pub preserve-rows : (s : Settings) {E E′ : Env} (f : Plan) {x y : Forest Streams} → SameInputs E E′ f → Fit f → clear f ≡ true → Run E 0 0 f x → Run E′ 0 0 (preserve s f) y → Each SameRows (roots x) (roots y)
+pub preserve-rows : (s : Settings) {E E′ : Env} (f : Plan) {x y : Forest Streams} → SameInputs E E′ f → Fit f → clear f ≡ true → Run E 0 0 f x
+    → Run E′ 0 0 (preserve s f) y → Each SameRows (roots x) (roots y)
 preserve-rows s f d h e = same-plan-rows f (preserve s f) d h e (preserve-plan s f h)
 
 -- ---- the order-breaking variants, whose result the walk does not use, keep all but fetches: a merge's goes to its coalesce
 abbrev Broken : Bool → Bool → Bool → Forest Marked → Forest Marked → Op → Type 0
-Broken b h x c d o = FitsA (arity o) (count (strip c)) → KeepsAll false b h c d → Keeps false b h (node o x c) (breakBy (shape o) (record { op = o; mark = x }) c d)
+Broken b h x c d o = FitsA (arity o) (count (strip c)) → KeepsAll false b h c d → Keeps false b h (node o x c)
+    (breakBy (shape o) (record { op = o; mark = x }) c d)
 
 pub breakBy-kept : {b h : Bool} (x : Bool) (c d : Forest Marked) (o : Op) → Broken b h x c d o
 breakBy-kept {b} {h} x c d =
     shape-ind (Broken b h x c d)
     (λ p ks f g k. kept-rebuild (sortOp p ks f) x false c d g k)
-    (λ ks f g k. kept-swap (mergeOp ks f) (coalesce f) x false c (markFirst false d) refl refl refl (λ e u. u) (λ e u v. coalesce-ok f (map (λ F. F .width) (known (markFirst false d))) (node-fetch (mergeOp ks f) (map (λ F. F .width) (known (markFirst false d))) u) (over-of (mergeOp ks f) (map (λ F. F .width) (known (markFirst false d))) refl u)) g (first-kept false k))
-    (λ p n q ks g k. kept-cond (keepsOrder p (at0 (known c))) (kept-swap (repartition p n q ks) (repartition false n q ks) x false c (markFirst false d) refl refl refl (λ e u. refl) (λ e u v. u) g (first-kept false k)) (kept-rebuild (repartition p n q ks) x false c d g k))
+    (λ ks f g k. kept-swap (mergeOp ks f) (coalesce f) x false c (markFirst false d) refl refl refl (λ e u. u)
+    (λ e u v. coalesce-ok f (map (λ F. F .width) (known (markFirst false d)))
+    (node-fetch (mergeOp ks f) (map (λ F. F .width) (known (markFirst false d))) u)
+    (over-of (mergeOp ks f) (map (λ F. F .width) (known (markFirst false d))) refl u)) g (first-kept false k))
+    (λ p n q ks g k. kept-cond (keepsOrder p (at0 (known c)))
+    (kept-swap (repartition p n q ks) (repartition false n q ks) x false c (markFirst false d) refl refl refl (λ e u. refl) (λ e u v. u) g
+    (first-kept false k)) (kept-rebuild (repartition p n q ks) x false c d g k))
     (λ f g k. kept-rebuild (coalesce f) x false c d g k)
     (λ o e g k. subst (λ (s : Shape). Keeps false b h (node o x c) (breakBy s (record { op = o; mark = x }) c d)) (sym e) (kept-rebuild o x false c d g k))
 
 pub breakEach-kept : {b h : Bool} (q : ℕ → Bool) (c : Forest Marked) → Fit (strip c) → KeepsAll false b h c (breakEach q c)
 breakEach-kept q none g = all-kept-none
 breakEach-kept q (tree m c r) g =
-    kept-plant (kept-cond (q 0) (breakBy-kept (m .mark) c (breakEach (enters (m .op) (known c)) c) (m .op) (g .0) (breakEach-kept (enters (m .op) (known c)) c (g .1))) (kept-refl (at m c) (g .0, g .1)))
+    kept-plant (kept-cond (q 0) (breakBy-kept (m .mark) c (breakEach (enters (m .op) (known c)) c) (m .op) (g .0)
+    (breakEach-kept (enters (m .op) (known c)) c (g .1))) (kept-refl (at m c) (g .0, g .1)))
     (breakEach-kept (λ i. q (suc i)) r (g .2))
 
 pub breaking-kept : {b h : Bool} (t : Tree) → FitT t → Keeps false b h t (planWithOrderBreakingVariants t)
-breaking-kept t g = breakBy-kept (t .top .mark) (t .kids) (breakEach (enters (opT t) (known (t .kids))) (t .kids)) (opT t) (g .0) (breakEach-kept (enters (opT t) (known (t .kids))) (t .kids) (g .1))
+breaking-kept t g = breakBy-kept (t .top .mark) (t .kids) (breakEach (enters (opT t) (known (t .kids))) (t .kids)) (opT t) (g .0)
+    (breakEach-kept (enters (opT t) (known (t .kids))) (t .kids) (g .1))

@@ -28,16 +28,19 @@ use Rattle.walks.specs.theorems.common.NewNodes.{nth-width, one-child, w
 
 -- ---- columns moved back
 module _ (off : ℕ) where
-  back-out : (c : ℕ) (ks : List Key) → off ≤ c → All (λ k. off ≤ k .col) ks → member c (map (λ k. k .col) ks) ≡ false → member (c - off) (map (λ k. k .col) (addOffsetToPhysicalSortExprs off ks)) ≡ false
+  back-out : (c : ℕ) (ks : List Key) → off ≤ c → All (λ k. off ≤ k .col) ks → member c (map (λ k. k .col) ks) ≡ false
+      → member (c - off) (map (λ k. k .col) (addOffsetToPhysicalSortExprs off ks)) ≡ false
   back-out c [] l all-nil e = refl
   back-out c (k ∷ ks) l (all-cons h hs) e =
       let f = or-false (eqb c (k .col)) (member c (map (λ k. k .col) ks)) e in
       ap₂ _||_ (ne-eqb (c - off) (k .col - off) (λ q. no-bool (sym (f .0) ∙ eq-eqb c (k .col) (omega arith)))) (back-out c ks l hs (f .1))
 
-  back-apart : (ks : List Key) → All (λ k. off ≤ k .col) ks → distinct (map (λ k. k .col) ks) ≡ true → distinct (map (λ k. k .col) (addOffsetToPhysicalSortExprs off ks)) ≡ true
+  back-apart : (ks : List Key) → All (λ k. off ≤ k .col) ks → distinct (map (λ k. k .col) ks) ≡ true
+      → distinct (map (λ k. k .col) (addOffsetToPhysicalSortExprs off ks)) ≡ true
   back-apart [] all-nil e = refl
   back-apart (k ∷ ks) (all-cons h hs) e =
-      ap₂ (λ (x y : Bool). not x && y) (back-out (k .col) ks h hs (not-true (member (k .col) (map (λ k. k .col) ks)) (search and-left))) (back-apart ks hs (search and-right))
+      ap₂ (λ (x y : Bool). not x && y) (back-out (k .col) ks h hs (not-true (member (k .col) (map (λ k. k .col) ks)) (search and-left)))
+      (back-apart ks hs (search and-right))
 
   pub back-keys : (v w : ℕ) (ks : List Key) → v - off ≤ w → All (λ k. off ≤ k .col) ks → KeysFit v ks → KeysFit w (addOffsetToPhysicalSortExprs off ks)
   back-keys v w ks n h f =
@@ -76,9 +79,11 @@ column-in w [] e c l = absurd (omega arith)
 column-in w (d ∷ cols) e zero l = ltb-true d w (search and-left)
 column-in w (d ∷ cols) e (suc c) l = column-in w cols (search and-right) c (omega arith)
 
-remap-keys : (w : ℕ) (cols : List ℕ) (ks : List Key) → below w cols ≡ true → KeysFit (length cols) ks → KeysFit w (remapRequirementThroughProjection cols ks)
+remap-keys : (w : ℕ) (cols : List ℕ) (ks : List Key) → below w cols ≡ true → KeysFit (length cols) ks
+    → KeysFit w (remapRequirementThroughProjection cols ks)
 remap-keys w cols ks e f =
-    repeats-keys w (map (atColumn (λ c. getD cols c 0)) ks) (omega (arith, map-length (atColumn (λ c. getD cols c 0)) ks, f .short)) (all-over (atColumn (λ c. getD cols c 0)) (λ k l. column-in w cols e (k .col) l) (f .inside))
+    repeats-keys w (map (atColumn (λ c. getD cols c 0)) ks) (omega (arith, map-length (atColumn (λ c. getD cols c 0)) ks, f .short))
+    (all-over (atColumn (λ c. getD cols c 0)) (λ k l. column-in w cols e (k .col) l) (f .inside))
 
 -- ---- unions
 every-width : (v : ℕ) (fs : List Facts) → every (λ w. eqb w v) (map (λ F. F .width) fs) ≡ true → (i : ℕ) → i < length fs → v ≡ getD fs i nothing .width
@@ -107,7 +112,8 @@ onSide-fits F lo n (k ∷ ks) = go (leb lo (k .col) && ltb (k .col) (lo + n)) re
 
     go : (a : Bool) → leb lo (k .col) && ltb (k .col) (lo + n) ≡ a → (b : Bool) → ltb i n ≡ b → ValidFits lo n (length ks) (onSide F lo n ks) →
         ValidFits lo n (suc (length ks)) (cond a (andKey k (onSide F lo n ks)) (cond b (andKey (withColumn (lo + i) k) (onSide F lo n ks)) invalid))
-    go true e b d ih = and-fits lo n (length ks) k (onSide F lo n ks) (leb-true lo (k .col) (search and-left), ltb-true (k .col) (lo + n) (search and-right)) ih
+    go true e b d ih = and-fits lo n (length ks) k (onSide F lo n ks)
+        (leb-true lo (k .col) (search and-left), ltb-true (k .col) (lo + n) (search and-right)) ih
     go false e true d ih = and-fits lo n (length ks) (withColumn (lo + i) k) (onSide F lo n ks) (omega arith, omega (arith, ltb-true i n d)) ih
     go false e false d ih = tt
 
@@ -125,7 +131,8 @@ first-fits wl off wr n m (valid ks) r h e d f g = (omega (arith, f .0), all-map 
 module _ (F L R : Facts) (ks : List Key) (h : KeysFit (F .width) ks) where
   either-fits : F .width ≡ L .width + R .width → SideFits (L .width) (F .width - R .width) (R .width) (eitherSide F ks (L .width))
   either-fits e =
-      first-fits (L .width) (F .width - R .width) (R .width) (F .width - L .width) (length ks) (onSide F 0 (L .width) ks) (onSide F (L .width) (F .width - L .width) ks) (h .short) (omega arith) (omega arith)
+      first-fits (L .width) (F .width - R .width) (R .width) (F .width - L .width) (length ks) (onSide F 0 (L .width) ks)
+      (onSide F (L .width) (F .width - L .width) ks) (h .short) (omega arith) (omega arith)
       (onSide-fits F 0 (L .width) ks) (onSide-fits F (L .width) (F .width - L .width) ks)
 
   left-fits : F .width ≡ L .width → SideFits (L .width) (F .width - R .width) (R .width) (leftSide ks)
@@ -134,7 +141,8 @@ module _ (F L R : Facts) (ks : List Key) (h : KeysFit (F .width) ks) where
   right-fits : F .width ≡ R .width → SideFits (L .width) (F .width - R .width) (R .width) (rightSide ks)
   right-fits e = (h .short, all-map (λ k l. omega arith) (h .inside))
 
-  side-fits : (t : JoinType) → F .width ≡ joinWidth t (L .width) (R .width) → SideFits (L .width) (F .width - R .width) (R .width) (exprSourceSide F ks t (L .width))
+  side-fits : (t : JoinType) → F .width ≡ joinWidth t (L .width) (R .width) → SideFits (L .width) (F .width - R .width) (R .width)
+      (exprSourceSide F ks t (L .width))
   side-fits Inner e = either-fits e
   side-fits Left e = either-fits e
   side-fits Right e = either-fits e
@@ -145,29 +153,37 @@ module _ (F L R : Facts) (ks : List Key) (h : KeysFit (F .width) ks) where
   side-fits RightAnti e = right-fits e
 
 -- ---- try_pushdown_requirements_to_join
-join-goes : (o : Op) (t : JoinType) (F : Facts) (fs : List Facts) (parent : List Key) → length fs ≡ 2 → wantsFit (wanted o) fs ≡ true → (s : JoinSide) → SideFits (at0 fs .width) (F .width - at1 fs .width) (at1 fs .width) s → PushedFits fs (pushToSide o t F (at0 fs) (at1 fs) parent s)
+join-goes : (o : Op) (t : JoinType) (F : Facts) (fs : List Facts) (parent : List Key) → length fs ≡ 2 → wantsFit (wanted o) fs ≡ true → (s : JoinSide)
+    → SideFits (at0 fs .width) (F .width - at1 fs .width) (at1 fs .width) s → PushedFits fs (pushToSide o t F (at0 fs) (at1 fs) parent s)
 join-goes o t F fs parent n w noSide h = tt
 join-goes o t F fs parent n w (leftSide ks) h =
     let v : PushedFits fs (goes (wanted o)) = wants-at (wanted o) fs w in
-    goIf-fits fs (met (reorder (at0 fs) ks) (wanted o 0) && met (reorderTo F (newOutputOrdering t (at0 fs) (at1 fs) ks 0)) parent) (sideOrder 0 (dropRepeats [] ks) (wanted o))
+    goIf-fits fs (met (reorder (at0 fs) ks) (wanted o 0) && met (reorderTo F (newOutputOrdering t (at0 fs) (at1 fs) ks 0)) parent)
+    (sideOrder 0 (dropRepeats [] ks) (wanted o))
     (λ e. two-go fs (sideOrder 0 (dropRepeats [] ks) (wanted o)) n (repeats-keys (at0 fs .width) ks (h .0) (h .1)) (v 1 (omega arith)))
 join-goes o t F fs parent n w (rightSide ks) h =
     let v : PushedFits fs (goes (wanted o)) = wants-at (wanted o) fs w in
     let off : ℕ = F .width - at1 fs .width in
     let ls : List Key = addOffsetToPhysicalSortExprs off ks in
-    goIf-fits fs (met (reorder (at1 fs) ls) (wanted o 1) && met (reorderTo F (newOutputOrdering t (at0 fs) (at1 fs) ls 1)) parent) (sideOrder 1 (dropRepeats [] ls) (wanted o))
-    (λ e. two-go fs (sideOrder 1 (dropRepeats [] ls) (wanted o)) n (v 0 (omega arith)) (repeats-keys (at1 fs .width) ls (omega (arith, map-length (atColumn (λ c. c - off)) ks, h .0)) (all-over (atColumn (λ c. c - off)) (λ k l. l) (h .1))))
+    goIf-fits fs (met (reorder (at1 fs) ls) (wanted o 1) && met (reorderTo F (newOutputOrdering t (at0 fs) (at1 fs) ls 1)) parent)
+    (sideOrder 1 (dropRepeats [] ls) (wanted o))
+    (λ e. two-go fs (sideOrder 1 (dropRepeats [] ls) (wanted o)) n (v 0 (omega arith))
+    (repeats-keys (at1 fs .width) ls (omega (arith, map-length (atColumn (λ c. c - off)) ks, h .0))
+    (all-over (atColumn (λ c. c - off)) (λ k l. l) (h .1))))
 
 -- ---- pushdown_requirement_to_children
 every-le : (off : ℕ) (ks : List Key) → every (λ k. leb off (k .col)) ks ≡ true → All (λ k. off ≤ k .col) ks
 every-le off [] e = all-nil
 every-le off (k ∷ ks) e = all-cons (leb-true off (k .col) (search and-left)) (every-le off ks (search and-right))
 
-hash-goes : (o : Op) (F : Facts) (fs : List Facts) (parent : List Key) → length fs ≡ 2 → KeysFit (F .width) parent → PushedFits fs (handleHashJoin o F fs parent)
+hash-goes : (o : Op) (F : Facts) (fs : List Facts) (parent : List Key) → length fs ≡ 2 → KeysFit (F .width) parent
+    → PushedFits fs (handleHashJoin o F fs parent)
 hash-goes o F fs parent n h =
     let off : ℕ = F .width - at1 fs .width in
     goIf-fits fs (maintains o fs 1 && every (λ k. leb off (k .col)) parent) (onRight (addOffsetToPhysicalSortExprs off parent))
-    (λ e. two-go fs (onRight (addOffsetToPhysicalSortExprs off parent)) n no-keys (back-keys off (F .width) (at1 fs .width) parent (omega arith) (every-le off parent (and-right (maintains o fs 1) (every (λ k. leb off (k .col)) parent) e)) h))
+    (λ e. two-go fs (onRight (addOffsetToPhysicalSortExprs off parent)) n no-keys
+    (back-keys off (F .width) (at1 fs .width) parent (omega arith)
+    (every-le off parent (and-right (maintains o fs 1) (every (λ k. leb off (k .col)) parent) e)) h))
 
 cond-fits : (fs : List Facts) (b : Bool) (u v : Pushed) → PushedFits fs u → PushedFits fs v → PushedFits fs (cond b u v)
 cond-fits fs true u v h k = h
@@ -187,17 +203,21 @@ module _ (fs : List Facts) (parent : List Key) where
       let v : unionOk union (map (λ F. F .width) fs) ≡ true = search (and-left, and-right) in
       subst (λ (x : ℕ). KeysFit x parent) (w ∙ every-width (getD (map (λ F. F .width) fs) 0 0) fs v i l) h
 
-  project-goes : (cols : List ℕ) → Node (projection cols) → KeysFit (length cols) parent → PushedFits fs (goes (λ i. remapRequirementThroughProjection cols parent))
+  project-goes : (cols : List ℕ) → Node (projection cols) → KeysFit (length cols) parent
+      → PushedFits fs (goes (λ i. remapRequirementThroughProjection cols parent))
   project-goes cols e h =
       let n : eqb (length (map (λ F. F .width) fs)) 1 ≡ true = search (and-left, and-right) in
       let b : below (getD (map (λ F. F .width) fs) 0 0) cols ≡ true = search (and-left, and-right) in
-      one-goes fs (λ i. remapRequirementThroughProjection cols parent) (one-child fs n) (remap-keys (at0 fs .width) cols parent (ap (λ (w : ℕ). below w cols) (sym (nth-width fs 0)) ∙ b) h)
+      one-goes fs (λ i. remapRequirementThroughProjection cols parent) (one-child fs n)
+      (remap-keys (at0 fs .width) cols parent (ap (λ (w : ℕ). below w cols) (sym (nth-width fs 0)) ∙ b) h)
 
   one : (o : Op) → arity o ≡ oneKid → Node o → length fs ≡ 1
-  one o a e = subst (λ (x : Arity). FitsA x (length fs)) a (subst (FitsA (arity o)) (map-length (λ F. F .width) fs) (children-fit o (length (map (λ F. F .width) fs)) (search (and-left, and-right))))
+  one o a e = subst (λ (x : Arity). FitsA x (length fs)) a
+      (subst (FitsA (arity o)) (map-length (λ F. F .width) fs) (children-fit o (length (map (λ F. F .width) fs)) (search (and-left, and-right))))
 
   two : (o : Op) → arity o ≡ twoKids → Node o → length fs ≡ 2
-  two o a e = subst (λ (x : Arity). FitsA x (length fs)) a (subst (FitsA (arity o)) (map-length (λ F. F .width) fs) (children-fit o (length (map (λ F. F .width) fs)) (search (and-left, and-right))))
+  two o a e = subst (λ (x : Arity). FitsA x (length fs)) a
+      (subst (FitsA (arity o)) (map-length (λ F. F .width) fs) (children-fit o (length (map (λ F. F .width) fs)) (search (and-left, and-right))))
 
   abbrev Fitting : Op → Pushed → Type 0
   Fitting o u = Node o → KeysFit (factsOp o fs .width) parent → PushedFits fs u
@@ -209,17 +229,21 @@ module _ (fs : List Facts) (parent : List Key) where
   kind-fits union e h = union-goes e h
   kind-fits (repartition p n q ks) e h = tt
   kind-fits (coalesce f) e h = tt
-  kind-fits (sortOp p ks f) e h = goIf-fits fs (compatible (at0 fs) parent ks) (λ i. parent) (λ _. same-columns (one (sortOp p ks f) refl e) (at0 fs) refl h)
+  kind-fits (sortOp p ks f) e h = goIf-fits fs (compatible (at0 fs) parent ks) (λ i. parent)
+      (λ _. same-columns (one (sortOp p ks f) refl e) (at0 fs) refl h)
   kind-fits (mergeOp ks f) e h =
       cond-fits fs (pushdownWouldViolateRequirements (mergeOp ks f) 1 parent) stop (handleMerge (factsOp (mergeOp ks f) fs) parent) tt
-      (goIf-fits fs (not (isNil (factsOp (mergeOp ks f) fs .order)) && met (reorder (factsOp (mergeOp ks f) fs) parent) (factsOp (mergeOp ks f) fs .order)) (λ i. parent) (λ _. same-columns (one (mergeOp ks f) refl e) (at0 fs) refl h))
+      (goIf-fits fs (not (isNil (factsOp (mergeOp ks f) fs .order)) && met (reorder (factsOp (mergeOp ks f) fs) parent) (factsOp (mergeOp ks f) fs .order))
+      (λ i. parent) (λ _. same-columns (one (mergeOp ks f) refl e) (at0 fs) refl h))
   kind-fits (globalLimit s f note) e h = same-columns (one (globalLimit s f note) refl e) (at0 fs) refl h
   kind-fits (localLimit f note) e h = same-columns (one (localLimit f note) refl e) (at0 fs) refl h
   kind-fits (sortMergeJoin t on) e h =
       let o : Op = sortMergeJoin t on in
-      join-goes o t (factsOp o fs) fs parent (two o refl e) (wanted-fits o fs e) (exprSourceSide (factsOp o fs) parent t (at0 fs .width)) (side-fits (factsOp o fs) (at0 fs) (at1 fs) parent h t (join-width t on (at0 fs) (at1 fs)))
+      join-goes o t (factsOp o fs) fs parent (two o refl e) (wanted-fits o fs e) (exprSourceSide (factsOp o fs) parent t (at0 fs .width))
+      (side-fits (factsOp o fs) (at0 fs) (at1 fs) parent h t (join-width t on (at0 fs) (at1 fs)))
   kind-fits (hashJoin t on) e h = hash-goes (hashJoin t on) (factsOp (hashJoin t on) fs) fs parent (two (hashJoin t on) refl e) h
-  kind-fits (outputRequirement ks d f) e h = cond-fits fs (pushdownWouldViolateRequirements (outputRequirement ks d f) 1 parent) stop (handleCustomPushdown parent) tt (same-columns (one (outputRequirement ks d f) refl e) (at0 fs) refl h)
+  kind-fits (outputRequirement ks d f) e h = cond-fits fs (pushdownWouldViolateRequirements (outputRequirement ks d f) 1 parent) stop
+      (handleCustomPushdown parent) tt (same-columns (one (outputRequirement ks d f) refl e) (at0 fs) refl h)
   kind-fits (partialSort p ks n f) e h = tt
 
   -- no fetch goes through a join or a source
@@ -240,14 +264,20 @@ module _ (fs : List Facts) (parent : List Key) where
   fetch-fits union own n e h = through union own n (union-goes e h) (kind-fits union e h)
   fetch-fits (repartition p m q ks) own n e h = through (repartition p m q ks) own n (same-columns (one (repartition p m q ks) refl e) (at0 fs) refl h) tt
   fetch-fits (coalesce f) own n e h = through (coalesce f) own n (same-columns (one (coalesce f) refl e) (at0 fs) refl h) tt
-  fetch-fits (sortOp p ks f) own n e h = through (sortOp p ks f) own n (same-columns (one (sortOp p ks f) refl e) (at0 fs) refl h) (kind-fits (sortOp p ks f) e h)
-  fetch-fits (mergeOp ks f) own n e h = through (mergeOp ks f) own n (same-columns (one (mergeOp ks f) refl e) (at0 fs) refl h) (kind-fits (mergeOp ks f) e h)
-  fetch-fits (globalLimit s f note) own n e h = through (globalLimit s f note) own n (same-columns (one (globalLimit s f note) refl e) (at0 fs) refl h) (kind-fits (globalLimit s f note) e h)
-  fetch-fits (localLimit f note) own n e h = through (localLimit f note) own n (same-columns (one (localLimit f note) refl e) (at0 fs) refl h) (kind-fits (localLimit f note) e h)
+  fetch-fits (sortOp p ks f) own n e h = through (sortOp p ks f) own n (same-columns (one (sortOp p ks f) refl e) (at0 fs) refl h)
+      (kind-fits (sortOp p ks f) e h)
+  fetch-fits (mergeOp ks f) own n e h = through (mergeOp ks f) own n (same-columns (one (mergeOp ks f) refl e) (at0 fs) refl h)
+      (kind-fits (mergeOp ks f) e h)
+  fetch-fits (globalLimit s f note) own n e h = through (globalLimit s f note) own n (same-columns (one (globalLimit s f note) refl e) (at0 fs) refl h)
+      (kind-fits (globalLimit s f note) e h)
+  fetch-fits (localLimit f note) own n e h = through (localLimit f note) own n (same-columns (one (localLimit f note) refl e) (at0 fs) refl h)
+      (kind-fits (localLimit f note) e h)
   fetch-fits (sortMergeJoin t on) own n e h = no-fetch own _ _ _ refl (kind-fits (sortMergeJoin t on) e h)
   fetch-fits (hashJoin t on) own n e h = no-fetch own _ _ _ refl (kind-fits (hashJoin t on) e h)
-  fetch-fits (outputRequirement ks d f) own n e h = through (outputRequirement ks d f) own n (same-columns (one (outputRequirement ks d f) refl e) (at0 fs) refl h) (kind-fits (outputRequirement ks d f) e h)
+  fetch-fits (outputRequirement ks d f) own n e h = through (outputRequirement ks d f) own n
+      (same-columns (one (outputRequirement ks d f) refl e) (at0 fs) refl h) (kind-fits (outputRequirement ks d f) e h)
   fetch-fits (partialSort p ks m f) own n e h = through (partialSort p ks m f) own n (same-columns (one (partialSort p ks m f) refl e) (at0 fs) refl h) tt
 
   pub pushed-fits : (o : Op) (own : Fetch) (n : ℕ) (f : Fetch) → Fitting o (pushdownRequirementToChildren o own n fs parent f)
-  pushed-fits o own n f e h = cond-fits fs (fetchBlocks o f) stop (cond (throughFetch o own n fs) (handleFetch o (factsOp o fs) fs parent) (pushByKind o fs parent)) tt (fetch-fits o own n e h)
+  pushed-fits o own n f e h = cond-fits fs (fetchBlocks o f) stop (cond (throughFetch o own n fs) (handleFetch o (factsOp o fs) fs parent)
+      (pushByKind o fs parent)) tt (fetch-fits o own n e h)

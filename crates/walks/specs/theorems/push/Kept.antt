@@ -51,7 +51,8 @@ covered-fair : {o p : Op} {fs : List Facts} (ts : List Op) (n : ℕ) (g : ℕ �
 covered-fair ts n g h l = record { tops = h; gone = λ e. no-bool e; like = l; still = λ e. no-bool e }
 
 -- The new nodes
-pub newSort-all : {P : Op → Type 0} (p : Bool) (ks : List Key) (f : Fetch) → ((k : Key) (l : List Key) → ks ≡ k ∷ l → P (sortOp p (k ∷ l) f)) → All P (newSort p ks f)
+pub newSort-all : {P : Op → Type 0} (p : Bool) (ks : List Key) (f : Fetch) → ((k : Key) (l : List Key) → ks ≡ k ∷ l → P (sortOp p (k ∷ l) f))
+    → All P (newSort p ks f)
 newSort-all p [] f h = all-nil
 newSort-all p (k ∷ ks) f h = all-cons (h k ks refl) all-nil
 
@@ -59,7 +60,9 @@ pub newMerge-all : {P : Op → Type 0} (ks : List Key) (f : Fetch) → ((k : Key
 newMerge-all [] f h = all-nil
 newMerge-all (k ∷ ks) f h = all-cons (h k ks refl) all-nil
 
-pub above-all : {P : Op → Type 0} (F : Facts) (ks : List Key) (f : Fetch) (d : Distribution) → ((k : Key) (l : List Key) → freshKeys F [] ks ≡ k ∷ l → P (mergeOp (k ∷ l) f) × P (sortOp (ltb 1 (F .streams)) (k ∷ l) f)) → All P (sortAboveWithDistribution F ks f d)
+pub above-all : {P : Op → Type 0} (F : Facts) (ks : List Key) (f : Fetch) (d : Distribution)
+    → ((k : Key) (l : List Key) → freshKeys F [] ks ≡ k ∷ l → P (mergeOp (k ∷ l) f) × P (sortOp (ltb 1 (F .streams)) (k ∷ l) f))
+    → All P (sortAboveWithDistribution F ks f d)
 above-all {P} F ks f d h = go (needsMerge F d)
   where
     sorts : All P (sortAbove F ks f)
@@ -70,8 +73,10 @@ above-all {P} F ks f d h = go (needsMerge F d)
     go false = sorts
 
 -- Over a node with facts F, which has the constants and classes of G
-above-top : (F G : Facts) → WholeClasses F → blank F ≡ blank G → (ks : List Key) (f : Fetch) (d : Distribution) → All (Top G) (sortAboveWithDistribution F ks f d)
-above-top F G h q ks f d = above-all F ks f d (λ k l e. ((refl, refl), (refl, alive-blank F G (sortOp (ltb 1 (F .streams)) (k ∷ l) f) q (fresh-alive F h (ltb 1 (F .streams)) f ks k l e))))
+above-top : (F G : Facts) → WholeClasses F → blank F ≡ blank G → (ks : List Key) (f : Fetch) (d : Distribution)
+    → All (Top G) (sortAboveWithDistribution F ks f d)
+above-top F G h q ks f d = above-all F ks f d
+    (λ k l e. ((refl, refl), (refl, alive-blank F G (sortOp (ltb 1 (F .streams)) (k ∷ l) f) q (fresh-alive F h (ltb 1 (F .streams)) f ks k l e))))
 
 merge-top : (G : Facts) (ks : List Key) (f : Fetch) → All (Top G) (newMerge ks f)
 merge-top G ks f = newMerge-all ks f (λ k l e. (refl, refl))
@@ -84,19 +89,25 @@ after-fair {o} {p} stop q c l =
     let F : Facts = factsOp p (facts c) in
     let G : Facts = factsOp o (facts c) in
     let new : List Key = freshKeys F [] (q .req .order) in
-    covered-fair (newMerge new (q .req .fetch) ++ sortAboveWithDistribution F (nf F [] new) (q .req .fetch) Unspecified) 0 (withOwnDistribution p) (all-append (merge-top G new (q .req .fetch)) (above-top F G (whole p c) (l .base (facts c)) (nf F [] new) (q .req .fetch) Unspecified)) l
+    covered-fair (newMerge new (q .req .fetch) ++ sortAboveWithDistribution F (nf F [] new) (q .req .fetch) Unspecified) 0 (withOwnDistribution p)
+    (all-append (merge-top G new (q .req .fetch)) (above-top F G (whole p c) (l .base (facts c)) (nf F [] new) (q .req .fetch) Unspecified)) l
 after-fair {o} {p} (goes ks) q c l =
-    covered-fair (newMerge (freshKeys (factsOp p (facts c)) [] (q .req .order)) (q .req .fetch)) _ _ (merge-top (factsOp o (facts c)) (freshKeys (factsOp p (facts c)) [] (q .req .order)) (q .req .fetch)) l
+    covered-fair (newMerge (freshKeys (factsOp p (facts c)) [] (q .req .order)) (q .req .fetch)) _ _
+    (merge-top (factsOp o (facts c)) (freshKeys (factsOp p (facts c)) [] (q .req .order)) (q .req .fetch)) l
 
 try-fair : {o : Op} (u : Pushed) (q : Visit) (p : Op) (c : Plan) → Like o p → Fair o (facts c) (afterTry u q p c)
 try-fair (goes ks) q p c l = stays-fair _ l
 try-fair {o} stop q p c l =
-    fair-cond (needsMerge (factsOp p (facts c)) (q .req .dist)) (mergeAdded q p c) (sortAdded q p c) (after-fair (triedAgain q p c) q c (like-trans l (remark-like _ p)))
-    (covered-fair (sortAboveWithDistribution (factsOp p (facts c)) (q .req .order) (q .req .fetch) (q .req .dist)) 0 (withOwnDistribution p) (above-top (factsOp p (facts c)) (factsOp o (facts c)) (whole p c) (l .base (facts c)) (q .req .order) (q .req .fetch) (q .req .dist)) l)
+    fair-cond (needsMerge (factsOp p (facts c)) (q .req .dist)) (mergeAdded q p c) (sortAdded q p c)
+    (after-fair (triedAgain q p c) q c (like-trans l (remark-like _ p)))
+    (covered-fair (sortAboveWithDistribution (factsOp p (facts c)) (q .req .order) (q .req .fetch) (q .req .dist)) 0 (withOwnDistribution p)
+    (above-top (factsOp p (facts c)) (factsOp o (facts c)) (whole p c) (l .base (facts c)) (q .req .order) (q .req .fetch) (q .req .dist)) l)
 
 node-fair : {o : Op} (q : Visit) (p : Op) (c : Plan) → Like o p → Fair o (facts c) (decideNode q p c)
 node-fair q p c l =
-    fair-cond (isNil (q .req .order)) (unasked q p c) (nodeAsked q p c) (stays-fair _ l) (fair-cond (met (factsOp p (facts c)) (q .req .order)) (satisfied q p c) (unsatisfied q p c) (stays-fair _ l) (try-fair (pushDown (q .req .order) q p c) q p c l))
+    fair-cond (isNil (q .req .order)) (unasked q p c) (nodeAsked q p c) (stays-fair _ l)
+    (fair-cond (met (factsOp p (facts c)) (q .req .order)) (satisfied q p c) (unsatisfied q p c) (stays-fair _ l)
+    (try-fair (pushDown (q .req .order) q p c) q p c l))
 
 removed-fair : {fs : List Facts} (o : Op) (q : Visit) → passing o ≡ true → Fair o fs (removed o q)
 removed-fair o q e = record { tops = all-nil; gone = λ _. e; like = like-refl o; still = λ _. refl }
@@ -110,10 +121,13 @@ sort-fair p ks f q c =
     let C : Facts = at0 (facts c) in
     let new : List Key = freshKeys C [] (q .req .order) in
     fair-cond (isNil (q .req .order)) (sortUnasked p ks f q c) (sortAsked p ks f q c) (removed-fair (sortOp p ks f) _ refl)
-    (fair-cond (met F (q .req .order) || compatible F (q .req .order) (F .order)) (sortUnnecessary p ks f q c) (sortDiffers p ks f q c) (removed-fair (sortOp p ks f) _ refl)
+    (fair-cond (met F (q .req .order) || compatible F (q .req .order) (F .order)) (sortUnnecessary p ks f q c) (sortDiffers p ks f q c)
+    (removed-fair (sortOp p ks f) _ refl)
     (fair-cond (needsMerge C (q .req .dist)) (sortReplacedTwice p ks f q c) (sortReplaced p ks f q c)
-    (replaced-fair (newMerge new (q .req .fetch) ++ sortAboveWithDistribution C (sortOrdering p ks f c) f Unspecified) (sortOp p ks f) _ refl (all-append (merge-top F new (q .req .fetch)) (above-top C F (whole (sortOp p ks f) c) refl (sortOrdering p ks f c) f Unspecified)))
-    (replaced-fair (sortAboveWithDistribution C (q .req .order) (q .req .fetch) (q .req .dist)) (sortOp p ks f) _ refl (above-top C F (whole (sortOp p ks f) c) refl (q .req .order) (q .req .fetch) (q .req .dist)))))
+    (replaced-fair (newMerge new (q .req .fetch) ++ sortAboveWithDistribution C (sortOrdering p ks f c) f Unspecified) (sortOp p ks f) _ refl
+    (all-append (merge-top F new (q .req .fetch)) (above-top C F (whole (sortOp p ks f) c) refl (sortOrdering p ks f c) f Unspecified)))
+    (replaced-fair (sortAboveWithDistribution C (q .req .order) (q .req .fetch) (q .req .dist)) (sortOp p ks f) _ refl
+    (above-top C F (whole (sortOp p ks f) c) refl (q .req .order) (q .req .fetch) (q .req .dist)))))
 
 touch-like : (x : Bool) (o : Op) (fs : List Facts) → Like o (cond x (rebuilt o fs) o)
 touch-like true o fs = remark-like _ o
@@ -126,7 +140,8 @@ helper-fair q c =
     (λ ks f. node-fair q _ c (touch-like (q .touch) (mergeOp ks f) (facts c)))
     (λ p n h ks. node-fair q _ c (touch-like (q .touch) (repartition p n h ks) (facts c)))
     (λ f. node-fair q _ c (touch-like (q .touch) (coalesce f) (facts c)))
-    (λ o e. subst (λ (s : Shape). Fair o (facts c) (decideBy s q (cond (q .touch) (rebuilt o (facts c)) o) c)) (sym e) (node-fair q _ c (touch-like (q .touch) o (facts c))))
+    (λ o e. subst (λ (s : Shape). Fair o (facts c) (decideBy s q (cond (q .touch) (rebuilt o (facts c)) o) c)) (sym e)
+    (node-fair q _ c (touch-like (q .touch) o (facts c))))
 
 cover-kept : (ts : List Op) (t u : Tree) → All (Top (fact t)) ts → Keeps false false false t u → Keeps false false false t (cover ts u)
 cover-kept [] t u hs k = k
@@ -135,7 +150,8 @@ cover-kept (o ∷ os) t u (all-cons h hs) k =
     kept-over o false (h .0) (λ e p. no-bool e) (λ e p v. no-bool e) (alive-blank (fact t) (fact (cover os u)) o (sym (i .base)) (h .1)) i
 
 -- Below the new nodes
-pub below-kept : (o : Op) (D : Decision) (c d : Forest Marked) → Fair o (known c) D → FitsA (arity o) (count (strip c)) → KeepsAll false false false c d → Keeps false false false (node o false c) (belowTops D d)
+pub below-kept : (o : Op) (D : Decision) (c d : Forest Marked) → Fair o (known c) D → FitsA (arity o) (count (strip c)) → KeepsAll false false false c d
+    → Keeps false false false (node o false c) (belowTops D d)
 below-kept o D c d h f k = go (D .gone) refl
   where
     i : Keeps false false false (node o false c) (node (D .op) false d)
@@ -145,7 +161,8 @@ below-kept o D c d h f k = go (D .gone) refl
     go true e = kept-trans i (kept-first (node (D .op) false d) (h .gone e) (i .fit))
     go false e = kept-node o _ false false c d (like-trans (h .like) (remark-like _ (D .op))) f k
 
-carryOut-kept : (o : Op) (D : Decision) (c d : Forest Marked) → Fair o (known c) D → FitsA (arity o) (count (strip c)) → KeepsAll false false false c d → Keeps false false false (node o false c) (carryOut D d)
+carryOut-kept : (o : Op) (D : Decision) (c d : Forest Marked) → Fair o (known c) D → FitsA (arity o) (count (strip c)) → KeepsAll false false false c d
+    → Keeps false false false (node o false c) (carryOut D d)
 carryOut-kept o D c d h f k = cover-kept (D .tops) (node o false c) (belowTops D d) (h .tops) (below-kept o D c d h f k)
 
 -- Over children without marks
@@ -156,7 +173,8 @@ pub push-kept : (q : ℕ → Visit) (f : Plan) → Fit f → KeepsAll false fals
 push-kept q none h = all-kept-none
 push-kept q (tree o c r) h =
     let D : Decision = pushdownSortsHelper (q 0) o c in
-    kept-plant (carryOut-kept o D (bare c) (pushdownSorts (D .reqs) c) (bare-fair (q 0) c o) (subst (λ (g : Plan). FitsA (arity o) (count g)) (sym (strip-bare c)) (h .0)) (push-kept (D .reqs) c (h .1)))
+    kept-plant (carryOut-kept o D (bare c) (pushdownSorts (D .reqs) c) (bare-fair (q 0) c o)
+    (subst (λ (g : Plan). FitsA (arity o) (count g)) (sym (strip-bare c)) (h .0)) (push-kept (D .reqs) c (h .1)))
     (push-kept (λ i. q (suc i)) r (h .2))
 
 -- ---- nothing is cut off: by the new nodes, by the node, and by the fetches required of the children
@@ -188,13 +206,22 @@ module _ (q : Visit) (c : Plan) (hq : isAll (q .req .fetch) ≡ true) (hc : Pure
   after-calm stop o e =
       let F : Facts = factsOp o (facts c) in
       let new : List Key = freshKeys F [] (q .req .order) in
-      record { tops = all-append (merge-clear new (q .req .fetch) hq) (above-clear F (nf F [] new) (q .req .fetch) Unspecified hq); op = e; fetch = λ i. refl }
-  after-calm (goes ks) o e = record { tops = merge-clear (freshKeys (factsOp o (facts c)) [] (q .req .order)) (q .req .fetch) hq; op = e; fetch = λ i. min-all (fetchOp o (fetches c)) (q .req .fetch) (own-all o e) hq }
+      record {
+        tops = all-append (merge-clear new (q .req .fetch) hq) (above-clear F (nf F [] new) (q .req .fetch) Unspecified hq);
+        op = e;
+        fetch = λ i. refl;
+      }
+  after-calm (goes ks) o e = record {
+    tops = merge-clear (freshKeys (factsOp o (facts c)) [] (q .req .order)) (q .req .fetch) hq;
+    op = e;
+    fetch = λ i. min-all (fetchOp o (fetches c)) (q .req .fetch) (own-all o e) hq;
+  }
 
   try-calm : (u : Pushed) (o : Op) → clearOp o ≡ true → Calm (afterTry u q o c)
   try-calm (goes ks) o e = record { tops = all-nil; op = e; fetch = λ i. min-all (fetchOp o (fetches c)) (q .req .fetch) (own-all o e) hq }
   try-calm stop o e =
-      calm-cond (needsMerge (factsOp o (facts c)) (q .req .dist)) (mergeAdded q o c) (sortAdded q o c) (after-calm (triedAgain q o c) (rebuilt o (facts c)) (remark-like _ o .uncut e))
+      calm-cond (needsMerge (factsOp o (facts c)) (q .req .dist)) (mergeAdded q o c) (sortAdded q o c)
+      (after-calm (triedAgain q o c) (rebuilt o (facts c)) (remark-like _ o .uncut e))
       (record { tops = above-clear (factsOp o (facts c)) (q .req .order) (q .req .fetch) (q .req .dist) hq; op = e; fetch = λ i. refl })
 
   first-calm : (x : Bool) (o : Op) → clearOp o ≡ true → Calm (stays o (cond x (assignInitialRequirements o c) (withOwnDistribution o)))
@@ -204,7 +231,8 @@ module _ (q : Visit) (c : Plan) (hq : isAll (q .req .fetch) ≡ true) (hc : Pure
   node-calm : (o : Op) → clearOp o ≡ true → Calm (decideNode q o c)
   node-calm o e =
       calm-cond (isNil (q .req .order)) (unasked q o c) (nodeAsked q o c) (first-calm (q .root) o e)
-      (calm-cond (met (factsOp o (facts c)) (q .req .order)) (satisfied q o c) (unsatisfied q o c) (record { tops = all-nil; op = e; fetch = λ i. hq }) (try-calm (pushDown (q .req .order) q o c) o e))
+      (calm-cond (met (factsOp o (facts c)) (q .req .order)) (satisfied q o c) (unsatisfied q o c) (record { tops = all-nil; op = e; fetch = λ i. hq })
+      (try-calm (pushDown (q .req .order) q o c) o e))
 
   sort-calm : (p : Bool) (ks : List Key) (f : Fetch) → clearOp (sortOp p ks f) ≡ true → Calm (decideSort p ks f q c)
   sort-calm p ks f e =
@@ -212,8 +240,10 @@ module _ (q : Visit) (c : Plan) (hq : isAll (q .req .fetch) ≡ true) (hc : Pure
       let F : Facts = factsOp (sortOp p ks f) (facts c) in
       let C : Facts = at0 (facts c) in
       let new : List Key = freshKeys C [] (q .req .order) in
-      calm-cond (isNil (q .req .order)) (sortUnasked p ks f q c) (sortAsked p ks f q c) (record { tops = all-nil; op = e; fetch = λ i. min-all f (q .req .fetch) hf hq })
-      (calm-cond (met F (q .req .order) || compatible F (q .req .order) (F .order)) (sortUnnecessary p ks f q c) (sortDiffers p ks f q c) (record { tops = all-nil; op = e; fetch = λ i. min-all f (q .req .fetch) hf hq })
+      calm-cond (isNil (q .req .order)) (sortUnasked p ks f q c) (sortAsked p ks f q c)
+      (record { tops = all-nil; op = e; fetch = λ i. min-all f (q .req .fetch) hf hq })
+      (calm-cond (met F (q .req .order) || compatible F (q .req .order) (F .order)) (sortUnnecessary p ks f q c) (sortDiffers p ks f q c)
+      (record { tops = all-nil; op = e; fetch = λ i. min-all f (q .req .fetch) hf hq })
       (calm-cond (needsMerge C (q .req .dist)) (sortReplacedTwice p ks f q c) (sortReplaced p ks f q c)
       (record { tops = all-append (merge-clear new (q .req .fetch) hq) (above-clear C (sortOrdering p ks f c) f Unspecified hf); op = e; fetch = λ i. hq })
       (record { tops = above-clear C (q .req .order) (q .req .fetch) (q .req .dist) hq; op = e; fetch = λ i. hf })))

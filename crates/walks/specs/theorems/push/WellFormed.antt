@@ -64,7 +64,8 @@ min-ok (AtMost m) (AtMost n) p q = lt-ltb (min m n) 4294967295 (omega (arith, lt
 
 -- ---- new nodes over a node of facts F
 module _ (F : Facts) (n : leb (F .width) 32 ≡ true) where
-  above-accepted : (ks : List Key) (f : Fetch) (d : Distribution) → KeysFit (F .width) ks → fetchOk f ≡ true → All (λ p. nodeOk p (F .width ∷ []) ≡ true) (sortAboveWithDistribution F ks f d)
+  above-accepted : (ks : List Key) (f : Fetch) (d : Distribution) → KeysFit (F .width) ks → fetchOk f ≡ true → All (λ p. nodeOk p (F .width ∷ []) ≡ true)
+      (sortAboveWithDistribution F ks f d)
   above-accepted ks f d h e =
       above-all F ks f d
       (λ k l q.
@@ -76,13 +77,17 @@ module _ (F : Facts) (n : leb (F .width) 32 ≡ true) where
 
 -- ---- a node o over c that is no sort
 fitted-like : {o p : Op} (c : Plan) (D : Decision) → Like o p → Fitted p c D → Fitted o c D
-fitted-like {o} {p} c D l h = record { tops = subst (λ (F : Facts). All (λ x. nodeOk x (F .width ∷ []) ≡ true) (D .tops)) (l .base (facts c)) (h .tops); reqs = h .reqs }
+fitted-like {o} {p} c D l h = record {
+  tops = subst (λ (F : Facts). All (λ x. nodeOk x (F .width ∷ []) ≡ true) (D .tops)) (l .base (facts c)) (h .tops);
+  reqs = h .reqs;
+}
 
 module _ (q : Visit) (c : Plan) (hc : Ok c) where
   own-distributions : (o : Op) → EachFits (withOwnDistribution o) (facts c)
   own-distributions o i l = record { keys = no-keys; fetch = refl }
 
-  handed : (o : Op) (ks : ℕ → List Key) (f : Fetch) (d : Distribution) → fetchOk f ≡ true → PushedFits (facts c) (goes ks) → EachFits (handDown ks f d o) (facts c)
+  handed : (o : Op) (ks : ℕ → List Key) (f : Fetch) (d : Distribution) → fetchOk f ≡ true → PushedFits (facts c) (goes ks) → EachFits (handDown ks f d o)
+      (facts c)
   handed o ks f d e h i l = record { keys = h i l; fetch = e }
 
   initial : (o : Op) → nodeOk o (map (λ F. F .width) (facts c)) ≡ true → EachFits (assignInitialRequirements o c) (facts c)
@@ -114,20 +119,36 @@ module _ (q : Visit) (c : Plan) (hc : Ok c) where
     after-fitted : (u : Pushed) → PushedFits (facts c) u → Fitted o c (afterMerge u q o c)
     after-fitted stop h =
         record {
-          tops = all-append (merge-accepted (factsOp o (facts c)) n (freshKeys (factsOp o (facts c)) [] (q .req .order)) (q .req .fetch) new (hq .fetch)) (above-accepted (factsOp o (facts c)) n (nf (factsOp o (facts c)) [] (freshKeys (factsOp o (facts c)) [] (q .req .order))) (q .req .fetch) Unspecified again (hq .fetch));
+          tops = all-append (merge-accepted (factsOp o (facts c)) n (freshKeys (factsOp o (facts c)) [] (q .req .order)) (q .req .fetch) new (hq .fetch))
+              (above-accepted (factsOp o (facts c)) n (nf (factsOp o (facts c)) [] (freshKeys (factsOp o (facts c)) [] (q .req .order)))
+              (q .req .fetch) Unspecified again (hq .fetch));
           reqs = own-distributions o;
         }
     after-fitted (goes ks) h =
-        record { tops = merge-accepted (factsOp o (facts c)) n (freshKeys (factsOp o (facts c)) [] (q .req .order)) (q .req .fetch) new (hq .fetch); reqs = handed o ks (minFetch (fetchOp o (fetches c)) (q .req .fetch)) Unspecified both-fetches h }
+        record {
+          tops = merge-accepted (factsOp o (facts c)) n (freshKeys (factsOp o (facts c)) [] (q .req .order)) (q .req .fetch) new (hq .fetch);
+          reqs = handed o ks (minFetch (fetchOp o (fetches c)) (q .req .fetch)) Unspecified both-fetches h;
+        }
 
     sort-added : Fitted o c (sortAdded q o c)
-    sort-added = record { tops = above-accepted (factsOp o (facts c)) n (q .req .order) (q .req .fetch) (q .req .dist) (hq .keys) (hq .fetch); reqs = own-distributions o }
+    sort-added = record {
+      tops = above-accepted (factsOp o (facts c)) n (q .req .order) (q .req .fetch) (q .req .dist) (hq .keys) (hq .fetch);
+      reqs = own-distributions o;
+    }
 
     went : (ks : ℕ → List Key) → PushedFits (facts c) (goes ks) → Fitted o c (afterTry (goes ks) q o c)
-    went ks h = record { tops = all-nil; reqs = handed o ks (minFetch (fetchOp o (fetches c)) (q .req .fetch)) (effectiveDist (factsOp o (facts c)) (q .req .dist)) both-fetches h }
+    went ks h = record {
+      tops = all-nil;
+      reqs = handed o ks (minFetch (fetchOp o (fetches c)) (q .req .fetch))
+          (effectiveDist (factsOp o (facts c)) (q .req .dist)) both-fetches h;
+    }
 
     contented : Fitted o c (satisfied q o c)
-    contented = record { tops = all-nil; reqs = handed o (wanted o) (q .req .fetch) (effectiveDist (factsOp o (facts c)) (q .req .dist)) (hq .fetch) (wants-at (wanted o) (facts c) (wanted-fits o (facts c) e)) }
+    contented = record {
+      tops = all-nil;
+      reqs = handed o (wanted o) (q .req .fetch) (effectiveDist (factsOp o (facts c)) (q .req .dist)) (hq .fetch)
+          (wants-at (wanted o) (facts c) (wanted-fits o (facts c) e));
+    }
 
     push-fits : (ks : List Key) → KeysFit (factsOp o (facts c) .width) ks → PushedFits (facts c) (pushDown ks q o c)
     push-fits ks h = pushed-fits (facts c) ks o (fetchOp o (fetches c)) (childCount c) (q .req .fetch) e h
@@ -141,26 +162,47 @@ module _ (q : Visit) (c : Plan) (hc : Ok c) where
       let same : factsOp p (facts c) .width ≡ factsOp o (facts c) .width = ap (λ (F : Facts). F .width) (l .base (facts c)) in
       let hp : VisitFits (factsOp p (facts c) .width) q = subst (λ (w : ℕ). VisitFits w q) (sym same) hq in
       fitted-like c (mergeAdded q o c) l
-      (after-fitted p ep hp (triedAgain q o c) (push-fits p ep hp (nf (factsOp o (facts c)) [] (freshKeys (factsOp o (facts c)) [] (q .req .order))) (subst (λ (w : ℕ). KeysFit w (nf (factsOp o (facts c)) [] (freshKeys (factsOp o (facts c)) [] (q .req .order)))) (sym same) (again o e hq))))
+      (after-fitted p ep hp (triedAgain q o c) (push-fits p ep hp (nf (factsOp o (facts c)) [] (freshKeys (factsOp o (facts c)) [] (q .req .order)))
+      (subst (λ (w : ℕ). KeysFit w (nf (factsOp o (facts c)) [] (freshKeys (factsOp o (facts c)) [] (q .req .order)))) (sym same) (again o e hq))))
 
   node-fitted : (o : Op) → nodeOk o (map (λ F. F .width) (facts c)) ≡ true → VisitFits (factsOp o (facts c) .width) q → Fitted o c (decideNode q o c)
   node-fitted o e hq =
       fitted-cond o c (isNil (q .req .order)) (unasked q o c) (nodeAsked q o c) (first-fitted o e hq (q .root))
-      (fitted-cond o c (met (factsOp o (facts c)) (q .req .order)) (satisfied q o c) (unsatisfied q o c) (contented o e hq) (tried (pushDown (q .req .order) q o c) (push-fits o e hq (q .req .order) (hq .keys))))
+      (fitted-cond o c (met (factsOp o (facts c)) (q .req .order)) (satisfied q o c) (unsatisfied q o c) (contented o e hq)
+      (tried (pushDown (q .req .order) q o c) (push-fits o e hq (q .req .order) (hq .keys))))
     where
       tried : (u : Pushed) → PushedFits (facts c) u → Fitted o c (afterTry u q o c)
       tried (goes ks) h = went o e hq ks h
-      tried stop h = fitted-cond o c (needsMerge (factsOp o (facts c)) (q .req .dist)) (mergeAdded q o c) (sortAdded q o c) (merge-added o e hq) (sort-added o e hq)
+      tried stop h = fitted-cond o c (needsMerge (factsOp o (facts c)) (q .req .dist)) (mergeAdded q o c) (sortAdded q o c) (merge-added o e hq)
+          (sort-added o e hq)
 
   -- ---- a sort: its one child has its columns
-  sort-fitted : (p : Bool) (ks : List Key) (f : Fetch) → nodeOk (sortOp p ks f) (map (λ F. F .width) (facts c)) ≡ true → VisitFits (at0 (facts c) .width) q → Fitted (sortOp p ks f) c (decideSort p ks f q c)
+  sort-fitted : (p : Bool) (ks : List Key) (f : Fetch) → nodeOk (sortOp p ks f) (map (λ F. F .width) (facts c)) ≡ true → VisitFits (at0 (facts c) .width) q
+      → Fitted (sortOp p ks f) c (decideSort p ks f q c)
   sort-fitted p ks f e hq =
-      fitted-cond o c (isNil (q .req .order)) (sortUnasked p ks f q c) (sortAsked p ks f q c) (record { tops = all-nil; reqs = below (minFetch f (q .req .fetch)) (cond (q .root) (sortDist p) Unspecified) own (min-ok f (q .req .fetch) hf (hq .fetch)) own-fits })
+      fitted-cond o c (isNil (q .req .order)) (sortUnasked p ks f q c) (sortAsked p ks f q c)
+      (record {
+        tops = all-nil;
+        reqs = below (minFetch f (q .req .fetch)) (cond (q .root) (sortDist p) Unspecified) own
+            (min-ok f (q .req .fetch) hf (hq .fetch)) own-fits;
+      })
       (fitted-cond o c (met G (q .req .order) || compatible G (q .req .order) (G .order)) (sortUnnecessary p ks f q c) (sortDiffers p ks f q c)
-      (record { tops = all-nil; reqs = below (minFetch f (q .req .fetch)) Unspecified (cond (compatible C own (q .req .order)) own (q .req .order)) (min-ok f (q .req .fetch) hf (hq .fetch)) (stricter (compatible C own (q .req .order))) })
+      (record {
+        tops = all-nil;
+        reqs = below (minFetch f (q .req .fetch)) Unspecified (cond (compatible C own (q .req .order)) own (q .req .order))
+            (min-ok f (q .req .fetch) hf (hq .fetch)) (stricter (compatible C own (q .req .order)));
+      })
       (fitted-cond o c (needsMerge C (q .req .dist)) (sortReplacedTwice p ks f q c) (sortReplaced p ks f q c)
-      (record { tops = all-append (merge-accepted C n (freshKeys C [] (q .req .order)) (q .req .fetch) fresh (hq .fetch)) (above-accepted C n own f Unspecified own-fits hf); reqs = below (q .req .fetch) Unspecified (nf C [] (freshKeys C [] (q .req .order))) (hq .fetch) (nf-keys C (nth-canon (facts c) (canon c) 0 .classes) (C .width) (freshKeys C [] (q .req .order)) fresh) })
-      (record { tops = above-accepted C n (q .req .order) (q .req .fetch) (q .req .dist) (hq .keys) (hq .fetch); reqs = below f Unspecified own hf own-fits })))
+      (record {
+        tops = all-append (merge-accepted C n (freshKeys C [] (q .req .order)) (q .req .fetch) fresh (hq .fetch))
+            (above-accepted C n own f Unspecified own-fits hf);
+        reqs = below (q .req .fetch) Unspecified (nf C [] (freshKeys C [] (q .req .order)))
+            (hq .fetch) (nf-keys C (nth-canon (facts c) (canon c) 0 .classes) (C .width) (freshKeys C [] (q .req .order)) fresh);
+      })
+      (record {
+        tops = above-accepted C n (q .req .order) (q .req .fetch) (q .req .dist) (hq .keys) (hq .fetch);
+        reqs = below f Unspecified own hf own-fits;
+      })))
     where
       o : Op
       o = sortOp p ks f
@@ -193,11 +235,13 @@ module _ (q : Visit) (c : Plan) (hc : Ok c) where
       stricter true = own-fits
       stricter false = hq .keys
 
-      below : (g : Fetch) (d : Distribution) (l : List Key) → fetchOk g ≡ true → KeysFit (at0 (facts c) .width) l → EachFits (λ i. belowSort (record { order = l; fetch = g; dist = d })) (facts c)
+      below : (g : Fetch) (d : Distribution) (l : List Key) → fetchOk g ≡ true → KeysFit (at0 (facts c) .width) l
+          → EachFits (λ i. belowSort (record { order = l; fetch = g; dist = d })) (facts c)
       below g d l x h zero j = record { keys = h; fetch = x }
       below g d l x h (suc i) j = absurd (omega (arith, one))
 
-  pub helper-fitted : (o : Op) → nodeOk o (map (λ F. F .width) (facts c)) ≡ true → VisitFits (factsOp o (facts c) .width) q → Fitted o c (pushdownSortsHelper q o c)
+  pub helper-fitted : (o : Op) → nodeOk o (map (λ F. F .width) (facts c)) ≡ true → VisitFits (factsOp o (facts c) .width) q
+      → Fitted o c (pushdownSortsHelper q o c)
   helper-fitted =
       shape-ind (λ o. nodeOk o (map (λ F. F .width) (facts c)) ≡ true → VisitFits (factsOp o (facts c) .width) q → Fitted o c (pushdownSortsHelper q o c))
       (λ p ks f e hq. sort-fitted p ks f e hq)
@@ -206,19 +250,25 @@ module _ (q : Visit) (c : Plan) (hc : Ok c) where
       (λ f e hq. touched (q .touch) (coalesce f) e hq)
       (λ o s e hq. subst (λ (z : Shape). Fitted o c (decideBy z q (cond (q .touch) (rebuilt o (facts c)) o) c)) (sym s) (touched (q .touch) o e hq))
     where
-      touched : (x : Bool) (o : Op) → nodeOk o (map (λ F. F .width) (facts c)) ≡ true → VisitFits (factsOp o (facts c) .width) q → Fitted o c (decideNode q (cond x (rebuilt o (facts c)) o) c)
+      touched : (x : Bool) (o : Op) → nodeOk o (map (λ F. F .width) (facts c)) ≡ true → VisitFits (factsOp o (facts c) .width) q
+          → Fitted o c (decideNode q (cond x (rebuilt o (facts c)) o) c)
       touched true o e hq =
           let l : Like o (rebuilt o (facts c)) = remark-like _ o in
-          fitted-like c (decideNode q (rebuilt o (facts c)) c) l (node-fitted (rebuilt o (facts c)) (l .ok (map (λ F. F .width) (facts c)) e) (subst (λ (F : Facts). VisitFits (F .width) q) (sym (l .base (facts c))) hq))
+          fitted-like c (decideNode q (rebuilt o (facts c)) c) l (node-fitted (rebuilt o (facts c)) (l .ok (map (λ F. F .width) (facts c)) e)
+          (subst (λ (F : Facts). VisitFits (F .width) q) (sym (l .base (facts c))) hq))
       touched false o e hq = node-fitted o e hq
 
 -- ---- a decision carried out
-cover-ok : (w : ℕ) (ts : List Op) (t : Tree) → fact t .width ≡ w → All (λ p. passing p ≡ true) ts → All (λ p. nodeOk p (w ∷ []) ≡ true) ts → OkT t → OkT (cover ts t) × (fact (cover ts t) .width ≡ w)
+cover-ok : (w : ℕ) (ts : List Op) (t : Tree) → fact t .width ≡ w → All (λ p. passing p ≡ true) ts → All (λ p. nodeOk p (w ∷ []) ≡ true) ts → OkT t
+    → OkT (cover ts t) × (fact (cover ts t) .width ≡ w)
 cover-ok w [] t e hs ks v = (v, e)
 cover-ok w (o ∷ os) t e (all-cons h hs) (all-cons k ks) v =
     let r = cover-ok w os t e hs ks v in
-    let u : Tree = cover os t in
-    ((subst (λ (x : ℕ). nodeOk o (x ∷ []) ≡ true) (sym (r .1)) k, (r .0 .0, r .0 .1, tt)), ap (λ (F : Facts). F .width) (ease-blank o (fact u ∷ []) (pass-ease o h)) ∙ r .1)
+    let u : Tree = cover os t in (
+      (subst (λ (x : ℕ). nodeOk o (x ∷ []) ≡ true) (sym (r .1)) k, (r .0 .0, r .0 .1, tt)),
+      ap (λ (F : Facts). F .width)
+          (ease-blank o (fact u ∷ []) (pass-ease o h)) ∙ r .1,
+    )
 
 kid-ok : (t : Tree) (d : Forest Marked) → OkT t → Ok (strip d) → OkT (kid0 t d)
 kid-ok t none h k = h
@@ -236,12 +286,16 @@ push-ok q (tree o c r) g h =
     let fo : FitsA (arity o) (count (strip (bare c))) = subst (λ (x : Plan). FitsA (arity o) (count x)) (sym (strip-bare c)) (ok-fit (tree o c r) h .0) in
     let below : Keeps false false false (node o false (bare c)) (belowTops D d) = below-kept o D (bare c) d (bare-fair (q 0) c o) fo k in
     let ih : Ok (strip d) = push-ok (D .reqs) c (F .reqs) (h .1) in
-    let ws : map (λ G. G .width) (known d) ≡ map (λ G. G .width) (facts c) = blank-widths (known d) (facts c) (k .bases ∙ ap (λ (x : Plan). map blank (facts x)) (strip-bare c)) in
-    let w : fact (belowTops D d) .width ≡ factsOp o (facts c) .width = ap (λ (G : Facts). G .width) (below .base) ∙ ap (λ (x : Plan). factsOp o (facts x) .width) (strip-bare c) in
-    let v = cover-ok (factsOp o (facts c) .width) (D .tops) (belowTops D d) w (all-map (λ p h. h .0) (fair .tops)) (F .tops) (go (D .gone) (D .op) d ih (subst (λ (l : List ℕ). nodeOk (D .op) l ≡ true) (sym ws) (fair .like .ok (map (λ G. G .width) (facts c)) (h .0)))) in
+    let ws : map (λ G. G .width) (known d) ≡ map (λ G. G .width) (facts c) =
+    blank-widths (known d) (facts c) (k .bases ∙ ap (λ (x : Plan). map blank (facts x)) (strip-bare c)) in
+    let w : fact (belowTops D d) .width ≡ factsOp o (facts c) .width = ap (λ (G : Facts). G .width) (below .base)
+    ∙ ap (λ (x : Plan). factsOp o (facts x) .width) (strip-bare c) in
+    let v = cover-ok (factsOp o (facts c) .width) (D .tops) (belowTops D d) w (all-map (λ p h. h .0) (fair .tops)) (F .tops)
+    (go (D .gone) (D .op) d ih (subst (λ (l : List ℕ). nodeOk (D .op) l ≡ true) (sym ws) (fair .like .ok (map (λ G. G .width) (facts c)) (h .0)))) in
     (v .0 .0, v .0 .1, push-ok (λ i. q (suc i)) r (λ i l. g (suc i) (omega arith)) (h .2))
   where
-    go : (x : Bool) (p : Op) (d : Forest Marked) → Ok (strip d) → nodeOk p (map (λ G. G .width) (known d)) ≡ true → OkT (cond x (kid0 (node p false d) d) (rebuild p false d))
+    go : (x : Bool) (p : Op) (d : Forest Marked) → Ok (strip d) → nodeOk p (map (λ G. G .width) (known d)) ≡ true
+        → OkT (cond x (kid0 (node p false d) d) (rebuild p false d))
     go true p d ih e = kid-ok (node p false d) d (e, ih) ih
     go false p d ih e = (remark-like _ p .ok (map (λ G. G .width) (known d)) e, ih)
 
@@ -262,5 +316,6 @@ push-plan f h =
       live = λ v. k .live (subst Live (sym (strip-bare f)) v);
     }
 
-pub push-rows : {E E′ : Env} (f : Plan) {x y : Forest Streams} → SameInputs E E′ f → Fit f → clear f ≡ true → Run E 0 0 f x → Run E′ 0 0 (push f) y → Each SameRows (roots x) (roots y)
+pub push-rows : {E E′ : Env} (f : Plan) {x y : Forest Streams} → SameInputs E E′ f → Fit f → clear f ≡ true → Run E 0 0 f x → Run E′ 0 0 (push f) y
+    → Each SameRows (roots x) (roots y)
 push-rows f d h e = same-plan-rows f (push f) d h e (push-plan f h)

@@ -46,7 +46,8 @@ AgreesF k X Y = Agrees (Forest Required) (Forest Marked) (SameF k) X Y
 abbrev pub AgreesT : ℕ → Outcome SortPushDown → Counted Tree → Type 0
 AgreesT k X Y = Agrees SortPushDown Tree (SameT k) X Y
 
-pub agree-bind : {A B C D : Type 0} {R : A → B → ℕ → Type 0} {S : C → D → ℕ → Type 0} {X : Outcome A} {Y : Counted B} (g : A → Outcome C) (h : B → ℕ → Counted D) →
+pub agree-bind : {A B C D : Type 0} {R : A → B → ℕ → Type 0} {S : C → D → ℕ → Type 0} {X : Outcome A} {Y : Counted B} (g : A → Outcome C)
+    (h : B → ℕ → Counted D) →
     Agrees A B R X Y → ((x : A) (y : B) (m : ℕ) → R x y m → Agrees C D S (g x) (h y m)) → Agrees C D S (andThen X g) (bind Y h)
 agree-bind g h agree-stop k = agree-stop
 agree-bind g h (agree-done {x = x} {y = y} {m = m} r) k = k x y m r
@@ -56,7 +57,8 @@ pub agree-go : {A B : Type 0} {R : A → B → ℕ → Type 0} {Y : Counted B} (
 agree-go true e Z q h = no-bool (sym q)
 agree-go false e Z q h = h
 
-pub agree-full : {A B : Type 0} {R : A → B → ℕ → Type 0} (b : Bool) (e : Refusal) (Z : Outcome A) → b ≡ true → Agrees A B R (cond b (failed e) Z) (stopped e)
+pub agree-full : {A B : Type 0} {R : A → B → ℕ → Type 0} (b : Bool) (e : Refusal) (Z : Outcome A) → b ≡ true → Agrees A B R (cond b (failed e) Z)
+    (stopped e)
 agree-full true e Z q = agree-stop
 agree-full false e Z q = no-bool q
 
@@ -115,12 +117,15 @@ module _ (full : ℕ → Bool) where
   by-call {Y} n k t e h = subst (λ (z : Call). AgreesT k (afterCall full (λ j u. transformDown full n j u) k z) Y) (sym e) h
 
   -- A decision D that ends a step, in a plan of n nodes: m nodes after it, N the most that its steps reach
-  pub decided-at : {X : Outcome SortPushDown} (D : Decision) (c : Plan) (n m N k : ℕ) → D .quiet ≡ false → m ≡ afterwards D n → N ≡ afterwards D n + D .peak →
-      (full N ≡ true → AgreesT k X (stopped TooManyNodes)) → (full N ≡ false → AgreesT k X (bind (countBy full (D .reqs) m c) (λ d i. counted (carryOut D d) i))) → AgreesT k X (carriedAt full c D n false)
+  pub decided-at : {X : Outcome SortPushDown} (D : Decision) (c : Plan) (n m N k : ℕ) → D .quiet ≡ false → m ≡ afterwards D n → N ≡ afterwards D n + D .peak
+      →
+      (full N ≡ true → AgreesT k X (stopped TooManyNodes))
+      → (full N ≡ false → AgreesT k X (bind (countBy full (D .reqs) m c) (λ d i. counted (carryOut D d) i))) → AgreesT k X (carriedAt full c D n false)
   decided-at {X} D c n m N k q e p stops goes =
       by-bool (full N)
       (λ w. subst (λ (b : Bool). AgreesT k X (cond b (stopped TooManyNodes) rest)) (sym (tested w)) (stops w))
-      (λ w. subst (λ (b : Bool). AgreesT k X (cond b (stopped TooManyNodes) rest)) (sym (tested w)) (subst (λ (j : ℕ). AgreesT k X (bind (countBy full (D .reqs) j c) (λ d i. counted (carryOut D d) i))) e (goes w)))
+      (λ w. subst (λ (b : Bool). AgreesT k X (cond b (stopped TooManyNodes) rest)) (sym (tested w))
+      (subst (λ (j : ℕ). AgreesT k X (bind (countBy full (D .reqs) j c) (λ d i. counted (carryOut D d) i))) e (goes w)))
     where
       rest : Counted Tree
       rest = bind (countBy full (D .reqs) (afterwards D n) c) (λ d i. counted (carryOut D d) i)
@@ -130,7 +135,8 @@ module _ (full : ℕ → Bool) where
 
   abbrev pub Below : Plan → Type 0
   Below c =
-      (q : ℕ → Visit) → ((i : ℕ) → BelowRoot (q i)) → (n k : ℕ) → 4 * size c ≤ n → AgreesF k (mapChildren (λ j t. transformDown full n j t) k (contexts q c))
+      (q : ℕ → Visit) → ((i : ℕ) → BelowRoot (q i)) → (n k : ℕ) → 4 * size c ≤ n
+      → AgreesF k (mapChildren (λ j t. transformDown full n j t) k (contexts q c))
       (countBy full q (size c + k) c)
 
   -- After a call that returned the node o over its old children, which hold g
@@ -142,13 +148,15 @@ module _ (full : ℕ → Bool) where
       agree-go (full (suc (size (holding g c)) + k)) TooManyNodes
       (andThen (mapChildren (λ j t. transformDown full n j t) (suc k) (holding g c)) (λ x. done (rebuild o d x)))
       (ap (λ (s : ℕ). full (suc s + k)) (size-holding g c) ∙ e)
-      (agree-bind (λ x. done (rebuild o d x)) (λ x m. counted (rebuild o false x) m) below (λ x y m r. agree-done (record { node = ap (λ (p : Plan). rebuilt o (facts p)) (r .plan); plan = r .plan; number = omega (arith, r .number) })))
+      (agree-bind (λ x. done (rebuild o d x)) (λ x m. counted (rebuild o false x) m) below
+      (λ x y m r. agree-done (record { node = ap (λ (p : Plan). rebuilt o (facts p)) (r .plan); plan = r .plan; number = omega (arith, r .number) })))
     where
       below : AgreesF (suc k) (mapChildren (λ j t. transformDown full n j t) (suc k) (holding g c)) (countBy full (λ i. asked (g i)) (suc (size c) + k) c)
       below =
           subst (λ (m : ℕ). AgreesF (suc k) (mapChildren (λ j t. transformDown full n j t) (suc k) (holding g c)) (countBy full (λ i. asked (g i)) m c))
           (omega arith)
-          (subst (λ (x : Forest Required). AgreesF (suc k) (mapChildren (λ j t. transformDown full n j t) (suc k) x) (countBy full (λ i. asked (g i)) (size c + suc k) c)) (contexts-asked g c) (ih (λ i. asked (g i)) (λ i z. refl) n (suc k) l))
+          (subst (λ (x : Forest Required). AgreesF (suc k) (mapChildren (λ j t. transformDown full n j t) (suc k) x)
+          (countBy full (λ i. asked (g i)) (size c + suc k) c)) (contexts-asked g c) (ih (λ i. asked (g i)) (λ i z. refl) n (suc k) l))
 
   -- After a call that returned a sort or merge p over t
   pub over-returned : (n k : ℕ) (p : Op) (d : ParentRequirements) (t : SortPushDown) (Y : Counted Tree) → ((fs : List Facts) → rebuilt p fs ≡ p) →

@@ -61,7 +61,8 @@ size-resting c = size-holding (λ i. defaultRequirements) c
 
 pub size-contexts : (q : ℕ → Visit) (c : Plan) → size (contexts q c) ≡ size c
 size-contexts q none = refl
-size-contexts q (tree o c r) = ap₂ (λ (m n : ℕ). suc (m + n)) (size-holding (kidsHold (q 0 .root) (touched (q 0) o c) c) c) (size-contexts (λ i. q (suc i)) r)
+size-contexts q (tree o c r) = ap₂ (λ (m n : ℕ). suc (m + n)) (size-holding (kidsHold (q 0 .root) (touched (q 0) o c) c) c)
+    (size-contexts (λ i. q (suc i)) r)
 
 pub contexts-asked : (g : ℕ → ParentRequirements) (c : Plan) → contexts (λ i. asked (g i)) c ≡ holding g c
 contexts-asked g none = refl
@@ -79,7 +80,8 @@ initial-holding : (ws : ℕ → List Key) (ds : ℕ → Distribution) (g : ℕ �
     initialFrom ws ds (holding g c) ≡ holding (initially ws ds (fetches c)) c
 initial-holding ws ds g none = refl
 initial-holding ws ds g (tree o c r) =
-    ap₂ (λ (p : Plan) (s : Forest Required). tree (record { op = o; mark = record { order = ws 0; fetch = fetchOp o (fetches p); dist = ds 0 } }) (resting c) s) (plan-holding (λ i. defaultRequirements) c)
+    ap₂ (λ (p : Plan) (s : Forest Required). tree (record { op = o; mark = record { order = ws 0; fetch = fetchOp o (fetches p); dist = ds 0 } })
+    (resting c) s) (plan-holding (λ i. defaultRequirements) c)
     (initial-holding (λ i. ws (suc i)) (λ i. ds (suc i)) (λ i. g (suc i)) r)
 
 new-holding : (c : Plan) → marked defaultRequirements c ≡ resting c

@@ -106,12 +106,21 @@ module _ (p : Bool) (ks : List Key) (f : Fetch) (d : ParentRequirements) (o₁ :
     module _ (e : isNil (d .order) ≡ false) (s : isNil (nf C [] ks) ≡ false) where
       pub unnecessary-call : suits C ≡ true →
           helper sortOver ≡ callsItself
-          (node o₂ (record { order = cond (compatible (its C) (its C .order) (d .order)) (its C .order) (d .order); fetch = minFetch f (d .fetch); dist = Unspecified }) x)
+          (node o₂ (record {
+            order = cond (compatible (its C) (its C .order) (d .order)) (its C .order) (d .order);
+            fetch = minFetch f (d .fetch);
+            dist = Unspecified;
+          }) x)
       unnecessary-call q =
           cond-no (isNil (d .order)) _ _ e ∙ cond-no (isNil (nf own [] ks)) _ _ (its-order s)
           ∙ cond-no (not (met (its own) (d .order)) && not (compatible (its own) (d .order) (its own .order))) _ _
           (either (met (its own) (d .order)) (compatible (its own) (d .order) (its own .order)) (ap suits eC ∙ q))
-          ∙ ap₂ (λ (H : Facts) (o : Op). callsItself (node o (record { order = cond (compatible (its H) (its H .order) (d .order)) (its H .order) (d .order); fetch = minFetch f (d .fetch); dist = Unspecified }) x)) eC eo
+          ∙ ap₂ (λ (H : Facts) (o : Op). callsItself
+          (node o (record {
+            order = cond (compatible (its H) (its H .order) (d .order)) (its H .order) (d .order);
+            fetch = minFetch f (d .fetch);
+            dist = Unspecified;
+          }) x)) eC eo
 
       -- ts: what add_sort_above_with_distribution puts over the child
       pub different-call : suits C ≡ false → (ts : List Op) → sortAboveWithDistribution C (d .order) (d .fetch) (d .dist) ≡ ts →
@@ -120,7 +129,9 @@ module _ (p : Bool) (ks : List Key) (f : Fetch) (d : ParentRequirements) (o₁ :
           cond-no (isNil (d .order)) _ _ e ∙ cond-no (isNil (nf own [] ks)) _ _ (its-order s)
           ∙ cond-yes (not (met (its own) (d .order)) && not (compatible (its own) (d .order) (its own .order))) _ _
           (neither (met (its own) (d .order)) (compatible (its own) (d .order) (its own .order)) (ap suits eC ∙ q))
-          ∙ ap (λ (H : Facts). firstChildData (record { order = nf H [] ks; fetch = f; dist = Unspecified }) (coverWith defaultRequirements (tops (factsOp (rebuilt o₁ (facts (strip x))) (facts (strip x)))) (node (rebuilt o₁ (facts (strip x))) d₁ x))) eC
+          ∙ ap (λ (H : Facts). firstChildData (record { order = nf H [] ks; fetch = f; dist = Unspecified })
+          (coverWith defaultRequirements (tops (factsOp (rebuilt o₁ (facts (strip x))) (facts (strip x)))) (node (rebuilt o₁ (facts (strip x))) d₁ x)))
+          eC
           ∙ ap₂ (λ (H : Facts) (o : Op). firstChildData below (coverWith defaultRequirements (tops H) (node o d₁ x)))
           (rebuilt-facts o₁ (facts (strip x)) ∙ eC) eo
           ∙ ap (λ (us : List Op). firstChildData below (coverWith defaultRequirements us (node o₂ d₁ x))) t
@@ -178,5 +189,7 @@ module _ (o : Op) (ns : isSort o ≡ false) (d : ParentRequirements) (c : Plan) 
           helper (node o d (holding g c)) ≡ returns (assignInitial (coverWith defaultRequirements ts (node o d (holding g c))))
       node-stops t ts q =
           pushes stop t
-          ∙ ap (λ (z : Plan). returns (assignInitial (coverWith defaultRequirements (sortAboveWithDistribution (factsOp o (facts z)) (d .order) (d .fetch) (d .dist)) (node o d (holding g c))))) (plan-holding g c)
+          ∙ ap (λ (z : Plan). returns (assignInitial
+          (coverWith defaultRequirements (sortAboveWithDistribution (factsOp o (facts z)) (d .order) (d .fetch) (d .dist)) (node o d (holding g c)))))
+          (plan-holding g c)
           ∙ ap (λ (us : List Op). returns (assignInitial (coverWith defaultRequirements us (node o d (holding g c))))) q

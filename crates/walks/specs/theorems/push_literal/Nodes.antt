@@ -97,13 +97,16 @@ module _ (full : ℕ → Bool) (mono : (m n : ℕ) → m ≤ n → full n ≡ fa
       needsMerge (factsOp o (facts c)) (d .dist) ≡ false →
       (n k : ℕ) → 4 * size c ≤ n → full (suc (suc (size c)) + k) ≡ false →
       AgreesT k (transformDown full (suc (suc n)) k (node o d (resting c)))
-      (bind (countBy full (withOwnDistribution o) (suc (size c) + suc k) c) (λ x i. counted (over (newSortOver (factsOp o (facts c)) (d .order) (d .fetch)) false (rebuild o false x)) i))
+      (bind (countBy full (withOwnDistribution o) (suc (size c) + suc k) c)
+      (λ x i. counted (over (newSortOver (factsOp o (facts c)) (d .order) (d .fetch)) false (rebuild o false x)) i))
   sorted-step o ns d e m t s nm n k l fe =
       by-call full (suc n) k (node o d (resting c))
       (node-stops o ns d c e m (λ i. defaultRequirements) t (S ∷ []) (above-sort (factsOp o (facts c)) (d .order) (d .fetch) s (d .dist) nm))
-      (subst (λ (y : Counted Tree). AgreesT k (afterCall full (λ j u. transformDown full (suc n) j u) k (returns (node S defaultRequirements (plant under none)))) y)
+      (subst (λ (y : Counted Tree). AgreesT k
+      (afterCall full (λ j u. transformDown full (suc n) j u) k (returns (node S defaultRequirements (plant under none)))) y)
       (twice below (rebuild o false) (over S false))
-      (over-returned full (suc n) k S defaultRequirements under (bind below (λ x i. counted (rebuild o false x) i)) (λ fs. refl) (ap (λ (j : ℕ). full (suc (suc j) + k)) (size-resting c) ∙ fe)
+      (over-returned full (suc n) k S defaultRequirements under (bind below (λ x i. counted (rebuild o false x) i)) (λ fs. refl)
+      (ap (λ (j : ℕ). full (suc (suc j) + k)) (size-resting c) ∙ fe)
       (unrequired-step o ns (under .top .mark) refl n (suc k) l (ap full (omega arith) ∙ fe))))
     where
       S : Op
@@ -111,7 +114,8 @@ module _ (full : ℕ → Bool) (mono : (m n : ℕ) → m ≤ n → full n ≡ fa
 
       under : SortPushDown
       under =
-          node o (record { order = []; fetch = fetchOp o (fetches (strip (resting c))); dist = sortDist (ltb 1 (factsOp o (facts c) .streams)) }) (resting c)
+          node o (record { order = []; fetch = fetchOp o (fetches (strip (resting c))); dist = sortDist (ltb 1 (factsOp o (facts c) .streams)) })
+          (resting c)
 
       below : Counted (Forest Marked)
       below = countBy full (withOwnDistribution o) (suc (size c) + suc k) c
@@ -145,7 +149,8 @@ module _ (full : ℕ → Bool) (mono : (m n : ℕ) → m ≤ n → full n ≡ fa
     satisfied-step : met F Q ≡ true → Target (satisfied v o c)
     satisfied-step m =
         subst (λ (f : Fetch). Target (stays o (λ i. asked (handed (wanted o) f i)))) (min-none (v .req .fetch))
-        (stays-step (suc (suc (suc n))) k (omega arith) start o (v .req) (handed (wanted o) (minFetch (v .req .fetch) Unlimited)) (node-satisfies o ns (v .req) c e m (λ i. defaultRequirements)))
+        (stays-step (suc (suc (suc n))) k (omega arith) start o (v .req) (handed (wanted o) (minFetch (v .req .fetch) Unlimited))
+        (node-satisfies o ns (v .req) c e m (λ i. defaultRequirements)))
 
     goes-step : met F Q ≡ false → (ks : ℕ → List Key) → pushDown Q v o c ≡ goes ks → Target (afterTry (goes ks) v o c)
     goes-step m ks t =
@@ -157,7 +162,9 @@ module _ (full : ℕ → Bool) (mono : (m n : ℕ) → m ≤ n → full n ≡ fa
     added-step m t nm =
         subst (λ (ts : List Op). Target (covered ts 0 o (withOwnDistribution o))) (sym tops)
         (decided-at full D c (suc (size c) + k) (suc (size c) + suc k) (suc (suc (size c)) + k) k refl (omega arith) (omega arith)
-        (λ w. by-call full (suc (suc (suc n))) k start (node-stops o ns (v .req) c e m (λ i. defaultRequirements) t (S ∷ []) tops) (returned-full full (suc (suc (suc n))) k (assignInitial (coverWith defaultRequirements (S ∷ []) start)) (ap full (omega (arith, size-resting c)) ∙ w)))
+        (λ w. by-call full (suc (suc (suc n))) k start (node-stops o ns (v .req) c e m (λ i. defaultRequirements) t (S ∷ []) tops)
+        (returned-full full (suc (suc (suc n))) k (assignInitial (coverWith defaultRequirements (S ∷ []) start))
+        (ap full (omega (arith, size-resting c)) ∙ w)))
         (λ w. sorted-step o ns (v .req) e m t (some m) nm (suc (suc n)) k (omega arith) w))
       where
         S : Op
@@ -228,7 +235,8 @@ module _ (full : ℕ → Bool) (mono : (m n : ℕ) → m ≤ n → full n ≡ fa
       merged-by Y w h =
           by-call full (suc (suc (suc n))) k start first-call
           (over-returned full (suc (suc (suc n))) k M defaultRequirements newSorted Y (λ fs. refl) (ap full (omega (arith, size-resting c)) ∙ w)
-          (by-call full (suc (suc n)) (suc k) newSorted second-call (subst (λ (H : Facts). AgreesT (suc k) (transformDown full (suc (suc n)) (suc k) (node o₂ (again H) (resting c))) Y) (sym E) h)))
+          (by-call full (suc (suc n)) (suc k) newSorted second-call
+          (subst (λ (H : Facts). AgreesT (suc k) (transformDown full (suc (suc n)) (suc k) (node o₂ (again H) (resting c))) Y) (sym E) h)))
 
       too-many : full (suc (suc (suc (size c))) + k) ≡ true → AgreesT k asking (stopped TooManyNodes)
       too-many w =
@@ -243,7 +251,8 @@ module _ (full : ℕ → Bool) (mono : (m n : ℕ) → m ≤ n → full n ≡ fa
           subst (λ (ts : List Op). Target (covered ts 1 o₂ (handDown ks (minFetch (fetchOp o₂ (fetches c)) (v .req .fetch)) Unspecified o₂))) (sym tops)
           (decided-at full D c (suc (size c) + k) (suc (size c) + suc k) (suc (suc (suc (size c))) + k) k refl (omega arith) (omega arith) too-many
           (λ w. subst (λ (y : Counted Tree). AgreesT k asking y) (twice below (rebuild o₂ false) (over M false))
-          (merged-by (bind below (λ x i. counted (rebuild o₂ false x) i)) w (third (mono (suc (size c) + suc k) (suc (suc (suc (size c))) + k) (omega arith) w)))))
+          (merged-by (bind below (λ x i. counted (rebuild o₂ false x) i)) w
+          (third (mono (suc (size c) + suc k) (suc (suc (suc (size c))) + k) (omega arith) w)))))
         where
           D : Decision
           D = covered (M ∷ []) 1 o₂ (handDown ks (minFetch (fetchOp o₂ (fetches c)) (v .req .fetch)) Unspecified o₂)
@@ -255,17 +264,21 @@ module _ (full : ℕ → Bool) (mono : (m n : ℕ) → m ≤ n → full n ≡ fa
           hands r i = record { order = ks i; fetch = minFetch (fetchOp o₂ (fetches c)) (v .req .fetch); dist = strongerDistribution r (distOf o₂ i) }
 
           third : full (suc (size c) + suc k) ≡ false →
-              AgreesT (suc k) (transformDown full (suc (suc n)) (suc k) (node o₂ (again F₂) (resting c))) (bind below (λ x i. counted (rebuild o₂ false x) i))
+              AgreesT (suc k) (transformDown full (suc (suc n)) (suc k) (node o₂ (again F₂) (resting c)))
+              (bind below (λ x i. counted (rebuild o₂ false x) i))
           third w =
               by-call full (suc n) (suc k) (node o₂ (again F₂) (resting c))
-              (node-goes o₂ ns₂ (again F₂) c e₂ m₂ (λ i. defaultRequirements) ks u ∙ ap (λ (r : Distribution). returns (node o₂ (record { order = []; fetch = v .req .fetch; dist = Unspecified }) (holding (hands r) c))) (effective-none F₂))
+              (node-goes o₂ ns₂ (again F₂) c e₂ m₂ (λ i. defaultRequirements) ks u
+              ∙ ap (λ (r : Distribution). returns (node o₂ (record { order = []; fetch = v .req .fetch; dist = Unspecified }) (holding (hands r) c)))
+              (effective-none F₂))
               (returned full c ih (suc n) (suc k) (omega arith) o₂ (record { order = []; fetch = v .req .fetch; dist = Unspecified }) (hands Unspecified) w)
       merged-tries stop u =
           subst (λ (ts : List Op). Target (covered ts 0 o₂ (withOwnDistribution o₂)))
           (sym (ap₂ _++_ tops (above-sort F₂ (newOrdering F₂ Q) (v .req .fetch) s₂ Unspecified (no-merge F₂))))
           (decided-at full D c (suc (size c) + k) (suc (size c) + suc (suc k)) (suc (suc (suc (size c))) + k) k refl (omega arith) (omega arith) too-many
           (λ w. subst (λ (y : Counted Tree). AgreesT k asking y) (twice below (λ x. over S₂ false (rebuild o₂ false x)) (over M false))
-          (merged-by (bind below (λ x i. counted (over S₂ false (rebuild o₂ false x)) i)) w (sorted-step o₂ ns₂ (again F₂) e₂ m₂ u s₂ (no-merge F₂) n (suc k) l (ap full (omega arith) ∙ w)))))
+          (merged-by (bind below (λ x i. counted (over S₂ false (rebuild o₂ false x)) i)) w
+          (sorted-step o₂ ns₂ (again F₂) e₂ m₂ u s₂ (no-merge F₂) n (suc k) l (ap full (omega arith) ∙ w)))))
         where
           S₂ : Op
           S₂ = newSortOver F₂ (newOrdering F₂ Q) (v .req .fetch)
@@ -278,7 +291,8 @@ module _ (full : ℕ → Bool) (mono : (m n : ℕ) → m ≤ n → full n ≡ fa
 
       merged-step : Target (mergeAdded v o c)
       merged-step =
-          subst (λ (H : Facts). Target (afterMerge (pushDown (newOrdering H Q) v o₂ c) v o₂ c)) (sym E) (merged-tries (pushDown (newOrdering F₂ Q) v o₂ c) refl)
+          subst (λ (H : Facts). Target (afterMerge (pushDown (newOrdering H Q) v o₂ c) v o₂ c)) (sym E)
+          (merged-tries (pushDown (newOrdering F₂ Q) v o₂ c) refl)
 
     tried-step : met F Q ≡ false → (U : Pushed) → pushDown Q v o c ≡ U → Target (afterTry U v o c)
     tried-step m (goes ks) t = goes-step m ks t
@@ -298,7 +312,8 @@ module _ (full : ℕ → Bool) (mono : (m n : ℕ) → m ≤ n → full n ≡ fa
       (carriedAt full c (decideNode v o c) (suc (size c) + k) false)
   node-step v low o ns n k l =
       by-bool (isNil (v .req .order))
-      (λ e. subst (λ (b : Bool). AgreesT k (walk (v .root)) (carriedAt full c (cond b (unasked v o c) (nodeAsked v o c)) (suc (size c) + k) false)) (sym e) (unasked-at (v .root) e))
+      (λ e. subst (λ (b : Bool). AgreesT k (walk (v .root)) (carriedAt full c (cond b (unasked v o c) (nodeAsked v o c)) (suc (size c) + k) false)) (sym e)
+      (unasked-at (v .root) e))
       (λ e. subst (λ (b : Bool). AgreesT k (walk (v .root)) (carriedAt full c (cond b (unasked v o c) (nodeAsked v o c)) (suc (size c) + k) false)) (sym e)
       (subst (λ (b : Bool). AgreesT k (walk b) (carriedAt full c (nodeAsked v o c) (suc (size c) + k) false)) (sym (low e)) (asked-step v o ns e n k l)))
     where

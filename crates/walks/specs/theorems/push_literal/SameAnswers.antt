@@ -43,8 +43,11 @@ OneChild (tree o c r) = (isSort o ≡ true → count c ≡ 1) × OneChild c × O
 
 pub fit-one : (f : Plan) → Fit f → OneChild f
 fit-one none h = tt
-fit-one (tree o c r) h =
-    (λ e. subst (λ (z : Arity). FitsA z (count c)) (pass-one o (ap (λ (n : ℕ). leb 5 n && leb n 8) (eqb-true (code o) 7 e))) (h .0), fit-one c (h .1), fit-one r (h .2))
+fit-one (tree o c r) h = (
+  λ e. subst (λ (z : Arity). FitsA z (count c)) (pass-one o (ap (λ (n : ℕ). leb 5 n && leb n 8) (eqb-true (code o) 7 e))) (h .0),
+  fit-one c (h .1),
+  fit-one r (h .2),
+)
 
 module _ (full : ℕ → Bool) (mono : (m n : ℕ) → m ≤ n → full n ≡ false → full m ≡ false) where
   -- ---- one node o over c
@@ -56,8 +59,10 @@ module _ (full : ℕ → Bool) (mono : (m n : ℕ) → m ≤ n → full n ≡ fa
   other-step : (v : Visit) → BelowRoot v → (c : Plan) → Below full c → (n k : ℕ) → 4 * size c ≤ n → (o : Op) → isSort o ≡ false →
       ((w : Op) → decideBy (shape o) v w c ≡ decideNode v w c) → Steps v c n k o
   other-step v low c ih n k l o ns e =
-      subst (λ (b : Bool). AgreesT k (transformDown full (suc (suc (suc (suc n)))) k (visited v o c)) (carriedAt full c (pushdownSortsHelper v o c) (suc (size c) + k) b)) (sym (no-sort o (facts c) ns))
-      (subst (λ (D : Decision). AgreesT k (transformDown full (suc (suc (suc (suc n)))) k (visited v o c)) (carriedAt full c D (suc (size c) + k) false)) (sym (e (touched v o c)))
+      subst (λ (b : Bool). AgreesT k (transformDown full (suc (suc (suc (suc n)))) k (visited v o c))
+      (carriedAt full c (pushdownSortsHelper v o c) (suc (size c) + k) b)) (sym (no-sort o (facts c) ns))
+      (subst (λ (D : Decision). AgreesT k (transformDown full (suc (suc (suc (suc n)))) k (visited v o c)) (carriedAt full c D (suc (size c) + k) false))
+      (sym (e (touched v o c)))
       (node-step full mono c ih v low (touched v o c) (still (v .touch)) n k l))
     where
       still : (b : Bool) → isSort (cond b (rebuilt o (facts c)) o) ≡ false
@@ -73,7 +78,8 @@ module _ (full : ℕ → Bool) (mono : (m n : ℕ) → m ≤ n → full n ≡ fa
       c = tree o′ c′ none
 
       go : (b : Bool) →
-          AgreesT k (transformDown full (suc (suc (suc (suc n)))) k (node (cond b (sortOp p ks f) (sortOp p ks f)) (v .req) (holding (kidsHold (v .root) (cond b (sortOp p ks f) (sortOp p ks f)) c) c)))
+          AgreesT k (transformDown full (suc (suc (suc (suc n)))) k
+          (node (cond b (sortOp p ks f) (sortOp p ks f)) (v .req) (holding (kidsHold (v .root) (cond b (sortOp p ks f) (sortOp p ks f)) c) c)))
           (carriedAt full c (pushdownSortsHelper v (sortOp p ks f) c) (suc (size c) + k) (constantSort (sortOp p ks f) c))
       go true = sort-step full o′ c′ ih p ks f v n k l
       go false = sort-step full o′ c′ ih p ks f v n k l
@@ -100,7 +106,8 @@ module _ (full : ℕ → Bool) (mono : (m n : ℕ) → m ≤ n → full n ≡ fa
   tree-agrees o c r h ic ir q low n k l =
       agree-bind (λ t. andThen (mapChildren (λ j u. transformDown full n j u) (sizeT t + k) R) (λ s. done (plant t s)))
       (λ u m. bind (countBy full (λ i. q (suc i)) m r) (λ s j. counted (plant u s) j)) first
-      (λ t u m a. agree-bind (λ s. done (plant t s)) (λ s j. counted (plant u s) j) (right t u m a) (λ s y j b. agree-done (planted k t u m s y j (size R) a b)))
+      (λ t u m a. agree-bind (λ s. done (plant t s)) (λ s j. counted (plant u s) j) (right t u m a)
+      (λ s y j b. agree-done (planted k t u m s y j (size R) a b)))
     where
       R : Forest Required
       R = contexts (λ i. q (suc i)) r
@@ -114,10 +121,13 @@ module _ (full : ℕ → Bool) (mono : (m n : ℕ) → m ≤ n → full n ≡ fa
       whole : suc (size c) + (size R + k) ≡ suc (size c + size r) + k
       whole = omega (arith, R-size)
 
-      first : AgreesT (size R + k) (transformDown full n (size R + k) (visited (q 0) o c)) (carriedAt full c (pushdownSortsHelper (q 0) o c) (suc (size c + size r) + k) (constantSort o c))
+      first : AgreesT (size R + k) (transformDown full n (size R + k) (visited (q 0) o c))
+          (carriedAt full c (pushdownSortsHelper (q 0) o c) (suc (size c + size r) + k) (constantSort o c))
       first =
-          subst (λ (i : ℕ). AgreesT (size R + k) (transformDown full i (size R + k) (visited (q 0) o c)) (carriedAt full c (pushdownSortsHelper (q 0) o c) (suc (size c + size r) + k) (constantSort o c))) fuel
-          (subst (λ (i : ℕ). AgreesT (size R + k) (transformDown full (suc (suc (suc (suc (n - 4))))) (size R + k) (visited (q 0) o c)) (carriedAt full c (pushdownSortsHelper (q 0) o c) i (constantSort o c))) whole
+          subst (λ (i : ℕ). AgreesT (size R + k) (transformDown full i (size R + k) (visited (q 0) o c))
+          (carriedAt full c (pushdownSortsHelper (q 0) o c) (suc (size c + size r) + k) (constantSort o c))) fuel
+          (subst (λ (i : ℕ). AgreesT (size R + k) (transformDown full (suc (suc (suc (suc (n - 4))))) (size R + k) (visited (q 0) o c))
+          (carriedAt full c (pushdownSortsHelper (q 0) o c) i (constantSort o c))) whole
           (step (q 0) (low 0) c ic (n - 4) (size R + k) (omega arith) o h))
 
       right : (t : SortPushDown) (u : Tree) (m : ℕ) → SameT (size R + k) t u m →
@@ -179,7 +189,8 @@ pushed-is-literal f h n l = go (hasPartialSort f)
     same = literal-agrees tooMany many-mono f h n l ∙ ap (λ (w : Counted (Forest Marked)). gives (answerOf w)) (count-by (λ i. atRoot) (size f) f)
 
     go : (b : Bool) →
-        cond b (gives (refused HasPartialSort)) (givenBy (pushdownSortsBy tooMany n f)) ≡ gives (cond b (refused HasPartialSort) (answerOf (countDown (λ i. atRoot) (size f) f)))
+        cond b (gives (refused HasPartialSort)) (givenBy (pushdownSortsBy tooMany n f)) ≡ gives
+        (cond b (refused HasPartialSort) (answerOf (countDown (λ i. atRoot) (size f) f)))
     go true = refl
     go false = same
 

@@ -49,7 +49,8 @@ module _ (full : ℕ → Bool) (o′ : Op) (c′ : Plan) (ih : Below full (tree 
   child-step : (z : Forest Marked → Tree) (r : ParentRequirements) (m j : ℕ) → 4 * size c ≤ m →
       AgreesT j (transformDown full m j (node o₂ r x)) (bind (countBy full (λ i. belowSort r) (size c + j) c) (λ d i. counted (kid0 (z d) d) i))
   child-step z r m j l =
-      subst (λ (i : ℕ). AgreesT j (transformDown full m i (node o₂ r x)) (bind (countBy full (λ i. belowSort r) (size c + j) c) (λ d i. counted (kid0 (z d) d) i))) (omega arith)
+      subst (λ (i : ℕ). AgreesT j (transformDown full m i (node o₂ r x))
+      (bind (countBy full (λ i. belowSort r) (size c + j) c) (λ d i. counted (kid0 (z d) d) i))) (omega arith)
       (unwrap z (transformDown full m (0 + j) (node o₂ r x)) (ih (λ i. belowSort r) (λ i q. refl) m j l))
 
   -- The sort goes
@@ -57,7 +58,9 @@ module _ (full : ℕ → Bool) (o′ : Op) (c′ : Plan) (ih : Below full (tree 
       AgreesT k (transformDown full (suc m) k t) (carriedAt full c (removed S (belowSort r)) (suc (size c) + k) false)
   removed-step S r t he m k l =
       by-call full m k t he
-      (subst (λ (i : ℕ). AgreesT k (transformDown full m k (node o₂ r x)) (bind (countBy full (λ j. belowSort r) i c) (λ d i. counted (kid0 (node S false d) d) i))) (omega arith) (child-step (λ d. node S false d) r m k l))
+      (subst (λ (i : ℕ). AgreesT k (transformDown full m k (node o₂ r x))
+      (bind (countBy full (λ j. belowSort r) i c) (λ d i. counted (kid0 (node S false d) d) i))) (omega arith)
+      (child-step (λ d. node S false d) r m k l))
 
   -- A sort T takes its place
   replaced-by : (S T : Op) → ((fs : List Facts) → rebuilt T fs ≡ T) → (r : ParentRequirements) (t : SortPushDown) →
@@ -66,9 +69,12 @@ module _ (full : ℕ → Bool) (o′ : Op) (c′ : Plan) (ih : Below full (tree 
       (bind (countBy full (λ i. belowSort r) (size c + suc k) c) (λ d i. counted (over T false (kid0 (node S false d) d)) i))
   replaced-by S T e r t he m k l q =
       by-call full m k t he
-      (subst (λ (y : Counted Tree). AgreesT k (afterCall full (λ j u. transformDown full m j u) k (returns (node T defaultRequirements (plant (node o₂ r x) none)))) y)
+      (subst (λ (y : Counted Tree). AgreesT k
+      (afterCall full (λ j u. transformDown full m j u) k (returns (node T defaultRequirements (plant (node o₂ r x) none)))) y)
       (twice (countBy full (λ i. belowSort r) (size c + suc k) c) (λ d. kid0 (node S false d) d) (over T false))
-      (over-returned full m k T defaultRequirements (node o₂ r x) (bind (countBy full (λ i. belowSort r) (size c + suc k) c) (λ d i. counted (kid0 (node S false d) d) i)) e (ap full (omega (arith, size-resting c′)) ∙ q) (child-step (λ d. node S false d) r m (suc k) l)))
+      (over-returned full m k T defaultRequirements (node o₂ r x)
+      (bind (countBy full (λ i. belowSort r) (size c + suc k) c) (λ d i. counted (kid0 (node S false d) d) i)) e
+      (ap full (omega (arith, size-resting c′)) ∙ q) (child-step (λ d. node S false d) r m (suc k) l)))
 
   module _ (p : Bool) (ks : List Key) (f : Fetch) (v : Visit) (n k : ℕ) (l : 4 * size c ≤ n) where
     abbrev S : Op
@@ -106,9 +112,11 @@ module _ (full : ℕ → Bool) (o′ : Op) (c′ : Plan) (ih : Below full (tree 
       unasked-step e = go (v .root)
         where
           go : (b : Bool) →
-              Target (kidsHold b S c 0) (removed S (belowSort (record { order = nf C [] ks; fetch = minFetch f (v .req .fetch); dist = cond b (sortDist p) Unspecified })))
+              Target (kidsHold b S c 0) (removed S
+              (belowSort (record { order = nf C [] ks; fetch = minFetch f (v .req .fetch); dist = cond b (sortDist p) Unspecified })))
           go true =
-              removed-step S _ (start (kidsHold true S c 0)) (unrequired-call p ks f (v .req) o′ (kidsHold true S c 0) x C o₂ eC eo e s) (suc (suc (suc n))) k
+              removed-step S _ (start (kidsHold true S c 0)) (unrequired-call p ks f (v .req) o′ (kidsHold true S c 0) x C o₂ eC eo e s)
+              (suc (suc (suc n))) k
               (omega arith)
           go false =
               removed-step S _ (start (kidsHold false S c 0)) (unrequired-call p ks f (v .req) o′ (kidsHold false S c 0) x C o₂ eC eo e s)
@@ -140,8 +148,11 @@ module _ (full : ℕ → Bool) (o′ : Op) (c′ : Plan) (ih : Below full (tree 
           replaced-step : needsMerge C (v .req .dist) ≡ false → Target d₁ (sortReplaced p ks f v c)
           replaced-step nm =
               subst (λ (ts : List Op). Target d₁ (replaced ts S (belowSort old))) (sym tops)
-              (decided-at full (replaced (S′ ∷ []) S (belowSort old)) c (suc (size c) + k) (size c + suc k) (suc (suc (size c′)) + k) k refl (omega arith) (omega arith)
-              (λ w. by-call full (suc (suc (suc n))) k (start d₁) he (returned-full full (suc (suc (suc n))) k (node S′ defaultRequirements (plant (node o₂ old x) none)) (ap full (omega (arith, size-resting c′)) ∙ w)))
+              (decided-at full (replaced (S′ ∷ []) S (belowSort old)) c (suc (size c) + k) (size c + suc k) (suc (suc (size c′)) + k) k refl (omega arith)
+              (omega arith)
+              (λ w. by-call full (suc (suc (suc n))) k (start d₁) he
+              (returned-full full (suc (suc (suc n))) k (node S′ defaultRequirements (plant (node o₂ old x) none))
+              (ap full (omega (arith, size-resting c′)) ∙ w)))
               (λ w. replaced-by S S′ (λ fs. refl) old (start d₁) he (suc (suc (suc n))) k (omega arith) w))
             where
               tops : sortAboveWithDistribution C Q (v .req .fetch) (v .req .dist) ≡ S′ ∷ []
@@ -154,11 +165,15 @@ module _ (full : ℕ → Bool) (o′ : Op) (c′ : Plan) (ih : Below full (tree 
           twice-step : needsMerge C (v .req .dist) ≡ true → Target d₁ (sortReplacedTwice p ks f v c)
           twice-step nm =
               subst (λ (ts : List Op). Target d₁ (replaced ts S (belowSort r))) (sym (ap₂ _++_ (one-merge C Q (v .req .fetch) some) again))
-              (decided-at full (replaced (M ∷ S″ ∷ []) S (belowSort r)) c (suc (size c) + k) (size c + suc (suc k)) (suc (suc (suc (size c′))) + k) k refl (omega arith) (omega arith)
-              (λ w. by-call full (suc (suc (suc n))) k (start d₁) he (returned-full full (suc (suc (suc n))) k (node M defaultRequirements (plant second none)) (ap full (omega (arith, size-resting c′)) ∙ w)))
+              (decided-at full (replaced (M ∷ S″ ∷ []) S (belowSort r)) c (suc (size c) + k) (size c + suc (suc k)) (suc (suc (suc (size c′))) + k) k refl
+              (omega arith) (omega arith)
+              (λ w. by-call full (suc (suc (suc n))) k (start d₁) he
+              (returned-full full (suc (suc (suc n))) k (node M defaultRequirements (plant second none))
+              (ap full (omega (arith, size-resting c′)) ∙ w)))
               (λ w. subst (λ (y : Counted Tree). AgreesT k (walk d₁) y) (twice below (λ d. over S″ false (kid0 (node S false d) d)) (over M false))
               (by-call full (suc (suc (suc n))) k (start d₁) he
-              (over-returned full (suc (suc (suc n))) k M defaultRequirements second (bind below (λ d i. counted (over S″ false (kid0 (node S false d) d)) i)) (λ fs. refl) (ap full (omega (arith, size-resting c′)) ∙ w)
+              (over-returned full (suc (suc (suc n))) k M defaultRequirements second
+              (bind below (λ d i. counted (over S″ false (kid0 (node S false d) d)) i)) (λ fs. refl) (ap full (omega (arith, size-resting c′)) ∙ w)
               (replaced-by S S″ (λ fs. refl) r second he₂ (suc (suc n)) (suc k) (omega arith) (ap full (omega arith) ∙ w))))))
             where
               r : ParentRequirements
@@ -188,7 +203,8 @@ module _ (full : ℕ → Bool) (o′ : Op) (c′ : Plan) (ih : Below full (tree 
               again : sortAboveWithDistribution C (nf C [] ks) f Unspecified ≡ S″ ∷ []
               again = above-sort C (nf C [] ks) f old-some Unspecified (no-merge C)
 
-              differs : (prefixb (nf C [] (nf C [] ks)) (nf C [] (freshKeys C [] Q)) || prefixb (nf C [] (nf C [] (freshKeys C [] Q))) (nf C [] (nf C [] ks))) ≡ false
+              differs : (prefixb (nf C [] (nf C [] ks)) (nf C [] (freshKeys C [] Q)) || prefixb (nf C [] (nf C [] (freshKeys C [] Q)))
+                  (nf C [] (nf C [] ks))) ≡ false
               differs =
                   ap₂ _||_ (ap (λ (ls : List Key). prefixb (nf C [] (nf C [] ks)) ls) same ∙ looser)
                   (ap₂ prefixb (nf-twice C canonical (freshKeys C [] Q) ∙ same) (nf-twice C canonical ks) ∙ unmet)
