@@ -42,7 +42,7 @@ use Rattle.sort_removal.specs.Immediate.{Immediates, immediateAt}
 
 -- ---- the node at h, whose children's marks are right
 
-pub record Marks (b : List ℕ) (u h : ℕ) : Type 0 where
+pub record EnsuresMarked (b : List ℕ) (u h : ℕ) : Type 0 where
   pub arena : Arena b u
   pub here : h < 2 * u
   pub room : (u + 2 * size (treeOf b h .kids) + 9) * slotSize ≤ length b
@@ -70,7 +70,7 @@ positive : (n : ℕ) → (n ≡ 0 → ⊥) → 0 < n
 positive zero f = absurd (f refl)
 positive (suc n) f = omega arith
 
-module _ (b : List ℕ) (u h : ℕ) (p : Marks b u h) where
+module _ (b : List ℕ) (u h : ℕ) (p : EnsuresMarked b u h) where
   abbrev t : Tree
   t = treeOf b h
 
@@ -194,7 +194,7 @@ module _ (b : List ℕ) (u : ℕ) (r ks : List ℕ) (i : ℕ) (p : Opened b u r 
       )
 
   module _ (b' : List ℕ) (l : length b' ≡ length b) (a : At) (g : Grown b u b' a (node (decode r) false (forest b ks')) (u + 1)) where
-    pub open-marks : Marks b' (a .used) (a .root)
+    pub open-marks : EnsuresMarked b' (a .used) (a .root)
     open-marks =
         let f = p .few in let x = p .room in let s = p .small in let z = sizes in let n = ap (λ t. size (t .kids)) (g .tree) in let y = g .room in
         record {

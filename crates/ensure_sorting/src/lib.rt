@@ -53,7 +53,7 @@ ghost use Rattle.utils.specs.Sorting.{Sortable};
 ghost use Rattle.ensure_sorting.specs.Child.{Sorts, Ensures};
 ghost use Rattle.ensure_sorting.specs.Finishing.{Finishes};
 ghost use Rattle.ensure_sorting.specs.Loop.{Loops};
-ghost use Rattle.ensure_sorting.specs.Step.{Marks, KeysCopied};
+ghost use Rattle.ensure_sorting.specs.Step.{EnsuresMarked, KeysCopied};
 
 // ---- one child
 
@@ -204,7 +204,7 @@ fn ensure_children(m: &mut [u8], u: usize, h: usize) -> At
 
 // The node at h, whose children's marks are right.
 fn ensure_marked(m: &mut [u8], u: usize, h: usize) -> At
-    requires { ⌜ Marks (now m) u h ⌝ }
+    requires { ⌜ EnsuresMarked (now m) u h ⌝ }
     ensures { λ a. ⌜ Grown (now (m .entry)) u (now (m .exit)) a (ensureMarked (treeOf (now (m .entry)) h))
         (u + 2 * size (treeOf (now (m .entry)) h .kids) + 9) ⌝ }
 {

@@ -26,7 +26,7 @@ use Rattle.arena.specs.Arena.{index, slot, held, at, treeAt, Below, Good}
 use Rattle.arena.specs.Laws.{at-new, at-old, length-trees}
 use Rattle.arena.specs.Held.{length-held}
 use Rattle.plan_arena.specs.Flat.{Flattens}
-use Rattle.plan_context.specs.View.{treeIn, treeOf, forest, Proper, Arena}
+use Rattle.plan_context.specs.View.{treeIn, treeOf, forest, ProperSlot, Arena}
 use Rattle.plan_context.specs.Nodes.{counts-of, seen}
 use Rattle.plan_context.specs.Records.{planT}
 use Rattle.plan_context.specs.Reading.{Loaded}
@@ -38,7 +38,7 @@ arena-loaded m u a = record { slots = a .slots; small = a .small; proper = λ i 
 
 -- ---- each slot is the record that the file has
 
-good : (m : List ℕ) (u : ℕ) → ((i : ℕ) → i < u → Proper m i) → Good (held m u)
+good : (m : List ℕ) (u : ℕ) → ((i : ℕ) → i < u → ProperSlot m i) → Good (held m u)
 unfolding held
 good m zero p = tt
 good m (suc u) p =
@@ -60,7 +60,7 @@ root-count m (h ∷ hs) = ap suc (root-count m hs)
 abbrev asTree : Tree → records.Tree
 asTree t = record { root = encode (length (roots (strip (t .kids)))) (opT t); below = recorded (strip (t .kids)) }
 
-module _ (m : List ℕ) (u₀ : ℕ) (p : (i : ℕ) → i < u₀ → Proper m i) where
+module _ (m : List ℕ) (u₀ : ℕ) (p : (i : ℕ) → i < u₀ → ProperSlot m i) where
   kids-are : (u : ℕ) (hs : List ℕ) → Below (2 * u) hs → ((i : ℕ) → i < u → at records.leaf (records.trees (held m u)) i ≡ asTree (treeIn m i))
       → records.forest (records.trees (held m u)) hs ≡ recorded (strip (forest m hs))
   unfolding records.forest forest

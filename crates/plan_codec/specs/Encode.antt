@@ -6,6 +6,7 @@ use lib.ListN.{length}
 use Rattle.row_order.specs.Iso.{Key}
 use Rattle.plan.specs.Op.{Op, source, filter, projection, union, repartition, coalesce, sortOp, mergeOp, globalLimit, localLimit, sortMergeJoin, hashJoin, outputRequirement, partialSort}
 use Rattle.plan.specs.Numbers.{kindNumber, joinNumber, distributionNumber}
+use Rattle.plan.specs.declared.Kind.{Kind}
 use Rattle.plan.specs.declared.Kind.the-variants.{Source, Filter, Projection, Union, Repartition, Coalesce, Sort, Merge, GlobalLimit, LocalLimit, SortMergeJoin, HashJoin, OutputRequirement, PartialSort}
 use Rattle.plan.specs.declared.Distribution.{Distribution}
 use Rattle.plan.specs.declared.Distribution.the-variants.{Unspecified, Single, Keyed}
@@ -54,205 +55,42 @@ keyedSet Unspecified = 0
 keyedSet Single = 0
 keyedSet (Keyed s) = s
 
+-- A record by its fields, in the file's order
+abbrev pub withFields : Kind → ℕ → ℕ → Bool → Bool → Bool → Fetch → ℕ → List Key → ℕ → ℕ → List ℕ → NodeRecord
+withFields kind children streams preserve hash unbounded fetch skip keys width role tail = record {
+  kind = kind;
+  children = children;
+  streams = streams;
+  preserve = preserve;
+  hash = hash;
+  unbounded = unbounded;
+  fetch = fetch;
+  skip = skip;
+  keys = keys;
+  width = width;
+  role = role;
+  tail = fill 32 tail;
+}
+
 -- What each kind has; all else is zero. "32-35 a column set by bits (source: constants; kind 13: keyed columns); 32-63 projection: child columns;
 -- 32-39 joins: right key columns"
 abbrev pub recordOf : ℕ → Op → NodeRecord
-recordOf k (source s) = record {
-  kind = Source;
-  children = k;
-  streams = s .streams;
-  preserve = false;
-  hash = false;
-  unbounded = s .unbounded;
-  fetch = AtMost 0;
-  skip = 0;
-  keys = s .keys;
-  width = s .width;
-  role = 0;
-  tail = fill 32 (fourBytes (s .constants));
-}
-recordOf k filter = record {
-  kind = Filter;
-  children = k;
-  streams = 0;
-  preserve = false;
-  hash = false;
-  unbounded = false;
-  fetch = AtMost 0;
-  skip = 0;
-  keys = [];
-  width = 0;
-  role = 0;
-  tail = fill 32 [];
-}
-recordOf k (projection cols) = record {
-  kind = Projection;
-  children = k;
-  streams = 0;
-  preserve = false;
-  hash = false;
-  unbounded = false;
-  fetch = AtMost 0;
-  skip = 0;
-  keys = [];
-  width = length cols;
-  role = 0;
-  tail = fill 32 cols;
-}
-recordOf k union = record {
-  kind = Union;
-  children = k;
-  streams = 0;
-  preserve = false;
-  hash = false;
-  unbounded = false;
-  fetch = AtMost 0;
-  skip = 0;
-  keys = [];
-  width = 0;
-  role = 0;
-  tail = fill 32 [];
-}
-recordOf k (repartition p n h ks) = record {
-  kind = Repartition;
-  children = k;
-  streams = n;
-  preserve = p;
-  hash = h;
-  unbounded = false;
-  fetch = AtMost 0;
-  skip = 0;
-  keys = ks;
-  width = 0;
-  role = 0;
-  tail = fill 32 [];
-}
-recordOf k (coalesce f) = record {
-  kind = Coalesce;
-  children = k;
-  streams = 0;
-  preserve = false;
-  hash = false;
-  unbounded = false;
-  fetch = f;
-  skip = 0;
-  keys = [];
-  width = 0;
-  role = 0;
-  tail = fill 32 [];
-}
-recordOf k (sortOp p ks f) = record {
-  kind = Sort;
-  children = k;
-  streams = 0;
-  preserve = p;
-  hash = false;
-  unbounded = false;
-  fetch = f;
-  skip = 0;
-  keys = ks;
-  width = 0;
-  role = 0;
-  tail = fill 32 [];
-}
-recordOf k (mergeOp ks f) = record {
-  kind = Merge;
-  children = k;
-  streams = 0;
-  preserve = false;
-  hash = false;
-  unbounded = false;
-  fetch = f;
-  skip = 0;
-  keys = ks;
-  width = 0;
-  role = 0;
-  tail = fill 32 [];
-}
-recordOf k (globalLimit s f note) = record {
-  kind = GlobalLimit;
-  children = k;
-  streams = 0;
-  preserve = false;
-  hash = false;
-  unbounded = false;
-  fetch = f;
-  skip = s;
-  keys = note;
-  width = 0;
-  role = 0;
-  tail = fill 32 [];
-}
-recordOf k (localLimit f note) = record {
-  kind = LocalLimit;
-  children = k;
-  streams = 0;
-  preserve = false;
-  hash = false;
-  unbounded = false;
-  fetch = f;
-  skip = 0;
-  keys = note;
-  width = 0;
-  role = 0;
-  tail = fill 32 [];
-}
-recordOf k (sortMergeJoin t on) = record {
-  kind = SortMergeJoin;
-  children = k;
-  streams = 0;
-  preserve = false;
-  hash = false;
-  unbounded = false;
-  fetch = AtMost 0;
-  skip = 0;
-  keys = map (λ k. k .key) on;
-  width = 0;
-  role = joinNumber t;
-  tail = fill 32 (map (λ k. k .other) on);
-}
-recordOf k (hashJoin t on) = record {
-  kind = HashJoin;
-  children = k;
-  streams = 0;
-  preserve = false;
-  hash = false;
-  unbounded = false;
-  fetch = AtMost 0;
-  skip = 0;
-  keys = map (λ k. k .key) on;
-  width = 0;
-  role = joinNumber t;
-  tail = fill 32 (map (λ k. k .other) on);
-}
-recordOf k (outputRequirement ks d f) = record {
-  kind = OutputRequirement;
-  children = k;
-  streams = 0;
-  preserve = false;
-  hash = false;
-  unbounded = false;
-  fetch = f;
-  skip = 0;
-  keys = ks;
-  width = 0;
-  role = distributionNumber d;
-  tail = fill 32 (fourBytes (keyedSet d));
-}
-recordOf k (partialSort p ks n f) = record {
-  kind = PartialSort;
-  children = k;
-  streams = 0;
-  preserve = p;
-  hash = false;
-  unbounded = false;
-  fetch = f;
-  skip = 0;
-  keys = ks;
-  width = 0;
-  role = n;
-  tail = fill 32 [];
-}
+recordOf k (source s) = withFields Source k (s .streams) false false (s .unbounded) (AtMost 0) 0 (s .keys) (s .width) 0 (fourBytes (s .constants))
+recordOf k filter = withFields Filter k 0 false false false (AtMost 0) 0 [] 0 0 []
+recordOf k (projection cols) = withFields Projection k 0 false false false (AtMost 0) 0 [] (length cols) 0 cols
+recordOf k union = withFields Union k 0 false false false (AtMost 0) 0 [] 0 0 []
+recordOf k (repartition p n h ks) = withFields Repartition k n p h false (AtMost 0) 0 ks 0 0 []
+recordOf k (coalesce f) = withFields Coalesce k 0 false false false f 0 [] 0 0 []
+recordOf k (sortOp p ks f) = withFields Sort k 0 p false false f 0 ks 0 0 []
+recordOf k (mergeOp ks f) = withFields Merge k 0 false false false f 0 ks 0 0 []
+recordOf k (globalLimit s f note) = withFields GlobalLimit k 0 false false false f s note 0 0 []
+recordOf k (localLimit f note) = withFields LocalLimit k 0 false false false f 0 note 0 0 []
+recordOf k (sortMergeJoin t on) =
+    withFields SortMergeJoin k 0 false false false (AtMost 0) 0 (map (λ k. k .key) on) 0 (joinNumber t) (map (λ k. k .other) on)
+recordOf k (hashJoin t on) = withFields HashJoin k 0 false false false (AtMost 0) 0 (map (λ k. k .key) on) 0 (joinNumber t) (map (λ k. k .other) on)
+recordOf k (outputRequirement ks d f) =
+    withFields OutputRequirement k 0 false false false f 0 ks 0 (distributionNumber d) (fourBytes (keyedSet d))
+recordOf k (partialSort p ks n f) = withFields PartialSort k 0 p false false f 0 ks 0 n []
 
 unfoldable pub encode : ℕ → Op → List ℕ
 encode k o = toBytes (recordOf k o)

@@ -107,12 +107,10 @@ rules-of k (source s) e =
       fetch = refl;
       skip = refl;
       count = free (s .keys) (and-right (ltb (s .constants) (2 ^ 32)) (few (s .keys)) b);
-      width =
-          keep (between 1 32 (s .width)) (and-left (between 1 32 (s .width)) (between 1 64 (s .streams)) a);
+      width = keep (between 1 32 (s .width)) (and-left (between 1 32 (s .width)) (between 1 64 (s .streams)) a);
       role = refl;
       options = λ q. no-false q;
-      set =
-          refl;
+      set = refl;
       rest = refl;
     }
 rules-of k filter e = record {
@@ -225,8 +223,7 @@ rules-of k (globalLimit s f note) e = record {
   count = free note (and-left (few note) (fetchOk f) (and-right (ltb s (2 ^ 32)) (few note && fetchOk f) e));
   width = refl;
   role = refl;
-  options =
-      λ q. no-false q;
+  options = λ q. no-false q;
   set = refl;
   rest = refl;
 }
@@ -243,8 +240,7 @@ rules-of k (localLimit f note) e =
       count = free note (and-left (few note) (fetchOk f) b);
       width = refl;
       role = refl;
-      options =
-          λ q. no-false q;
+      options = λ q. no-false q;
       set = refl;
       rest = refl;
     }
@@ -260,8 +256,7 @@ rules-of k (sortMergeJoin t on) e = record {
   role = keep (leb (joinNumber t) 7) (join-number t .1);
   options = λ q. no-false q;
   set = refl;
-  rest =
-      on-rest on;
+  rest = on-rest on;
 }
 rules-of k (hashJoin t on) e = record {
   streams = refl;
@@ -272,12 +267,10 @@ rules-of k (hashJoin t on) e = record {
   skip = refl;
   count = on-count (λ k. k .key) on (and-left (some on) (every (λ k. plain (k .key)) on) e);
   width = refl;
-  role =
-      keep (leb (joinNumber t) 7) (join-number t .1);
+  role = keep (leb (joinNumber t) 7) (join-number t .1);
   options = λ q. plain-on on (and-right (some on) (every (λ k. plain (k .key)) on) e);
   set = refl;
-  rest =
-      on-rest on;
+  rest = on-rest on;
 }
 rules-of k (outputRequirement ks d f) e =
     let b = and-left (distributionOk d) (fetchOk f) (and-right (few ks) (distributionOk d && fetchOk f) e) in
@@ -292,8 +285,7 @@ rules-of k (outputRequirement ks d f) e =
       width = refl;
       role = role-rule d;
       options = λ q. no-false q;
-      set =
-          set-rule d b;
+      set = set-rule d b;
       rest = rest-rule d;
     }
 rules-of k (partialSort p ks n f) e =
@@ -307,8 +299,7 @@ rules-of k (partialSort p ks n f) e =
       skip = refl;
       count = needed (length ks) (and-left (some ks) (fetchOk f) a);
       width = refl;
-      role =
-          keep (leb 1 n && ltb n (length ks)) (and-right (some ks && fetchOk f) (leb 1 n && ltb n (length ks)) e);
+      role = keep (leb 1 n && ltb n (length ks)) (and-right (some ks && fetchOk f) (leb 1 n && ltb n (length ks)) e);
       options = λ q. no-false q;
       set = refl;
       rest = refl;

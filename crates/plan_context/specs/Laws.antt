@@ -18,7 +18,7 @@ use Rattle.semantics.specs.Facts.{nothing}
 use Rattle.arena.specs.Arena.{slotSize, keptFrom, keptSize, Node, index, marked, slot, held, at as numbered, keptPart, Below, blank}
 use Rattle.arena.specs.Laws.{at-new, at-old, below-at}
 use Rattle.arena.specs.Held.{held-same, length-held}
-use Rattle.plan_context.specs.View.{leaf, forestBy, trees, newest, treeIn, treeOf, forest, summaryIn, Sums, mostNodes, Proper, Holds, Arena, Same, Here}
+use Rattle.plan_context.specs.View.{leaf, forestBy, trees, newest, treeIn, treeOf, forest, summaryIn, Sums, mostNodes, ProperSlot, SettledSlot, Arena, Same, Here}
 
 pub length-trees : (ns : List Node) → length (trees ns) ≡ length ns
 unfolding trees
@@ -58,7 +58,7 @@ unfolding held
 slot-held m m' i e = ap firstOf e
 
 -- a slot with the same node and the same tree is as right
-pub moved-proper : (m m' : List ℕ) (i : ℕ) → slot m' i ≡ slot m i → treeIn m' i ≡ treeIn m i → Proper m i → Proper m' i
+pub moved-proper : (m m' : List ℕ) (i : ℕ) → slot m' i ≡ slot m i → treeIn m' i ≡ treeIn m i → ProperSlot m i → ProperSlot m' i
 moved-proper m m' i s t p = record {
   below = subst (λ n. Below (2 * i) (n .kids)) (sym s) (p .below);
   canon = subst (λ n. n .rec ≡ encode (length (n .kids)) (decode (n .rec))) (sym s) (p .canon);
@@ -66,7 +66,7 @@ moved-proper m m' i s t p = record {
   few = subst (λ x. sizeT x ≤ mostNodes) (sym t) (p .few);
 }
 
-pub moved-holds : (m m' : List ℕ) (i : ℕ) → slot m' i ≡ slot m i → treeIn m' i ≡ treeIn m i → keptPart m' i ≡ keptPart m i → Holds m i → Holds m' i
+pub moved-holds : (m m' : List ℕ) (i : ℕ) → slot m' i ≡ slot m i → treeIn m' i ≡ treeIn m i → keptPart m' i ≡ keptPart m i → SettledSlot m i → SettledSlot m' i
 moved-holds m m' i s t f p = record {
   proper = moved-proper m m' i s t (p .proper);
   facts = subst (λ x. Says (fact x) (loaded (keptPart m' i))) (sym t) (subst (λ x. Says (fact (treeIn m i)) (loaded x)) (sym f) (p .facts));
@@ -92,7 +92,7 @@ module _ (u : ℕ) (m m' : List ℕ) (e : Same u m m') where
   forest-same [] b = refl
   forest-same (h ∷ hs) b = ap₂ plant (tree-same h (b .0)) (forest-same hs (b .1))
 
-  pub holds-same : (i : ℕ) → i < u → Holds m i → Holds m' i
+  pub holds-same : (i : ℕ) → i < u → SettledSlot m i → SettledSlot m' i
   holds-same i h p = moved-holds m m' i (slot-same i h) (in-same i h) (kept-same i h) p
 
 -- ---- handles of an arena

@@ -25,7 +25,7 @@ use Rattle.walks.specs.Marks.{known, node, sizeT}
 use Rattle.walks.specs.theorems.common.Trees.{OkT}
 use Rattle.plan.specs.Forest.{size}
 use Rattle.arena.specs.Arena.{slot, Below}
-use Rattle.plan_context.specs.View.{treeIn, forest, mostNodes, Proper, Over}
+use Rattle.plan_context.specs.View.{treeIn, forest, mostNodes, ProperSlot, Over}
 use Rattle.plan_context.specs.Laws.{length-facts, tree-in}
 use Rattle.plan_context.specs.Facts.{Child}
 
@@ -167,7 +167,7 @@ pub record Seen (m : List ℕ) (i : ℕ) : Type 0 where
   pub long : length (slot m i .rec) ≡ 64
   pub few : length (slot m i .kids) ≤ 8
 
-pub seen : (m : List ℕ) (i : ℕ) → Proper m i → Seen m i
+pub seen : (m : List ℕ) (i : ℕ) → ProperSlot m i → Seen m i
 seen m i h =
     let t = tree-in m i (h .below) in
     let o : OkT (node (decode (slot m i .rec)) false (forest m (slot m i .kids))) = subst OkT t (h .ok) in

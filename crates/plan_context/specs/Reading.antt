@@ -33,7 +33,7 @@ use Rattle.arena.specs.Arena.{slotSize, slot, held}
 use Rattle.arena.specs.Held.{view}
 use Rattle.arena.specs.Laws.{index-even}
 use Rattle.walks.specs.theorems.common.Trees.{ok-of}
-use Rattle.plan_context.specs.View.{treeIn, treeOf, mostSlots, Proper, Arena, Settles, Settled}
+use Rattle.plan_context.specs.View.{treeIn, treeOf, mostSlots, ProperSlot, Arena, Settles, Settled}
 use Rattle.plan_context.specs.Laws.{fewer, slot-held, moved-proper}
 use Rattle.plan_context.specs.Settling.{in-held, settled-arena, settled-nodes}
 use Rattle.plan_context.specs.Facts.{size-strip}
@@ -43,7 +43,7 @@ use Rattle.plan_context.specs.Records.{planT, views}
 pub record Loaded (m : List ℕ) (u : ℕ) : Type 0 where
   pub slots : u * slotSize ≤ length m
   pub small : u ≤ mostSlots
-  pub proper : (i : ℕ) → i < u → Proper m i
+  pub proper : (i : ℕ) → i < u → ProperSlot m i
 
 -- ---- slot after slot
 

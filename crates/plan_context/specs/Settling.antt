@@ -29,12 +29,12 @@ use Rattle.node_facts.specs.Rules.{few, small}
 use Rattle.node_facts.specs.Kinds.{source-set, source-says}
 use Rattle.node_facts.specs.Wants.{no-want}
 use Rattle.row_facts.specs.Rows.{loaded-kept}
-use Rattle.row_facts.specs.Over.{Over as Rows}
+use Rattle.row_facts.specs.Over.{OverRows as Rows}
 use Rattle.walks.specs.Marks.{known, node, fact}
 use Rattle.arena.specs.Arena.{slotSize, keptFrom, keptSize, index, marked, slot, held, keptPart}
 use Rattle.arena.specs.Keeping.{withKept, kept-front, slot-kept, held-kept, kept-here, kept-long}
 use Rattle.plan_context.specs.declared.Summary.{Summary}
-use Rattle.plan_context.specs.View.{newest, trees, treeIn, treeOf, forest, summaryIn, Sums, Holds, Arena, Same, Here, Over, Settles, Settled}
+use Rattle.plan_context.specs.View.{newest, trees, treeIn, treeOf, forest, summaryIn, Sums, SettledSlot, Arena, Same, Here, Over, Settles, Settled}
 use Rattle.plan_context.specs.Laws.{theres, holds-same, moved-proper}
 use Rattle.plan_context.specs.Facts.{Shows, shows, usable-of, Child, child-is, coded-nothing, nothing-usable, no-child}
 use Rattle.plan_context.specs.Summaries.{sums-mark, SumsEach, own, own-sums}
@@ -76,7 +76,7 @@ module _ (m : List ℕ) (i : ℕ) (s : Settles m i) where
     abbrev m' : List ℕ
     m' = withKept m i b
 
-    stored : Holds (withKept m i b) i
+    stored : SettledSlot (withKept m i b) i
     stored =
         let t : treeIn m' i ≡ treeIn m i = in-held m m' i (held-kept m i b (s .room) l (suc i)) in
         let u = t ∙ shown .tree in
@@ -136,8 +136,8 @@ module _ (m : List ℕ) (i : ℕ) (s : Settles m i) (m' : List ℕ) (d : Settled
         let r = s .room in let w = s .small in
         record { slots = omega arith; small = omega arith; all = λ j h. go j h (ℕ-discrete j i) }
       where
-        go : (j : ℕ) → j < i + 1 → Dec (j ≡ i) → Holds m' j
-        go j h (yes e) = subst (Holds m') (sym e) (d .holds)
+        go : (j : ℕ) → j < i + 1 → Dec (j ≡ i) → SettledSlot m' j
+        go j h (yes e) = subst (SettledSlot m') (sym e) (d .holds)
         go j h (no n) = let g : j < i = omega arith in holds-same i m m' settled-front j g (s .arena .all j g)
 
     pub settled-tree : treeIn m' i ≡ treeIn m i

@@ -81,15 +81,15 @@ abbrev pub mostNodes : ℕ
 mostNodes = 1023
 
 -- with its record and its children: they are those of a plan's node
-pub record Proper (m : List ℕ) (i : ℕ) : Type 0 where
+pub record ProperSlot (m : List ℕ) (i : ℕ) : Type 0 where
   pub below : Below (2 * i) (slot m i .kids)
   pub canon : slot m i .rec ≡ encode (length (slot m i .kids)) (decode (slot m i .rec))
   pub ok : OkT (treeIn m i)
   pub few : sizeT (treeIn m i) ≤ mostNodes
 
 -- and with what it keeps
-pub record Holds (m : List ℕ) (i : ℕ) : Type 0 where
-  pub proper : Proper m i
+pub record SettledSlot (m : List ℕ) (i : ℕ) : Type 0 where
+  pub proper : ProperSlot m i
   pub facts : Says (fact (treeIn m i)) (loaded (keptPart m i))
   pub summary : Sums (treeIn m i) (summaryIn (keptPart m i))
 
@@ -101,7 +101,7 @@ mostSlots = 32768
 pub record Arena (m : List ℕ) (u : ℕ) : Type 0 where
   pub slots : u * slotSize ≤ length m
   pub small : u ≤ mostSlots
-  pub all : (i : ℕ) → i < u → Holds m i
+  pub all : (i : ℕ) → i < u → SettledSlot m i
 
 -- ---- what functions ask and leave
 
@@ -121,7 +121,7 @@ pub record Grown (m : List ℕ) (u : ℕ) (m' : List ℕ) (r : At) (t : Tree) (t
 -- A handle whose slot is there
 pub record Here (m : List ℕ) (h : ℕ) : Type 0 where
   pub slot : (index h + 1) * slotSize ≤ length m
-  pub holds : Holds m (index h)
+  pub holds : SettledSlot m (index h)
 
 -- A record over children, as a plan has it
 pub record Over (m r ks : List ℕ) : Type 0 where
@@ -145,9 +145,9 @@ pub record Settles (m : List ℕ) (i : ℕ) : Type 0 where
   pub arena : Arena m i
   pub room : (i + 1) * slotSize ≤ length m
   pub small : i < mostSlots
-  pub proper : Proper m i
+  pub proper : ProperSlot m i
 
 -- and what it leaves: all bytes but those kept of node i stay
 pub record Settled (m : List ℕ) (i : ℕ) (m' : List ℕ) : Type 0 where
-  pub holds : Holds m' i
+  pub holds : SettledSlot m' i
   pub rest : m' ≡ withKept m i (keptPart m' i)

@@ -29,7 +29,7 @@ ghost use Rattle.semantics.specs.Facts as sem;
 ghost use Rattle.facts.specs.Known.{known as told, Coherent, Says};
 ghost use Rattle.fact_slots.specs.Slots.{loaded};
 ghost use Rattle.node_facts.specs.Ready.{kidsOf};
-ghost use Rattle.row_facts.specs.Over.{Over as Rows};
+ghost use Rattle.row_facts.specs.Over.{OverRows as Rows};
 ghost use Rattle.walks.specs.Marks.{known};
 ghost use Rattle.arena.specs.Arena.{keptSize, slot, held};
 ghost use Rattle.plan_context.specs.Reading.{Loaded};

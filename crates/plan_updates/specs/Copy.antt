@@ -21,7 +21,7 @@ use Rattle.walks.specs.Terms.{_⊕_}
 use Rattle.arena.specs.Arena.{slotSize, index, marked, slot, keptPart, Below}
 use Rattle.arena.specs.declared.At.{At}
 use Rattle.arena.specs.Laws.{below-at}
-use Rattle.plan_context.specs.View.{treeIn, treeOf, forest, summaryIn, mostNodes, mostSlots, Sums, Holds, Arena, Grown, Puts}
+use Rattle.plan_context.specs.View.{treeIn, treeOf, forest, summaryIn, mostNodes, mostSlots, Sums, SettledSlot, Arena, Grown, Puts}
 use Rattle.plan_context.specs.Laws.{same-trans}
 use Rattle.plan_context.specs.Nodes.{Seen}
 use Rattle.plan_updates.specs.Kids.{Kids, kids-none, kids-more, kids-forest}
@@ -110,7 +110,7 @@ module _ (a : List ℕ) (ua h : ℕ) (b₀ : List ℕ) (v : ℕ) (c : Copies a u
         }
 
     -- what was kept is kept
-    here-held : Holds a (index h)
+    here-held : SettledSlot a (index h)
     here-held = let l = c .here in c .from .all (index h) (omega arith)
 
     pub copied-says : Says (factsOp (decode (slot a (index h) .rec)) (known (forest b (take n kids)))) (loaded (keptPart a (index h)))

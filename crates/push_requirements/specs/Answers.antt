@@ -13,31 +13,31 @@ use Rattle.key_lists.specs.Keys.{keysIn, keysOf, orderOf, Real, Ordered}
 use Rattle.walks.specs.SortPushdown as walk
 use Rattle.push_requirements.specs.declared.Pushed.{Pushed}
 use Rattle.push_requirements.specs.declared.Pushed.the-variants.{Stop}
-use Rattle.push_requirements.specs.Pushing.{orderBy, Going, Pushes}
+use Rattle.push_requirements.specs.Pushing.{orderBy, Handed, HandsOn}
 
 -- ---- going and stopping
 
-pub go-stop : (m : ℕ) (b : Bool) (g : ℕ → List Key) → b ≡ false → Pushes m (walk.goIf b g) Stop
-go-stop m b g e = subst⁻¹ (λ x. Pushes m (walk.goIf x g) Stop) e tt
+pub go-stop : (m : ℕ) (b : Bool) (g : ℕ → List Key) → b ≡ false → HandsOn m (walk.goIf b g) Stop
+go-stop m b g e = subst⁻¹ (λ x. HandsOn m (walk.goIf x g) Stop) e tt
 
-pub go-on : (m : ℕ) (b : Bool) (g : ℕ → List Key) (p : Pushed) → b ≡ true → Pushes m (walk.goes g) p → Pushes m (walk.goIf b g) p
-go-on m b g p e h = subst⁻¹ (λ x. Pushes m (walk.goIf x g) p) e h
+pub go-on : (m : ℕ) (b : Bool) (g : ℕ → List Key) (p : Pushed) → b ≡ true → HandsOn m (walk.goes g) p → HandsOn m (walk.goIf b g) p
+go-on m b g p e h = subst⁻¹ (λ x. HandsOn m (walk.goIf x g) p) e h
 
-pub cond-yes : (m : ℕ) (b : Bool) (P Q : walk.Pushed) (p : Pushed) → b ≡ true → Pushes m P p → Pushes m (cond b P Q) p
-cond-yes m b P Q p e h = subst⁻¹ (λ x. Pushes m (cond x P Q) p) e h
+pub cond-yes : (m : ℕ) (b : Bool) (P Q : walk.Pushed) (p : Pushed) → b ≡ true → HandsOn m P p → HandsOn m (cond b P Q) p
+cond-yes m b P Q p e h = subst⁻¹ (λ x. HandsOn m (cond x P Q) p) e h
 
-pub cond-no : (m : ℕ) (b : Bool) (P Q : walk.Pushed) (p : Pushed) → b ≡ false → Pushes m Q p → Pushes m (cond b P Q) p
-cond-no m b P Q p e h = subst⁻¹ (λ x. Pushes m (cond x P Q) p) e h
+pub cond-no : (m : ℕ) (b : Bool) (P Q : walk.Pushed) (p : Pushed) → b ≡ false → HandsOn m Q p → HandsOn m (cond b P Q) p
+cond-no m b P Q p e h = subst⁻¹ (λ x. HandsOn m (cond x P Q) p) e h
 
 -- one order for all children
-pub alike : (m : ℕ) (ks : List Key) (x : Order) → Ordered ks x → Going m (λ i. ks) x x
+pub alike : (m : ℕ) (ks : List Key) (x : Order) → Ordered ks x → Handed m (λ i. ks) x x
 alike m ks x h = record { is = at; first = h .real; rest = h .real }
   where
     at : (i : ℕ) → i < m → orderBy x x i ≡ ks
     at zero l = h .is
     at (suc i) l = h .is
 
-pub right-only : (m : ℕ) (ks : List Key) (y : Order) → Ordered ks y → Going m (walk.onRight ks) Unordered y
+pub right-only : (m : ℕ) (ks : List Key) (y : Order) → Ordered ks y → Handed m (walk.onRight ks) Unordered y
 right-only m ks y h = record { is = at; first = tt; rest = h .real }
   where
     at : (i : ℕ) → i < m → orderBy Unordered y i ≡ walk.onRight ks i
@@ -46,7 +46,7 @@ right-only m ks y h = record { is = at; first = tt; rest = h .real }
 
 -- two children of a join
 module _ (ks : List Key) (w : ℕ → List Key) (x y : Order) where
-  pub to-left : Ordered ks x → Ordered (w 1) y → Going 2 (walk.sideOrder 0 ks w) x y
+  pub to-left : Ordered ks x → Ordered (w 1) y → Handed 2 (walk.sideOrder 0 ks w) x y
   to-left d f = record { is = at; first = d .real; rest = f .real }
     where
       at : (i : ℕ) → i < 2 → orderBy x y i ≡ walk.sideOrder 0 ks w i
@@ -54,7 +54,7 @@ module _ (ks : List Key) (w : ℕ → List Key) (x y : Order) where
       at (suc zero) l = f .is
       at (suc (suc i)) l = absurd (omega arith)
 
-  pub to-right : Ordered (w 0) x → Ordered ks y → Going 2 (walk.sideOrder 1 ks w) x y
+  pub to-right : Ordered (w 0) x → Ordered ks y → Handed 2 (walk.sideOrder 1 ks w) x y
   to-right d f = record { is = at; first = d .real; rest = f .real }
     where
       at : (i : ℕ) → i < 2 → orderBy x y i ≡ walk.sideOrder 1 ks w i
@@ -107,7 +107,7 @@ order-allows-some F ps o k h e x d = d ∙ ap (compatible F ps) (by-is (knownOrd
     ∙ sym (ap (λ b. b || compatible F ps (knownOrder F)) (by-some (knownOrder F) o k h e))
 
 -- a merge that knows no order, or one
-pub merge-stop : (F : Facts) (ps : List Key) (o : Order) (m : ℕ) → Ordered (knownOrder F) o → o ≡ Unordered → Pushes m (walk.handleMerge F ps) Stop
+pub merge-stop : (F : Facts) (ps : List Key) (o : Order) (m : ℕ) → Ordered (knownOrder F) o → o ≡ Unordered → HandsOn m (walk.handleMerge F ps) Stop
 merge-stop F ps o m h e = go-stop m _ _ (and-no (not (isNil (knownOrder F))) _ (ap not (none-in (knownOrder F) o h e)))
 
 module _ (F : Facts) (ps : List Key) (o : Order) (k : Keys) (m : ℕ) (h : Ordered (knownOrder F) o) (e : o ≡ By k) (x : Bool)
@@ -116,8 +116,8 @@ module _ (F : Facts) (ps : List Key) (o : Order) (k : Keys) (m : ℕ) (h : Order
   merge-test = and-so (not (isNil (knownOrder F))) _ (ap not (by-some (knownOrder F) o k h e))
       ∙ sym (d ∙ ap (compatible F ps) (by-is (knownOrder F) o k h e))
 
-  pub merge-goes : x ≡ true → (p : Pushed) → Pushes m (walk.goes (λ i. ps)) p → Pushes m (walk.handleMerge F ps) p
+  pub merge-goes : x ≡ true → (p : Pushed) → HandsOn m (walk.goes (λ i. ps)) p → HandsOn m (walk.handleMerge F ps) p
   merge-goes f p g = go-on m _ _ p (merge-test ∙ f) g
 
-  pub merge-differs : x ≡ false → Pushes m (walk.handleMerge F ps) Stop
+  pub merge-differs : x ≡ false → HandsOn m (walk.handleMerge F ps) Stop
   merge-differs f = go-stop m _ _ (merge-test ∙ f)

@@ -28,7 +28,7 @@ use Rattle.node_properties.specs.Nodes.{Among}
 use Rattle.walks.specs.SortPushdown as walk
 use Rattle.walks.specs.theorems.common.Keeps.{remark-same}
 use Rattle.push_requirements.specs.declared.Pushed.{Pushed}
-use Rattle.push_requirements.specs.Pushing.{Pushes, Seen}
+use Rattle.push_requirements.specs.Pushing.{HandsOn, SeenNode}
 use Rattle.push_requirements.specs.Answers.{none-in, by-is, by-some}
 
 -- ---- pushdown_would_violate_requirements, of one child
@@ -55,38 +55,38 @@ two-at-least : (m : ℕ) → eqb m 2 ≡ true → 1 < m
 two-at-least m e = let x = eqb-true m 2 e in omega arith
 
 module _ (r : List ℕ) (fs : List Facts) (m : ℕ) (ps : List Key) (p : Pushed) where
-  pub by-kind : (k : Kind) → kindOf (getD r 0 0) ≡ k → Pushes m (walk.pushByKind (operatorOf k (fromBytes r)) fs ps) p
-      → Pushes m (walk.pushByKind (decode r) fs ps) p
-  by-kind k e h = subst⁻¹ (λ o. Pushes m (walk.pushByKind o fs ps) p) (op-of r k e) h
+  pub by-kind : (k : Kind) → kindOf (getD r 0 0) ≡ k → HandsOn m (walk.pushByKind (operatorOf k (fromBytes r)) fs ps) p
+      → HandsOn m (walk.pushByKind (decode r) fs ps) p
+  by-kind k e h = subst⁻¹ (λ o. HandsOn m (walk.pushByKind o fs ps) p) (op-of r k e) h
 
-  module _ (o : Op) (F L R : Facts) (s : Seen (decode r) o fs m F L R) where
+  module _ (o : Op) (F L R : Facts) (s : SeenNode (decode r) o fs m F L R) where
     count-of : (n : Op) → decode r ≡ n → childrenOk n m ≡ true
     count-of n e = sym (ap (λ x. childrenOk x m) e) ∙ s .count
 
     facts-of : (n : Op) → decode r ≡ n → F ≡ factsOp n fs
     facts-of n e = s .facts ∙ ap (λ x. factsOp x fs) e
 
-    pub by-sort : kindOf (getD r 0 0) ≡ Sort → Pushes m (walk.goIf (compatible L ps (fromBytes r .keys)) (λ i. ps)) p
-        → Pushes m (walk.pushByKind (decode r) fs ps) p
-    by-sort e h = by-kind Sort e (subst (λ G. Pushes m (walk.goIf (compatible G ps (fromBytes r .keys)) (λ i. ps)) p)
+    pub by-sort : kindOf (getD r 0 0) ≡ Sort → HandsOn m (walk.goIf (compatible L ps (fromBytes r .keys)) (λ i. ps)) p
+        → HandsOn m (walk.pushByKind (decode r) fs ps) p
+    by-sort e h = by-kind Sort e (subst (λ G. HandsOn m (walk.goIf (compatible G ps (fromBytes r .keys)) (λ i. ps)) p)
         (s .first (one-at-least m (count-of _ (op-of r Sort e)))) h)
 
-    pub by-merge : kindOf (getD r 0 0) ≡ Merge → Pushes m (cond (walk.pushdownWouldViolateRequirements (decode r) 1 ps) walk.stop (walk.handleMerge F ps)) p
-        → Pushes m (walk.pushByKind (decode r) fs ps) p
+    pub by-merge : kindOf (getD r 0 0) ≡ Merge → HandsOn m (cond (walk.pushdownWouldViolateRequirements (decode r) 1 ps) walk.stop (walk.handleMerge F ps)) p
+        → HandsOn m (walk.pushByKind (decode r) fs ps) p
     by-merge e h =
         by-kind Merge e
-        (subst (λ n. Pushes m (cond (walk.pushdownWouldViolateRequirements n 1 ps) walk.stop (walk.handleMerge (factsOp n fs) ps)) p) (op-of r Merge e)
-        (subst (λ G. Pushes m (cond (walk.pushdownWouldViolateRequirements (decode r) 1 ps) walk.stop (walk.handleMerge G ps)) p) (s .facts) h))
+        (subst (λ n. HandsOn m (cond (walk.pushdownWouldViolateRequirements n 1 ps) walk.stop (walk.handleMerge (factsOp n fs) ps)) p) (op-of r Merge e)
+        (subst (λ G. HandsOn m (cond (walk.pushdownWouldViolateRequirements (decode r) 1 ps) walk.stop (walk.handleMerge G ps)) p) (s .facts) h))
 
     pub by-requirement : kindOf (getD r 0 0) ≡ OutputRequirement
-        → Pushes m (cond (walk.pushdownWouldViolateRequirements (decode r) 1 ps) walk.stop (walk.handleCustomPushdown ps)) p
-        → Pushes m (walk.pushByKind (decode r) fs ps) p
+        → HandsOn m (cond (walk.pushdownWouldViolateRequirements (decode r) 1 ps) walk.stop (walk.handleCustomPushdown ps)) p
+        → HandsOn m (walk.pushByKind (decode r) fs ps) p
     by-requirement e h = by-kind OutputRequirement e
-        (subst (λ n. Pushes m (cond (walk.pushdownWouldViolateRequirements n 1 ps) walk.stop (walk.handleCustomPushdown ps)) p)
+        (subst (λ n. HandsOn m (cond (walk.pushdownWouldViolateRequirements n 1 ps) walk.stop (walk.handleCustomPushdown ps)) p)
         (op-of r OutputRequirement e) h)
 
     pub by-join : (t : JoinType) → decode r ≡ sortMergeJoin t (pairsOf r)
-        → Pushes 2 (walk.pushToSide (decode r) t F L R ps (walk.exprSourceSide F ps t (L .width))) p → Pushes m (walk.pushByKind (decode r) fs ps) p
+        → HandsOn 2 (walk.pushToSide (decode r) t F L R ps (walk.exprSourceSide F ps t (L .width))) p → HandsOn m (walk.pushByKind (decode r) fs ps) p
     by-join t e h =
         let n : Op = sortMergeJoin t (pairsOf r) in
         let c : childrenOk n m ≡ true = count-of n e in
@@ -94,19 +94,19 @@ module _ (r : List ℕ) (fs : List Facts) (m : ℕ) (ps : List Key) (p : Pushed)
         let i : G (decode r) F L R ≡ G n (factsOp n fs) (at0 fs) (at1 fs) =
         ap₂ (λ n F. G n F L R) e (facts-of n e) ∙ ap₂ (G n (factsOp n fs)) (s .first (let z = two-at-least m c in omega arith))
         (s .second (two-at-least m c)) in
-        subst⁻¹ (λ o. Pushes m (walk.pushByKind o fs ps) p) e (subst (λ j. Pushes j (G n (factsOp n fs) (at0 fs) (at1 fs)) p) (sym (eqb-true m 2 c))
-        (subst (λ P. Pushes 2 P p) i h))
+        subst⁻¹ (λ o. HandsOn m (walk.pushByKind o fs ps) p) e (subst (λ j. HandsOn j (G n (factsOp n fs) (at0 fs) (at1 fs)) p) (sym (eqb-true m 2 c))
+        (subst (λ P. HandsOn 2 P p) i h))
 
     pub by-hash : (t : JoinType) → decode r ≡ hashJoin t (pairsOf r) → (x y : ℕ) → x ≡ F .width → y ≡ R .width
-        → Pushes m (walk.goIf (keptSide (hashKept t) 1 && every (λ k. leb (x - y) (k .col)) ps)
-        (walk.onRight (walk.addOffsetToPhysicalSortExprs (x - y) ps))) p → Pushes m (walk.pushByKind (decode r) fs ps) p
+        → HandsOn m (walk.goIf (keptSide (hashKept t) 1 && every (λ k. leb (x - y) (k .col)) ps)
+        (walk.onRight (walk.addOffsetToPhysicalSortExprs (x - y) ps))) p → HandsOn m (walk.pushByKind (decode r) fs ps) p
     by-hash t e x y ex ey h =
         let n : Op = hashJoin t (pairsOf r) in
         let G : ℕ → ℕ → walk.Pushed = λ u v. walk.goIf (keptSide (hashKept t) 1 && every (λ k. leb (u - v) (k .col)) ps)
         (walk.onRight (walk.addOffsetToPhysicalSortExprs (u - v) ps)) in
         let i : G x y ≡ G (factsOp n fs .width) (at1 fs .width) = ap₂ G (ex ∙ ap (λ H. H .width) (facts-of n e))
         (ey ∙ ap (λ H. H .width) (s .second (two-at-least m (count-of n e)))) in
-        subst⁻¹ (λ o. Pushes m (walk.pushByKind o fs ps) p) e (subst (λ P. Pushes m P p) i h)
+        subst⁻¹ (λ o. HandsOn m (walk.pushByKind o fs ps) p) e (subst (λ P. HandsOn m P p) i h)
 
 -- ---- through an operator with a fetch
 
@@ -139,7 +139,7 @@ through-is (hashJoin t on) fs ts m l c f e b h = refl
 through-is (outputRequirement ks d g) fs ts m l c f e b h = refl
 through-is (partialSort p ks k g) fs ts m l c f e b h = refl
 
-pub first-among : (n o : Op) (fs : List Facts) (m : ℕ) (F L R : Facts) → Seen n o fs m F L R → 0 < length fs → Among n fs 0 F L
+pub first-among : (n o : Op) (fs : List Facts) (m : ℕ) (F L R : Facts) → SeenNode n o fs m F L R → 0 < length fs → Among n fs 0 F L
 first-among n o fs m F L R s h =
     let l = s .long in
     record { own = s .facts; child = s .first (omega arith) ∙ first fs; low = h; count = subst⁻¹ (λ j. childrenOk n j ≡ true) l (s .count) }
@@ -149,7 +149,7 @@ first-among n o fs m F L R s h =
     first (G ∷ gs) = refl
 
 -- ---- the mark of a repartition is not asked
-module _ (n o : Op) (fs : List Facts) (m : ℕ) (F L R : Facts) (s : Seen n o fs m F L R) (ts : List Fetch) (limit : Fetch) (e : limit ≡ fetchOp o ts) where
+module _ (n o : Op) (fs : List Facts) (m : ℕ) (F L R : Facts) (s : SeenNode n o fs m F L R) (ts : List Fetch) (limit : Fetch) (e : limit ≡ fetchOp o ts) where
   pub limit-of : limit ≡ fetchOp n ts
   limit-of = e ∙ ap (λ x. fetchOp x ts) (s .like) ∙ remark-same (λ x. fetchOp x ts) (s .mark) (λ p q k h ks. refl) n
 
@@ -157,8 +157,8 @@ module _ (n o : Op) (fs : List Facts) (m : ℕ) (F L R : Facts) (s : Seen n o fs
     abbrev asks : Op → Fetch → walk.Pushed
     asks x l = walk.pushdownRequirementToChildren x l m fs ps f
 
-    pub of-like : Pushes m (walk.pushdownRequirementToChildren n limit m fs ps f) p → Pushes m (walk.pushdownRequirementToChildren o limit m fs ps f) p
+    pub of-like : HandsOn m (walk.pushdownRequirementToChildren n limit m fs ps f) p → HandsOn m (walk.pushdownRequirementToChildren o limit m fs ps f) p
     of-like h =
-        subst (λ P. Pushes m P p)
+        subst (λ P. HandsOn m P p)
         (ap (asks n) limit-of ∙ sym (remark-same (λ x. asks x (fetchOp x ts)) (s .mark) (λ p q k h ks. refl) n)
         ∙ sym (ap (λ x. asks x (fetchOp x ts)) (s .like)) ∙ sym (ap (asks o) e)) h

@@ -27,7 +27,7 @@ use Rattle.join_sides.specs.Room.{Room, side-room, right-wide}
 use Rattle.walks.specs.SortPushdown as walk
 use Rattle.push_requirements.specs.declared.Pushed.{Pushed}
 use Rattle.push_requirements.specs.declared.Pushed.the-variants.{Stop, Goes}
-use Rattle.push_requirements.specs.Pushing.{Pushes, JoinRows}
+use Rattle.push_requirements.specs.Pushing.{HandsOn, JoinRows}
 use Rattle.push_requirements.specs.Answers.{go-stop, go-on, and-no, and-so, and-last, to-left, to-right}
 
 drop-keep : (P : Key → Type 0) (seen : List ℕ) (k : Key) (ks : List Key) (b : Bool) → P k → All P (dropRepeats seen ks)
@@ -88,26 +88,26 @@ module _ (t : JoinType) (r own a b : List ℕ) (j : JoinRows t r own a b) (paren
 
   -- the side does not meet what the join wants of it
   module _ (ws : List Key) (x : Bool) where
-    pub left-unmet : ws ≡ wanted (decode r) 0 → x ≡ compatible (told a) (keysOf keys) ws → x ≡ false → Pushes 2 (tries 0) Stop
+    pub left-unmet : ws ≡ wanted (decode r) 0 → x ≡ compatible (told a) (keysOf keys) ws → x ≡ false → HandsOn 2 (tries 0) Stop
     left-unmet e h f = go-stop 2 _ _ (and-no (compatible (told a) ks (wanted (decode r) 0)) _ (sym (h ∙ ap (compatible (told a) ks) e) ∙ f))
 
-    pub right-unmet : ws ≡ wanted (decode r) 1 → x ≡ compatible (told b) (keysOf keys) ws → x ≡ false → Pushes 2 (tries 1) Stop
+    pub right-unmet : ws ≡ wanted (decode r) 1 → x ≡ compatible (told b) (keysOf keys) ws → x ≡ false → HandsOn 2 (tries 1) Stop
     right-unmet e h f = go-stop 2 _ _ (and-no (compatible (told b) ks (wanted (decode r) 1)) _ (sym (h ∙ ap (compatible (told b) ks) e) ∙ f))
 
     -- it does; y: the join then meets what is required of it
     module _ (n : Keys) (y : Bool) (hy : y ≡ met (walk.reorderTo (told own) (keysOf n)) (keysOf parent)) where
-      pub left-lost : keysOf n ≡ walk.newOutputOrdering t (told a) (told b) (keysOf keys) 0 → y ≡ false → Pushes 2 (tries 0) Stop
+      pub left-lost : keysOf n ≡ walk.newOutputOrdering t (told a) (told b) (keysOf keys) 0 → y ≡ false → HandsOn 2 (tries 0) Stop
       left-lost e f = go-stop 2 _ _
           (and-last (compatible (told a) ks (wanted (decode r) 0)) _ (sym (hy ∙ ap (λ l. met (walk.reorderTo (told own) l) (keysOf parent)) e) ∙ f))
 
-      pub right-lost : keysOf n ≡ walk.newOutputOrdering t (told a) (told b) (keysOf keys) 1 → y ≡ false → Pushes 2 (tries 1) Stop
+      pub right-lost : keysOf n ≡ walk.newOutputOrdering t (told a) (told b) (keysOf keys) 1 → y ≡ false → HandsOn 2 (tries 1) Stop
       right-lost e f = go-stop 2 _ _
           (and-last (compatible (told b) ks (wanted (decode r) 1)) _ (sym (hy ∙ ap (λ l. met (walk.reorderTo (told own) l) (keysOf parent)) e) ∙ f))
 
       module _ (d : Keys) (kd : Keyed (dropRepeats [] (keysOf keys)) d) (p q : Order) where
         pub left-goes : ws ≡ wanted (decode r) 0 → x ≡ compatible (told a) (keysOf keys) ws → x ≡ true → keysOf n ≡ walk.newOutputOrdering t (told a)
             (told b) (keysOf keys) 0 → y ≡ true
-            → Ordered (keysOf d) p → Ordered (wanted (decode r) 1) q → Pushes 2 (tries 0) (Goes p q)
+            → Ordered (keysOf d) p → Ordered (wanted (decode r) 1) q → HandsOn 2 (tries 0) (Goes p q)
         left-goes e h f i g op oq =
             go-on 2 _ _ (Goes p q)
             (and-so (compatible (told a) ks (wanted (decode r) 0)) _ (sym (h ∙ ap (compatible (told a) ks) e) ∙ f)
@@ -116,7 +116,7 @@ module _ (t : JoinType) (r own a b : List ℕ) (j : JoinRows t r own a b) (paren
 
         pub right-goes : ws ≡ wanted (decode r) 1 → x ≡ compatible (told b) (keysOf keys) ws → x ≡ true → keysOf n ≡ walk.newOutputOrdering t (told a)
             (told b) (keysOf keys) 1 → y ≡ true
-            → Ordered (wanted (decode r) 0) p → Ordered (keysOf d) q → Pushes 2 (tries 1) (Goes p q)
+            → Ordered (wanted (decode r) 0) p → Ordered (keysOf d) q → HandsOn 2 (tries 1) (Goes p q)
         right-goes e h f i g op oq =
             go-on 2 _ _ (Goes p q)
             (and-so (compatible (told b) ks (wanted (decode r) 1)) _ (sym (h ∙ ap (compatible (told b) ks) e) ∙ f)
@@ -169,9 +169,9 @@ module _ (t : JoinType) (r own a b : List ℕ) (j : JoinRows t r own a b) (paren
     left-keys e = let x = subst (SideIs S) e at-side in (left-few S k x, subst⁻¹ (Room (told a .width) off (told b .width)) (left-is S k x) room)
 
     pub pushed-left : s ≡ side.Left k → (p : Pushed)
-        → Pushes 2 (walk.tryPushdownRequirementsToJoin (decode r) t (told own) (told a) (told b) (keysOf parent) (keysOf k) 0) p
-        → Pushes 2 (walk.pushToSide (decode r) t (told own) (told a) (told b) (keysOf parent) S) p
-    pushed-left e p g = subst (λ x. Pushes 2 (walk.pushToSide (decode r) t (told own) (told a) (told b) (keysOf parent) x) p)
+        → HandsOn 2 (walk.tryPushdownRequirementsToJoin (decode r) t (told own) (told a) (told b) (keysOf parent) (keysOf k) 0) p
+        → HandsOn 2 (walk.pushToSide (decode r) t (told own) (told a) (told b) (keysOf parent) S) p
+    pushed-left e p g = subst (λ x. HandsOn 2 (walk.pushToSide (decode r) t (told own) (told a) (told b) (keysOf parent) x) p)
         (left-is S k (subst (SideIs S) e at-side)) g
 
     right-all : s ≡ side.Right k → All (λ k. (off ≤ k .col) × (k .col - off < told b .width)) (keysOf k)
@@ -193,16 +193,16 @@ module _ (t : JoinType) (r own a b : List ℕ) (j : JoinRows t r own a b) (paren
         pub right-inside : (q .len ≤ 8) × All (λ k. k .col < told b .width) (keysOf q)
         right-inside = (kq .few, subst⁻¹ (All (λ k. k .col < told b .width)) back-is (all-over (walk.atColumn (λ c. c - off)) (λ k p. p .1) (right-all e)))
 
-        pub pushed-right : (p : Pushed) → Pushes 2 (walk.tryPushdownRequirementsToJoin (decode r) t (told own) (told a) (told b) (keysOf parent)
+        pub pushed-right : (p : Pushed) → HandsOn 2 (walk.tryPushdownRequirementsToJoin (decode r) t (told own) (told a) (told b) (keysOf parent)
             (keysOf q) 1) p
-            → Pushes 2 (walk.pushToSide (decode r) t (told own) (told a) (told b) (keysOf parent) S) p
+            → HandsOn 2 (walk.pushToSide (decode r) t (told own) (told a) (told b) (keysOf parent) S) p
         pushed-right p g =
-            subst (λ x. Pushes 2 (walk.pushToSide (decode r) t (told own) (told a) (told b) (keysOf parent) x) p)
+            subst (λ x. HandsOn 2 (walk.pushToSide (decode r) t (told own) (told a) (told b) (keysOf parent) x) p)
             (right-is S k (subst (SideIs S) e at-side))
-            (subst (λ l. Pushes 2 (walk.tryPushdownRequirementsToJoin (decode r) t (told own) (told a) (told b) (keysOf parent) l 1) p) back-is g)
+            (subst (λ l. HandsOn 2 (walk.tryPushdownRequirementsToJoin (decode r) t (told own) (told a) (told b) (keysOf parent) l 1) p) back-is g)
 
-  pub pushed-neither : s ≡ side.Neither → Pushes 2 (walk.pushToSide (decode r) t (told own) (told a) (told b) (keysOf parent) S) Stop
-  pushed-neither e = subst (λ x. Pushes 2 (walk.pushToSide (decode r) t (told own) (told a) (told b) (keysOf parent) x) Stop)
+  pub pushed-neither : s ≡ side.Neither → HandsOn 2 (walk.pushToSide (decode r) t (told own) (told a) (told b) (keysOf parent) S) Stop
+  pushed-neither e = subst (λ x. HandsOn 2 (walk.pushToSide (decode r) t (told own) (told a) (told b) (keysOf parent) x) Stop)
       (neither-is S (subst (SideIs S) e at-side)) tt
 
 -- where a hash join keeps its right side, its columns are the last

@@ -39,17 +39,17 @@ orderBy a b zero = orderOf a
 orderBy a b (suc i) = orderOf b
 
 -- They are the orders g for m children
-pub record Going (m : ℕ) (g : ℕ → List Key) (a b : Order) : Type 0 where
+pub record Handed (m : ℕ) (g : ℕ → List Key) (a b : Order) : Type 0 where
   pub is : (i : ℕ) → i < m → orderBy a b i ≡ g i
   pub first : Real a
   pub rest : Real b
 
 -- The answer says what goes to m children
-abbrev pub Pushes : ℕ → walk.Pushed → Pushed → Type 0
-Pushes m walk.stop Stop = Unit {0}
-Pushes m walk.stop (Goes a b) = ⊥
-Pushes m (walk.goes g) Stop = ⊥
-Pushes m (walk.goes g) (Goes a b) = Going m g a b
+abbrev pub HandsOn : ℕ → walk.Pushed → Pushed → Type 0
+HandsOn m walk.stop Stop = Unit {0}
+HandsOn m walk.stop (Goes a b) = ⊥
+HandsOn m (walk.goes g) Stop = ⊥
+HandsOn m (walk.goes g) (Goes a b) = Handed m g a b
 
 -- A join of type t with the record r and the facts own, over a and b
 pub record JoinRows (t : JoinType) (r own a b : List ℕ) : Type 0 where
@@ -72,7 +72,7 @@ pub record Asked (r own a b : List ℕ) (parent : Keys) : Type 0 where
   pub hashed : (t : JoinType) → decode r ≡ hashJoin t (pairsOf r) → told own .width ≡ joinWidth t (told a .width) (told b .width)
 
 -- The node o, which is n but for the mark of a repartition: its facts F, those of its m children fs, the first of them L, the second R
-pub record Seen (n o : Op) (fs : List Facts) (m : ℕ) (F L R : Facts) : Type 0 where
+pub record SeenNode (n o : Op) (fs : List Facts) (m : ℕ) (F L R : Facts) : Type 0 where
   pub mark : Bool → Bool
   pub like : o ≡ remark mark n
   pub facts : F ≡ factsOp n fs

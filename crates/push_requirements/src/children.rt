@@ -38,7 +38,7 @@ ghost use Rattle.semantics.specs.Properties.{fetchOp};
 ghost use Rattle.key_lists.specs.Keys.{keysOf};
 ghost use Rattle.asked_facts.specs.Asked.{told, FactRow};
 ghost use Rattle.walks.specs.SortPushdown as walk;
-ghost use Rattle.push_requirements.specs.Pushing.{Pushes, Asked, Seen};
+ghost use Rattle.push_requirements.specs.Pushing.{HandsOn, Asked, SeenNode};
 
 // Of a node with one child: whether it wants an order of which no key equals its counterpart.
 fn pushdown_would_violate_requirements(r: &[u8], parent: Keys) -> bool
@@ -56,7 +56,7 @@ fn pushdown_would_violate_requirements(r: &[u8], parent: Keys) -> bool
 // The order to all children.
 fn handle_custom_pushdown(parent: Keys) -> Pushed
     requires { ⌜ parent .len ≤ 8 ⌝ }
-    ensures { λ p. ⌜ ((m : ℕ) → Pushes m (walk.handleCustomPushdown (keysOf parent)) p) ⌝ }
+    ensures { λ p. ⌜ ((m : ℕ) → HandsOn m (walk.handleCustomPushdown (keysOf parent)) p) ⌝ }
 {
     let order = order_of(parent);
     Pushed::Goes(order, order)
@@ -64,7 +64,7 @@ fn handle_custom_pushdown(parent: Keys) -> Pushed
 
 fn handle_projection_pushdown(r: &[u8], parent: Keys) -> Pushed
     requires { ⌜ Proper (now r) × (kindOf (getD (now r) 0 0) ≡ kinds.Projection) × (parent .len ≤ 8) ⌝ }
-    ensures { λ p. ⌜ ((cols : List ℕ) (m : ℕ) → decode (now (r .entry)) ≡ projection cols → Pushes m (walk.handleProjectionPushdown cols (keysOf parent)) p)
+    ensures { λ p. ⌜ ((cols : List ℕ) (m : ℕ) → decode (now (r .entry)) ≡ projection cols → HandsOn m (walk.handleProjectionPushdown cols (keysOf parent)) p)
         ⌝ }
 {
     let order = order_of(remap_requirement_through_projection(r, parent));
@@ -73,7 +73,7 @@ fn handle_projection_pushdown(r: &[u8], parent: Keys) -> Pushed
 
 fn handle_sort(r: &[u8], a: &[u8], parent: Keys) -> Pushed
     requires { ⌜ Proper (now r) × FactRow (now a) × (parent .len ≤ 8) ⌝ }
-    ensures { λ p. ⌜ ((m : ℕ) → Pushes m (walk.goIf (sem.compatible (told (now (a .entry))) (keysOf parent) (fromBytes (now (r .entry)) .keys))
+    ensures { λ p. ⌜ ((m : ℕ) → HandsOn m (walk.goIf (sem.compatible (told (now (a .entry))) (keysOf parent) (fromBytes (now (r .entry)) .keys))
         (λ i. keysOf parent)) p) ⌝ }
 {
     if compatible(a, parent, keys(r)) {
@@ -85,7 +85,7 @@ fn handle_sort(r: &[u8], a: &[u8], parent: Keys) -> Pushed
 // A merge that knows no order, for its keys are all constant, lets none be pushed past it.
 fn handle_merge(own: &[u8], parent: Keys) -> Pushed
     requires { ⌜ FactRow (now own) × (parent .len ≤ 8) ⌝ }
-    ensures { λ p. ⌜ ((m : ℕ) → Pushes m (walk.handleMerge (told (now (own .entry))) (keysOf parent)) p) ⌝ }
+    ensures { λ p. ⌜ ((m : ℕ) → HandsOn m (walk.handleMerge (told (now (own .entry))) (keysOf parent)) p) ⌝ }
 {
     let Order::By(order) = known_order(own) else {
         return Pushed::Stop; // the Rust panics here
@@ -98,7 +98,7 @@ fn handle_merge(own: &[u8], parent: Keys) -> Pushed
 
 fn push_past_merge(r: &[u8], own: &[u8], parent: Keys) -> Pushed
     requires { ⌜ Proper (now r) × FactRow (now own) × (parent .len ≤ 8) ⌝ }
-    ensures { λ p. ⌜ ((m : ℕ) → Pushes m (cond (walk.pushdownWouldViolateRequirements (decode (now (r .entry))) 1 (keysOf parent)) walk.stop
+    ensures { λ p. ⌜ ((m : ℕ) → HandsOn m (cond (walk.pushdownWouldViolateRequirements (decode (now (r .entry))) 1 (keysOf parent)) walk.stop
         (walk.handleMerge (told (now (own .entry))) (keysOf parent))) p) ⌝ }
 {
     if pushdown_would_violate_requirements(r, parent) {
@@ -109,7 +109,7 @@ fn push_past_merge(r: &[u8], own: &[u8], parent: Keys) -> Pushed
 
 fn push_past_output_requirement(r: &[u8], parent: Keys) -> Pushed
     requires { ⌜ Proper (now r) × (parent .len ≤ 8) ⌝ }
-    ensures { λ p. ⌜ ((m : ℕ) → Pushes m (cond (walk.pushdownWouldViolateRequirements (decode (now (r .entry))) 1 (keysOf parent)) walk.stop
+    ensures { λ p. ⌜ ((m : ℕ) → HandsOn m (cond (walk.pushdownWouldViolateRequirements (decode (now (r .entry))) 1 (keysOf parent)) walk.stop
         (walk.handleCustomPushdown (keysOf parent))) p) ⌝ }
 {
     if pushdown_would_violate_requirements(r, parent) {
@@ -120,8 +120,8 @@ fn push_past_output_requirement(r: &[u8], parent: Keys) -> Pushed
 
 fn push_by_kind(r: &[u8], own: &[u8], a: &[u8], b: &[u8], parent: Keys) -> Pushed
     requires { ⌜ Asked (now r) (now own) (now a) (now b) parent ⌝ }
-    ensures { λ p. ⌜ ((o : Op) (fs : List sem.Facts) (m : ℕ) → Seen (decode (now (r .entry))) o fs m (told (now (own .entry))) (told (now (a .entry)))
-        (told (now (b .entry))) → Pushes m (walk.pushByKind (decode (now (r .entry))) fs (keysOf parent)) p) ⌝ }
+    ensures { λ p. ⌜ ((o : Op) (fs : List sem.Facts) (m : ℕ) → SeenNode (decode (now (r .entry))) o fs m (told (now (own .entry))) (told (now (a .entry)))
+        (told (now (b .entry))) → HandsOn m (walk.pushByKind (decode (now (r .entry))) fs (keysOf parent)) p) ⌝ }
 {
     let kind = kind_of(r[KIND]);
     match kind {
@@ -162,7 +162,7 @@ fn fetch_blocks(r: &[u8], f: Fetch) -> bool
 // An operator with a fetch that supports the pushdown of limits and maintains the order of its child; none with several children has a fetch.
 fn through_fetch(r: &[u8], own: &[u8], a: &[u8], limit: Fetch) -> bool
     requires { ⌜ Proper (now r) × FactRow (now own) × FactRow (now a) ⌝ }
-    ensures { λ x. ⌜ ((o : Op) (fs : List sem.Facts) (ts : List Fetches) (m : ℕ) (R : sem.Facts) → Seen (decode (now (r .entry))) o fs m
+    ensures { λ x. ⌜ ((o : Op) (fs : List sem.Facts) (ts : List Fetches) (m : ℕ) (R : sem.Facts) → SeenNode (decode (now (r .entry))) o fs m
         (told (now (own .entry))) (told (now (a .entry))) R → limit ≡ fetchOp (decode (now (r .entry))) ts
         → x ≡ walk.throughFetch (decode (now (r .entry))) limit m fs) ⌝ }
 {
@@ -183,7 +183,7 @@ fn order_allows(own: &[u8], parent: Keys) -> bool
 // Past an operator with a fetch, the requirement in the child's columns.
 fn handle_fetch(r: &[u8], own: &[u8], parent: Keys) -> Pushed
     requires { ⌜ Proper (now r) × FactRow (now own) × (parent .len ≤ 8) ⌝ }
-    ensures { λ p. ⌜ ((fs : List sem.Facts) (m : ℕ) → Pushes m (walk.handleFetch (decode (now (r .entry))) (told (now (own .entry))) fs (keysOf parent)) p)
+    ensures { λ p. ⌜ ((fs : List sem.Facts) (m : ℕ) → HandsOn m (walk.handleFetch (decode (now (r .entry))) (told (now (own .entry))) fs (keysOf parent)) p)
         ⌝ }
 {
     if !order_allows(own, parent) {
@@ -206,9 +206,9 @@ pub fn pushdown_requirement_to_children(
     fetch: Fetch,
 ) -> Pushed
     requires { ⌜ Asked (now r) (now own) (now a) (now b) parent ⌝ }
-    ensures { λ p. ⌜ ((o : Op) (fs : List sem.Facts) (ts : List Fetches) (m : ℕ) → Seen (decode (now (r .entry))) o fs m (told (now (own .entry)))
+    ensures { λ p. ⌜ ((o : Op) (fs : List sem.Facts) (ts : List Fetches) (m : ℕ) → SeenNode (decode (now (r .entry))) o fs m (told (now (own .entry)))
         (told (now (a .entry))) (told (now (b .entry))) → limit ≡ fetchOp o ts
-        → Pushes m (walk.pushdownRequirementToChildren o limit m fs (keysOf parent) fetch) p) ⌝ }
+        → HandsOn m (walk.pushdownRequirementToChildren o limit m fs (keysOf parent) fetch) p) ⌝ }
 {
     if fetch_blocks(r, fetch) {
         return Pushed::Stop;

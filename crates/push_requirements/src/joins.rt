@@ -30,12 +30,12 @@ ghost use Rattle.semantics.specs.Properties.{keptSide};
 ghost use Rattle.key_lists.specs.Keys.{keysOf};
 ghost use Rattle.asked_facts.specs.Asked.{told, FactRow};
 ghost use Rattle.walks.specs.SortPushdown as walk;
-ghost use Rattle.push_requirements.specs.Pushing.{Pushes, JoinRows};
+ghost use Rattle.push_requirements.specs.Pushing.{HandsOn, JoinRows};
 
 // To the right child, if the join maintains it and all columns are the right child's; width, right: the columns of the join and of that child.
 pub fn handle_hash_join(t: JoinType, width: usize, right: usize, parent: Keys) -> Pushed
     requires { ⌜ (parent .len ≤ 8) × (width ≤ 32) × (keptSide (sem.hashKept t) 1 ≡ true → right ≤ width) ⌝ }
-    ensures { λ p. ⌜ ((m : ℕ) → Pushes m (walk.goIf (keptSide (sem.hashKept t) 1 && every (λ k. leb (width - right) (k .col)) (keysOf parent))
+    ensures { λ p. ⌜ ((m : ℕ) → HandsOn m (walk.goIf (keptSide (sem.hashKept t) 1 && every (λ k. leb (width - right) (k .col)) (keysOf parent))
         (walk.onRight (walk.addOffsetToPhysicalSortExprs (width - right) (keysOf parent)))) p) ⌝ }
 {
     if !hash_keeps(t, 1) {
@@ -71,7 +71,7 @@ fn try_left(
     keys: Keys,
 ) -> Pushed
     requires { ⌜ JoinRows t (now r) (now own) (now a) (now b) × (keys .len ≤ 8) × All (λ k. k .col < told (now a) .width) (keysOf keys) ⌝ }
-    ensures { λ p. ⌜ Pushes 2 (walk.tryPushdownRequirementsToJoin (decode (now (r .entry))) t (told (now (own .entry))) (told (now (a .entry)))
+    ensures { λ p. ⌜ HandsOn 2 (walk.tryPushdownRequirementsToJoin (decode (now (r .entry))) t (told (now (own .entry))) (told (now (a .entry)))
         (told (now (b .entry))) (keysOf parent) (keysOf keys) 0) p ⌝ }
 {
     let wanted = keys_in(wanted_order(r, 0));
@@ -100,7 +100,7 @@ fn try_right(
     keys: Keys,
 ) -> Pushed
     requires { ⌜ JoinRows t (now r) (now own) (now a) (now b) × (keys .len ≤ 8) × All (λ k. k .col < told (now b) .width) (keysOf keys) ⌝ }
-    ensures { λ p. ⌜ Pushes 2 (walk.tryPushdownRequirementsToJoin (decode (now (r .entry))) t (told (now (own .entry))) (told (now (a .entry)))
+    ensures { λ p. ⌜ HandsOn 2 (walk.tryPushdownRequirementsToJoin (decode (now (r .entry))) t (told (now (own .entry))) (told (now (a .entry)))
         (told (now (b .entry))) (keysOf parent) (keysOf keys) 1) p ⌝ }
 {
     let wanted = keys_in(wanted_order(r, 1));
@@ -128,7 +128,7 @@ pub fn try_pushdown_requirements_to_join(
     parent: Keys,
 ) -> Pushed
     requires { ⌜ JoinRows t (now r) (now own) (now a) (now b) × (parent .len ≤ 8) × All (λ k. k .col < told (now own) .width) (keysOf parent) ⌝ }
-    ensures { λ p. ⌜ Pushes 2 (walk.pushToSide (decode (now (r .entry))) t (told (now (own .entry))) (told (now (a .entry))) (told (now (b .entry)))
+    ensures { λ p. ⌜ HandsOn 2 (walk.pushToSide (decode (now (r .entry))) t (told (now (own .entry))) (told (now (a .entry))) (told (now (b .entry)))
         (keysOf parent) (walk.exprSourceSide (told (now (own .entry))) (keysOf parent) t (told (now (a .entry)) .width))) p ⌝ }
 {
     let side = expr_source_side(own, parent, t, width(a));

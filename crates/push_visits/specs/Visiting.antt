@@ -31,7 +31,7 @@ use Rattle.plan_context.specs.Facts.{Tells, tells}
 use Rattle.plan_context.specs.Nodes.{Counts, counts-of}
 use Rattle.plan_context.specs.Nodes as nodes
 use Rattle.plan_updates.specs.ProperRecords.{record-proper}
-use Rattle.push_requirements.specs.Pushing.{JoinRows, Seen}
+use Rattle.push_requirements.specs.Pushing.{JoinRows, SeenNode}
 use Rattle.sort_pushdown.specs.declared.Visit.{Visit}
 use Rattle.sort_pushdown.specs.Decisions.{Visited}
 use Rattle.push_visits.specs.Carried.{RowOf, Visits}
@@ -146,7 +146,7 @@ module _ (a : List ℕ) (ua i : ℕ) (g : Arena a ua) (l : i < ua) where
         (ap (λ o. factsOp o (known (forest a (slot a i .kids))) .width) e ∙ join-width t (pairsOf (slot a i .rec)) (at0 (known (forest a (slot a i .kids))))
         (at1 (known (forest a (slot a i .kids)))))
 
-    pub seen-at : Seen (decode (slot a i .rec)) (decode (slot a i .rec)) (facts (strip (forest a (slot a i .kids))))
+    pub seen-at : SeenNode (decode (slot a i .rec)) (decode (slot a i .rec)) (facts (strip (forest a (slot a i .kids))))
         (walk.childCount (strip (forest a (slot a i .kids)))) (told own) (told f) (told s)
     seen-at =
         let c = roots-long (strip (forest a (slot a i .kids))) in let n = length-facts a (slot a i .kids) in

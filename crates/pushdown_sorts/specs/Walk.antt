@@ -78,15 +78,15 @@ abbrev pub answerIn : Plan → Answer
 answerIn f = answerOf (countDown (λ i. walk.atRoot) (size f) f)
 
 -- The answer to f stands at x in b
-pub record Answered (f : Plan) (b : List ℕ) (x : Walked) : Type 0 where
+pub record PushedTo (f : Plan) (b : List ℕ) (x : Walked) : Type 0 where
   pub is : answerIn f ≡ answered (planT (treeOf b (x .root)))
   pub arena : Arena b (x .used)
   pub here : x .root < 2 * x .used
   pub room : x .used ≤ 3 * size f
 
-abbrev pub Answers : Plan → List ℕ → Pushed → Type 0
-Answers f b (Refused e) = answerIn f ≡ refused e
-Answers f b (Done x) = Answered f b x
+abbrev pub AnswersPush : Plan → List ℕ → Pushed → Type 0
+AnswersPush f b (Refused e) = answerIn f ≡ refused e
+AnswersPush f b (Done x) = PushedTo f b x
 
 -- The refusal of a step; a step that goes on has none
 abbrev pub refusedBy : Step → Pushed

@@ -49,7 +49,7 @@ use Rattle.sort_pushdown.specs.Visits.{children-visited, after-is, constant-is,
 use Rattle.pushdown_sorts.specs.declared.Walked.{Walked}
 use Rattle.pushdown_sorts.specs.declared.Pushed.{Pushed}
 use Rattle.pushdown_sorts.specs.declared.Pushed.the-variants.{Refused, Done}
-use Rattle.pushdown_sorts.specs.Walk.{Rooted, Answers, countedT, pushedT, Pushes, Ended, Ends, refusedBy, from, Visiting}
+use Rattle.pushdown_sorts.specs.Walk.{Rooted, AnswersPush, countedT, pushedT, Pushes, Ended, Ends, refusedBy, from, Visiting}
 use Rattle.push_visits.specs.Carried.{carriedBy, belowBy, opBy, Carries}
 use Rattle.push_visits.specs.Carrying.{below-size}
 use Rattle.push_visits.specs.Visiting.{roots-long, shown, own-tells}
@@ -530,7 +530,7 @@ module _ (a : List ℕ) (ua h : ℕ) (b : List ℕ) (p : Rooted a ua h b) (visit
       ∙ count-tree (λ i. walk.atRoot) n (treeIn a (index h)) none
       ∙ ap (λ q. bind (countedT q n (treeIn a (index h))) (λ u m. counted (plant u none) m)) (sym ev)
 
-  pub root-ends : (b' : List ℕ) (r : Pushed) → Ends (visitOf visit) n (treeIn a (index h)) b 0 b' r → Answers (planT (treeOf a h)) b' r
+  pub root-ends : (b' : List ℕ) (r : Pushed) → Ends (visitOf visit) n (treeIn a (index h)) b 0 b' r → AnswersPush (planT (treeOf a h)) b' r
   root-ends b' (Refused e) x = ap answerOf (counted-is ∙ ap (λ y. bind y (λ u m. counted (plant u none) m)) x)
   root-ends b' (Done w) x =
       let z = size-strip (treeIn a (index h) .kids) in let g = x .grown .room in

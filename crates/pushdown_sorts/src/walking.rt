@@ -19,7 +19,7 @@ ghost use Rattle.arena.specs.Arena.{index};
 ghost use Rattle.plan_context.specs.View.{treeIn, treeOf};
 ghost use Rattle.plan_context.specs.Records.{planT};
 ghost use Rattle.sort_pushdown.specs.Decisions.{visitOf};
-ghost use Rattle.pushdown_sorts.specs.Walk.{Pushes, Ends, refusedBy, Rooted, Answers};
+ghost use Rattle.pushdown_sorts.specs.Walk.{Pushes, Ends, refusedBy, Rooted, AnswersPush};
 
 // The refusal of a step; of one that goes on it is not asked.
 fn refused(s: Step) -> Pushed
@@ -79,7 +79,7 @@ pub fn push_at(
 // The plan at h, pushed: from the first slot of b on.
 pub fn pushdown_sorts(a: &[u8], ua: usize, h: usize, b: &mut [u8]) -> Pushed
     requires { ⌜ Rooted (now a) ua h (now b) ⌝ }
-    ensures { λ r. ⌜ Answers (planT (treeOf (now (a .entry)) h)) (now (b .exit)) r ⌝ }
+    ensures { λ r. ⌜ AnswersPush (planT (treeOf (now (a .entry)) h)) (now (b .exit)) r ⌝ }
 {
     let visit = Visit::at_root();
     let count = nodes(a, h);

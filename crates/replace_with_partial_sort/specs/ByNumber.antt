@@ -79,18 +79,18 @@ pub record Became (m : List ℕ) (u : ℕ) (m' : List ℕ) (h n : ℕ) (a : At) 
   pub room : a .used ≤ u + sizeT (treeOf m h)
 
 -- It is that of node number n of the tree at h
-abbrev pub Answers : List ℕ → ℕ → List ℕ → ℕ → ℕ → Sorted → Type 0
-Answers m u m' h n NoSuchNode = (partiallySorted n (planT (treeOf m h)) ≡ refused refusals.NoSuchNode)
+abbrev pub AnswersPartial : List ℕ → ℕ → List ℕ → ℕ → ℕ → Sorted → Type 0
+AnswersPartial m u m' h n NoSuchNode = (partiallySorted n (planT (treeOf m h)) ≡ refused refusals.NoSuchNode)
     × (outcome (fromNode n (planT (treeOf m h))) ≡ missing)
-Answers m u m' h n AllKeysMet = (partiallySorted n (planT (treeOf m h)) ≡ refused refusals.AllKeysMet)
+AnswersPartial m u m' h n AllKeysMet = (partiallySorted n (planT (treeOf m h)) ≡ refused refusals.AllKeysMet)
     × (outcome (fromNode n (planT (treeOf m h))) ≡ found pastTheEnd)
-Answers m u m' h n (Becomes a) = Became m u m' h n a
+AnswersPartial m u m' h n (Becomes a) = Became m u m' h n a
 
-pub answers-none : (m : List ℕ) (u : ℕ) (m' : List ℕ) (h n : ℕ) → outcome (fromNode n (planT (treeOf m h))) ≡ missing → Answers m u m' h n NoSuchNode
+pub answers-none : (m : List ℕ) (u : ℕ) (m' : List ℕ) (h n : ℕ) → outcome (fromNode n (planT (treeOf m h))) ≡ missing → AnswersPartial m u m' h n NoSuchNode
 answers-none m u m' h n e = (by-outcome n (planT (treeOf m h)) missing e, e)
 
 pub answers-met : (m : List ℕ) (u : ℕ) (m' : List ℕ) (h n : ℕ) → outcome (fromNode n (planT (treeOf m h))) ≡ found pastTheEnd
-    → Answers m u m' h n AllKeysMet
+    → AnswersPartial m u m' h n AllKeysMet
 answers-met m u m' h n e = (by-outcome n (planT (treeOf m h)) (found pastTheEnd) e, e)
 
 answered-is : (n : ℕ) (f g : Plan) (p : Op) → outcome (fromNode n f) ≡ found (becomes p) → g ≡ setNode n p f → partiallySorted n f ≡ answered g
@@ -298,7 +298,7 @@ module _ (m : List ℕ) (u h : ℕ) (p : Sorting m u h) where
 
   -- as the code has it
   module _ (r : Told) (e : replaceWithPartialSort (opT (treeOf m h)) (strip (treeOf m h .kids)) ≡ becoming (opT (treeOf m h)) r) where
-    pub met-node : r ≡ Past → (m' : List ℕ) → Answers m u m' h 0 AllKeysMet
+    pub met-node : r ≡ Past → (m' : List ℕ) → AnswersPartial m u m' h 0 AllKeysMet
     met-node q m' = answers-met m u m' h 0 (ap found (e ∙ ap (becoming (opT t)) q))
 
     pub same-node : r ≡ Stays → Became m u m h 0 (record { used = u; root = h })
@@ -440,10 +440,10 @@ module _ (m : List ℕ) (u h : ℕ) (p : Sorting m u h) (n : ℕ) (q : Place) (w
         ∙ ap (λ i. outcome (fromNode i (strip (forest m hs)))) (w .is) ∙ out-at m hs (q .child) (q .left) l (w .inside l)
         ∙ ap (λ i. outcome (fromNode (q .left) (planT (treeOf m i)))) (sym hk)
 
-    pub none-below : (m' : List ℕ) → Answers m u m' k (q .left) NoSuchNode → Answers m u m' h (suc n) NoSuchNode
+    pub none-below : (m' : List ℕ) → AnswersPartial m u m' k (q .left) NoSuchNode → AnswersPartial m u m' h (suc n) NoSuchNode
     none-below m' a = answers-none m u m' h (suc n) (found-below ∙ a .1)
 
-    pub met-below : (m' : List ℕ) → Answers m u m' k (q .left) AllKeysMet → Answers m u m' h (suc n) AllKeysMet
+    pub met-below : (m' : List ℕ) → AnswersPartial m u m' k (q .left) AllKeysMet → AnswersPartial m u m' h (suc n) AllKeysMet
     met-below m' a = answers-met m u m' h (suc n) (found-below ∙ a .1)
 
     module _ (m' : List ℕ) (lm : length m' ≡ length m) (a : At) (b : Became m u m' k (q .left) a) where
@@ -557,8 +557,8 @@ module _ (m : List ℕ) (u h : ℕ) (p : Sorting m u h) (n : ℕ) (z : n ≡ 0 �
   count-is : c ≡ length (slot m (index h) .kids)
   count-is = hc ∙ view m u h (standing m u h p) .count
 
-  pub step-past : q .child ≡ c → (m' : List ℕ) → Answers m u m' h n NoSuchNode
-  step-past e m' = subst (λ i. Answers m u m' h i NoSuchNode) back (answers-none m u m' h (suc (n - 1)) (past-none m u h p (n - 1) q w (e ∙ count-is)))
+  pub step-past : q .child ≡ c → (m' : List ℕ) → AnswersPartial m u m' h n NoSuchNode
+  step-past e m' = subst (λ i. AnswersPartial m u m' h i NoSuchNode) back (answers-none m u m' h (suc (n - 1)) (past-none m u h p (n - 1) q w (e ∙ count-is)))
 
   module _ (e : q .child ≡ c → ⊥) where
     pub step-low : q .child < length (slot m (index h) .kids)
@@ -568,18 +568,18 @@ module _ (m : List ℕ) (u h : ℕ) (p : Sorting m u h) (n : ℕ) (z : n ≡ 0 �
       pub step-asks : (sizeT (treeOf m k) < sizeT (treeOf m h)) × Sorting m u k
       step-asks = below-sorting m u h p (n - 1) q w step-low k hk
 
-      module _ (m' : List ℕ) (r : Sorted) (g : Answers m u m' k (q .left) r) where
-        pub step-missing : r ≡ NoSuchNode → Answers m u m' h n NoSuchNode
-        step-missing x = subst (λ i. Answers m u m' h i NoSuchNode) back
-            (none-below m u h p (n - 1) q w step-low k hk m' (subst (Answers m u m' k (q .left)) x g))
+      module _ (m' : List ℕ) (r : Sorted) (g : AnswersPartial m u m' k (q .left) r) where
+        pub step-missing : r ≡ NoSuchNode → AnswersPartial m u m' h n NoSuchNode
+        step-missing x = subst (λ i. AnswersPartial m u m' h i NoSuchNode) back
+            (none-below m u h p (n - 1) q w step-low k hk m' (subst (AnswersPartial m u m' k (q .left)) x g))
 
-        pub step-met : r ≡ AllKeysMet → Answers m u m' h n AllKeysMet
-        step-met x = subst (λ i. Answers m u m' h i AllKeysMet) back
-            (met-below m u h p (n - 1) q w step-low k hk m' (subst (Answers m u m' k (q .left)) x g))
+        pub step-met : r ≡ AllKeysMet → AnswersPartial m u m' h n AllKeysMet
+        step-met x = subst (λ i. AnswersPartial m u m' h i AllKeysMet) back
+            (met-below m u h p (n - 1) q w step-low k hk m' (subst (AnswersPartial m u m' k (q .left)) x g))
 
         module _ (lm : length m' ≡ length m) (a : At) (x : r ≡ Becomes a) where
           below-became : Became m u m' k (q .left) a
-          below-became = subst (Answers m u m' k (q .left)) x g
+          below-became = subst (AnswersPartial m u m' k (q .left)) x g
 
           slots : slot m' (index h) ≡ slot m (index h)
           slots = same-slot m u h p (n - 1) q w step-low k hk m' lm a below-became
@@ -596,8 +596,8 @@ module _ (m : List ℕ) (u h : ℕ) (p : Sorting m u h) (n : ℕ) (z : n ≡ 0 �
 
           pub step-became : (m'' : List ℕ) (b : At)
               → Grown m' (a .used) m'' b (node (decode (slot m' (index h) .rec)) false (forest m' (set (slot m' (index h) .kids) (q .child) (a .root))))
-              (a .used + 1) → Answers m u m'' h n (Becomes b)
+              (a .used + 1) → AnswersPartial m u m'' h n (Becomes b)
           step-became m'' b t =
-              subst (λ i. Answers m u m'' h i (Becomes b)) back
+              subst (λ i. AnswersPartial m u m'' h i (Becomes b)) back
               (child-became m u h p (n - 1) q w step-low k hk m' lm a below-became (slot m (index h) .rec) refl m'' b
               (subst (λ y. Grown m' (a .used) m'' b (node (decode (y .rec)) false (forest m' (set (y .kids) (q .child) (a .root)))) (a .used + 1)) slots t))

@@ -27,7 +27,7 @@ ghost use Rattle.walks.specs.PartialSort.{becomes, replaceWithPartialSort as re
 ghost use Rattle.plan_context.specs.View.{treeOf, forest, Grown, Puts};
 ghost use Rattle.sort_removal.specs.Standing.{Standing};
 ghost use Rattle.replace_with_partial_sort.specs.Replacing.{partial};
-ghost use Rattle.replace_with_partial_sort.specs.ByNumber.{Located, Sorting, Became, Answers};
+ghost use Rattle.replace_with_partial_sort.specs.ByNumber.{Located, Sorting, Became, AnswersPartial};
 
 // Number n among the nodes below the node at h.
 fn locate(m: &[u8], u: usize, h: usize, n: usize) -> Place
@@ -92,7 +92,7 @@ fn put_partial(m: &mut [u8], u: usize, h: usize, n: usize) -> At
 // The node at h itself.
 fn replace_node(m: &mut [u8], u: usize, h: usize) -> Sorted
     requires { ⌜ Sorting (now m) u h ⌝ }
-    ensures { λ r. ⌜ Answers (now (m .entry)) u (now (m .exit)) h 0 r ⌝ }
+    ensures { λ r. ⌜ AnswersPartial (now (m .entry)) u (now (m .exit)) h 0 r ⌝ }
 {
     let found = replace_with_partial_sort(m, u, h);
     match found {
@@ -122,7 +122,7 @@ fn put_child(m: &mut [u8], u: usize, h: usize, j: usize, k: usize) -> At
 // Node number n of the tree at h, partially sorted; nothing above it is rebuilt.
 pub fn partially_sorted(m: &mut [u8], u: usize, h: usize, n: usize) -> Sorted
     requires { ⌜ Sorting (now m) u h ⌝ }
-    ensures { λ r. ⌜ Answers (now (m .entry)) u (now (m .exit)) h n r ⌝ }
+    ensures { λ r. ⌜ AnswersPartial (now (m .entry)) u (now (m .exit)) h n r ⌝ }
 {
     if n == 0 {
         return replace_node(m, u, h);

@@ -43,7 +43,7 @@ ghost use Rattle.join_facts.specs.Joining.{Joinable};
 ghost use Rattle.node_facts.specs.Ready.{kidsOf, count, lentKeys, lentColumns, typeIn, onIn, Ready};
 ghost use Rattle.key_lists.specs.Keys.{keysOf};
 ghost use Rattle.asked_facts.specs.Asked.{told, FactRow};
-ghost use Rattle.row_facts.specs.Over.{Over};
+ghost use Rattle.row_facts.specs.Over.{OverRows};
 
 // The first 48 bytes of s: by value, so that whoever stores them stores many at once.
 pub fn row(s: &[u8]) -> [u8; 48]
@@ -156,7 +156,7 @@ fn join_hashed(own: &mut [u8], r: &[u8], a: &[u8], b: &[u8])
 
 // The facts of a node over its own bytes, from its record and its children's facts.
 pub fn node_into(own: &mut [u8], r: &[u8], first: &[u8], second: &[u8])
-    requires { ⌜ Over (now own) (now r) (now first) (now second) ⌝ }
+    requires { ⌜ OverRows (now own) (now r) (now first) (now second) ⌝ }
     ensures { λ _. ⌜ Says (sem.factsOp (decode (now (r .entry))) (kidsOf (now (r .entry)) (loaded (now (first .entry))) (loaded (now (second .entry)))))
         (loaded (now (own .exit))) ⌝ }
 {

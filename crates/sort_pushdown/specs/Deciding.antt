@@ -25,7 +25,7 @@ use Rattle.key_lists.specs.declared.Order.the-variants.{Unordered, By}
 use Rattle.key_lists.specs.Keys.{keysOf, orderOf, Keyed, Ordered, Real}
 use Rattle.push_requirements.specs.declared.ParentRequirements.{ParentRequirements as Coded}
 use Rattle.push_requirements.specs.Answers.{some-keys}
-use Rattle.push_requirements.specs.Pushing.{required, orderBy, Going, Seen}
+use Rattle.push_requirements.specs.Pushing.{required, orderBy, Handed, SeenNode}
 use Rattle.walks.specs.Utils.{needsMerge, newMerge, newSort, sortAboveWithDistribution, isSort}
 use Rattle.walks.specs.theorems.common.Keeps.{remark-same}
 use Rattle.walks.specs.SortPushdown.{ParentRequirements, strongerDistribution}
@@ -106,7 +106,7 @@ module _ (o : Op) (a b : Order) (f : Fetch) (d₀ d₁ : Distribution) where
   both x = record { first = record { order = a; fetch = f; distribution = d₀ }; rest = record { order = b; fetch = f; distribution = d₁ }; initial = x }
 
   pub hand-asks : (d : Distribution) → d₀ ≡ strongerDistribution d (distOf o 0) → d₁ ≡ strongerDistribution d (distOf o 1) → (m : ℕ) (ts : List Fetch)
-      (ks : ℕ → List Key) → Going m ks a b
+      (ks : ℕ → List Key) → Handed m ks a b
       → Asks m ts (λ i. walk.handDown ks f d o i .req)
       (record {
         first = record { order = a; fetch = f; distribution = d₀ };
@@ -145,7 +145,7 @@ module _ (o : Op) (a b : Order) (f : Fetch) (d₀ d₁ : Distribution) where
           let e = e₁ ∙ dist-rest o i in let g = y .is ∙ wanted-rest o (walk.childCount c) v i l in
           λ j. record { order = g j; fetch = getD (fetches c) (suc i) Unlimited; dist = e j }
 
-pub wanted-going : (o : Op) (a b : Order) (m : ℕ) → childrenOk o m ≡ true → Ordered (wanted o 0) a → Ordered (wanted o 1) b → Going m (wanted o) a b
+pub wanted-going : (o : Op) (a b : Order) (m : ℕ) → childrenOk o m ≡ true → Ordered (wanted o 0) a → Ordered (wanted o 1) b → Handed m (wanted o) a b
 wanted-going o a b m v x y = record { is = at; first = x .real; rest = y .real }
   where
     at : (i : ℕ) → i < m → orderBy a b i ≡ wanted o i
@@ -230,7 +230,7 @@ stay-by o c us p g j b x tops reqs r e a d k h =
     (record { tops = a; gone = refl; op = d; reqs = λ i l. ap walk.asked (h .is i l); first = h .first; rest = h .rest; peak = k; quiet = refl })
 
 -- what is asked of the node's children does not depend on a repartition's mark
-module _ (n o : Op) (fs : List Facts) (m : ℕ) (F L R : Facts) (s : Seen n o fs m F L R) where
+module _ (n o : Op) (fs : List Facts) (m : ℕ) (F L R : Facts) (s : SeenNode n o fs m F L R) where
   like : {A : Type 0} (v : Op → A) → ((p q : Bool) (k : ℕ) (h : Bool) (ks : List Key) → v (repartition p k h ks) ≡ v (repartition q k h ks)) → v o ≡ v n
   like v e = ap v (s .like) ∙ remark-same v (s .mark) e n
 

@@ -26,7 +26,7 @@ use Rattle.fact_slots.specs.Slots.{loaded}
 use Rattle.asked_facts.specs.Asked.{told}
 use Rattle.push_requirements.specs.declared.Pushed.the-variants.{Stop, Goes}
 use Rattle.push_requirements.specs.declared.Pushed.{Pushed as Answered}
-use Rattle.push_requirements.specs.Pushing.{Pushes, Going, Asked, Seen}
+use Rattle.push_requirements.specs.Pushing.{HandsOn, Handed, Asked, SeenNode}
 use Rattle.walks.specs.Utils.{needsMerge, newMerge, sortAboveWithDistribution}
 use Rattle.walks.specs.Marks.{shape}
 use Rattle.walks.specs.theorems.common.Keeps.{remark-same}
@@ -44,29 +44,29 @@ module _ (o p : Op) (c : Plan) (r : Decision) (q : walk.Visit) where
   abbrev m : ℕ
   m = walk.childCount c
 
-  pub try-goes : (P : Pushed) (a b : Order) → Pushes (walk.childCount c) P (Goes a b)
-      → ((ks : ℕ → List Key) → Going (walk.childCount c) ks a b
+  pub try-goes : (P : Pushed) (a b : Order) → HandsOn (walk.childCount c) P (Goes a b)
+      → ((ks : ℕ → List Key) → Handed (walk.childCount c) ks a b
       → Decides o c (walk.stays p (walk.handDown ks (minFetch (fetchOp p (fetches c)) (q .req .fetch))
       (walk.effectiveDist (factsOp p (facts c)) (q .req .dist)) p)) r)
       → Decides o c (walk.afterTry P q p c) r
   try-goes (goes ks) a b h k = k ks h
   try-goes stop a b h k = absurd h
 
-  pub try-stop : (P : Pushed) → Pushes (walk.childCount c) P Stop
+  pub try-stop : (P : Pushed) → HandsOn (walk.childCount c) P Stop
       → Decides o c (cond (needsMerge (factsOp p (facts c)) (q .req .dist)) (walk.mergeAdded q p c) (walk.sortAdded q p c)) r
       → Decides o c (walk.afterTry P q p c) r
   try-stop (goes ks) h k = absurd h
   try-stop stop h k = k
 
-  after-goes : (P : Pushed) (a b : Order) → Pushes m P (Goes a b)
-      → ((ks : ℕ → List Key) → Going m ks a b
+  after-goes : (P : Pushed) (a b : Order) → HandsOn m P (Goes a b)
+      → ((ks : ℕ → List Key) → Handed m ks a b
       → Decides o c (walk.covered (newMerge (freshKeys (factsOp p (facts c)) [] (q .req .order)) (q .req .fetch)) 1 p
       (walk.handDown ks (minFetch (fetchOp p (fetches c)) (q .req .fetch)) Unspecified p)) r)
       → Decides o c (walk.afterMerge P q p c) r
   after-goes (goes ks) a b h k = k ks h
   after-goes stop a b h k = absurd h
 
-  after-stop : (P : Pushed) → Pushes m P Stop
+  after-stop : (P : Pushed) → HandsOn m P Stop
       → Decides o c (let F : Facts = factsOp p (facts c) in let new : List Key = freshKeys F [] (q .req .order) in
       walk.covered (newMerge new (q .req .fetch) ++ sortAboveWithDistribution F (nf F [] new) (q .req .fetch) Unspecified) 0 p
       (walk.withOwnDistribution p)) r
@@ -144,7 +144,7 @@ counts-twice false x y = refl
 pub rebuilt-twice : (o : Op) (fs : List Facts) → rebuilt (rebuilt o fs) fs ≡ rebuilt o fs
 rebuilt-twice o fs = remark-twice _ _ o ∙ ap (λ g. remark g o) (fun-ext (λ p. counts-twice p (not (isNil (knownOrder (at0 fs)))) (ltb 1 (at0 fs .streams))))
 
-pub seen-again : (n o : Op) (fs : List Facts) (m : ℕ) (F L R : Facts) → Seen n o fs m F L R → Seen n (rebuilt o fs) fs m F L R
+pub seen-again : (n o : Op) (fs : List Facts) (m : ℕ) (F L R : Facts) → SeenNode n o fs m F L R → SeenNode n (rebuilt o fs) fs m F L R
 seen-again n o fs m F L R s =
     record {
       mark = λ p. counts (s .mark p) (at0 fs);
@@ -158,14 +158,14 @@ seen-again n o fs m F L R s =
     }
 
 -- ---- where a merge comes too
-module _ (c : Plan) (n o : Op) (q : walk.Visit) (F L R : Facts) (s : Seen n o (facts c) (walk.childCount c) F L R) (limit fetch : Fetch)
+module _ (c : Plan) (n o : Op) (q : walk.Visit) (F L R : Facts) (s : SeenNode n o (facts c) (walk.childCount c) F L R) (limit fetch : Fetch)
     (order new again : Keys)
     (e : limit ≡ fetchOp o (fetches c)) (eo : keysOf order ≡ q .req .order) (ef : fetch ≡ q .req .fetch) (kn : Keyed (freshKeys F [] (keysOf order)) new)
     (ka : Keyed (nf F [] (keysOf new)) again) where
   abbrev p : Op
   p = rebuilt o (facts c)
 
-  pub seen₁ : Seen n (rebuilt o (facts c)) (facts c) (walk.childCount c) F L R
+  pub seen₁ : SeenNode n (rebuilt o (facts c)) (facts c) (walk.childCount c) F L R
   seen₁ = seen-again n o (facts c) (walk.childCount c) F L R s
 
   pub limit₁ : limit ≡ fetchOp (rebuilt o (facts c)) (fetches c)
@@ -181,18 +181,18 @@ module _ (c : Plan) (n o : Op) (q : walk.Visit) (F L R : Facts) (s : Seen n o (f
   again₁ = ka .is ∙ ap₂ (λ G l. nf G [] l) (facts-like n o (facts c) (walk.childCount c) F L R s)
       (kn .is ∙ ap₂ (λ G l. freshKeys G [] l) (facts-like n o (facts c) (walk.childCount c) F L R s) eo)
 
-  tried : (x : Answered) → Pushes (walk.childCount c) (pushdownRequirementToChildren p limit (walk.childCount c) (facts c) (keysOf again) fetch) x
-      → Pushes (walk.childCount c) (walk.triedAgain q o c) x
+  tried : (x : Answered) → HandsOn (walk.childCount c) (pushdownRequirementToChildren p limit (walk.childCount c) (facts c) (keysOf again) fetch) x
+      → HandsOn (walk.childCount c) (walk.triedAgain q o c) x
   tried x h =
-      subst (λ P. Pushes (walk.childCount c) P x)
+      subst (λ P. HandsOn (walk.childCount c) P x)
       (ap₂ (λ (l : Fetch) (f : Fetch). pushdownRequirementToChildren p l (walk.childCount c) (facts c) (keysOf again) f) limit₁ ef
       ∙ ap (λ (l : List Key). pushdownRequirementToChildren p (fetchOp p (fetches c)) (walk.childCount c) (facts c) l (q .req .fetch)) again₁) h
 
   module _ (tops : NewNodes) (reqs : ChildRequirements) (r : Decision) where
-    pub merge-goes : (a b : Order) → Pushes (walk.childCount c) (pushdownRequirementToChildren (rebuilt o (facts c)) limit (walk.childCount c) (facts c)
+    pub merge-goes : (a b : Order) → HandsOn (walk.childCount c) (pushdownRequirementToChildren (rebuilt o (facts c)) limit (walk.childCount c) (facts c)
         (keysOf again) fetch) (Goes a b) → (f : Fetch) → f ≡ minFetch limit fetch
         → r ≡ staysBy true tops reqs true → Adds (newMerge (keysOf new) fetch) tops
-        → ((ks : ℕ → List Key) → Going (walk.childCount c) ks a b → Asks (walk.childCount c) (fetches c) (λ i. walk.handDown ks f Unspecified n i .req)
+        → ((ks : ℕ → List Key) → Handed (walk.childCount c) ks a b → Asks (walk.childCount c) (fetches c) (λ i. walk.handDown ks f Unspecified n i .req)
         reqs)
         → Decides o c (walk.mergeAdded q o c) r
     merge-goes a b h f g w t asks =
@@ -203,7 +203,7 @@ module _ (c : Plan) (n o : Op) (q : walk.Visit) (F L R : Facts) (s : Seen n o (f
         (subst (λ l. Asks (walk.childCount c) (fetches c) (λ i. walk.handDown ks l Unspecified p i .req) reqs) (g ∙ ap₂ minFetch limit₁ ef)
         (handed-like n p (facts c) (walk.childCount c) F L R seen₁ (fetches c) ks f Unspecified reqs (asks ks k))))
 
-    pub merge-stop : Pushes (walk.childCount c) (pushdownRequirementToChildren (rebuilt o (facts c)) limit (walk.childCount c) (facts c)
+    pub merge-stop : HandsOn (walk.childCount c) (pushdownRequirementToChildren (rebuilt o (facts c)) limit (walk.childCount c) (facts c)
         (keysOf again) fetch) Stop
         → r ≡ staysBy true tops reqs false → Adds (newMerge (keysOf new) fetch ++ sortAboveWithDistribution F (keysOf again) fetch Unspecified) tops
         → Asks (walk.childCount c) (fetches c) (λ i. walk.withOwnDistribution n i .req) reqs
@@ -273,14 +273,14 @@ pub sort-one : (o : Op) (p : Bool) (ks : List Key) (f : Fetch) (m : ℕ) → o �
 sort-one o p ks f m e h = let x = eqb-true m 1 (sym (ap (λ n. childrenOk n m) e) ∙ h) in omega arith
 
 -- ---- at another node that an order is required of
-module _ (c : Plan) (n o : Op) (q : walk.Visit) (F L R : Facts) (s : Seen n o (facts c) (walk.childCount c) F L R) (limit : Fetch)
+module _ (c : Plan) (n o : Op) (q : walk.Visit) (F L R : Facts) (s : SeenNode n o (facts c) (walk.childCount c) F L R) (limit : Fetch)
     (e : limit ≡ fetchOp o (fetches c)) (k : Keys) (eo : keysOf k ≡ q .req .order) where
   met-is : met F (keysOf k) ≡ met (factsOp o (facts c)) (q .req .order)
   met-is = ap₂ met (facts-like n o (facts c) (walk.childCount c) F L R s) eo
 
-  pub pushed-down : (p : Answered) → Pushes (walk.childCount c) (pushdownRequirementToChildren o limit (walk.childCount c) (facts c) (keysOf k)
-      (q .req .fetch)) p → Pushes (walk.childCount c) (walk.pushDown (q .req .order) q o c) p
-  pushed-down p h = subst (λ P. Pushes (walk.childCount c) P p)
+  pub pushed-down : (p : Answered) → HandsOn (walk.childCount c) (pushdownRequirementToChildren o limit (walk.childCount c) (facts c) (keysOf k)
+      (q .req .fetch)) p → HandsOn (walk.childCount c) (walk.pushDown (q .req .order) q o c) p
+  pushed-down p h = subst (λ P. HandsOn (walk.childCount c) P p)
       (ap₂ (λ (l : Fetch) (ks : List Key). pushdownRequirementToChildren o l (walk.childCount c) (facts c) ks (q .req .fetch)) e eo) h
 
   module _ (some : isNil (q .req .order) ≡ false) (r : Decision) (x : Bool) (h : x ≡ met F (keysOf k)) where

@@ -23,7 +23,7 @@ ghost use Rattle.plan_codec.specs.Decode.{decode};
 ghost use Rattle.record_fields.specs.Proper.{Proper};
 ghost use Rattle.semantics.specs.Properties.{fetches};
 ghost use Rattle.walks.specs.PushdownSorts as walk;
-ghost use Rattle.push_requirements.specs.Pushing.{required, Going};
+ghost use Rattle.push_requirements.specs.Pushing.{required, Handed};
 ghost use Rattle.sort_pushdown.specs.Decisions.{Asks, ofChild, visitOf, visitFor};
 
 // An order for the first child and one for the others, with each child's own distribution if it is stronger.
@@ -35,7 +35,7 @@ pub fn hand_down(
     d: Distribution,
 ) -> ChildRequirements
     requires { ⌜ Proper (now r) ⌝ }
-    ensures { λ q. ⌜ ((m : ℕ) (ts : List Fetches) (ks : ℕ → List Key) → Going m ks first rest
+    ensures { λ q. ⌜ ((m : ℕ) (ts : List Fetches) (ks : ℕ → List Key) → Handed m ks first rest
         → Asks m ts (λ i. walk.handDown ks fetch d (decode (now (r .entry))) i .req) q) ⌝ }
 {
     let d0 = stronger_distribution(d, wanted_distribution(r, 0));

@@ -15,8 +15,7 @@ returns : tie.Need-returns
 returns c = record {
   refusal = c .before .before .refusal-of .ensures;
   holds = λ e. absurd (c .if1 .taken (c .before .number .ensures ∙ ap numberOf (c .before .before .refusal-of .ensures ∙ e)));
-  stays =
-      λ e. (refl, ap refusedWith (c .before .before .refusal-of .ensures));
+  stays = λ e. (refl, ap refusedWith (c .before .before .refusal-of .ensures));
 }
 
 record-count-requires : tie.Need-record-count-requires

@@ -4,7 +4,7 @@ use mathlib.Core.Path.{subst}
 use Prim.Native.Nat.{_/_}
 use Rattle.plan.specs.declared.Refusal.the-variants as refusals
 use Rattle.plan_context.specs.Laws.{here}
-use Rattle.replace_with_partial_sort.specs.ByNumber.{Answers}
+use Rattle.replace_with_partial_sort.specs.ByNumber.{AnswersPartial}
 use Rattle.plan_calls.specs.Filing.{arena-loaded}
 use Rattle.plan_calls.specs.PartialSorting.{partial-no-room, partial-asks, partial-refuses, partial-small, partial-wrote}
 use Rattle.plan_calls.proofs.calls.sort_partially.Statement.{statement}
@@ -67,7 +67,7 @@ write-out-requires c κs = let s =
     let t = c .before .before .before .before .before .before .before .before .before .before .before .before .before .before .settle-all in
     let m' = t .last .0 in let l = t .kept .0 in let a = t .ensures .0 in let f = t .ensures .1 in
     let y = c .before .before .before .before .before .before .before .partially-sorted in let g = c .before .before .before .a .given in let b = g .0 .0 in
-    let d = subst (λ o. Answers m' u (y .last .0) h n o) (g .1) (y .ensures) in (
+    let d = subst (λ o. AnswersPartial m' u (y .last .0) h n o) (g .1) (y .ensures) in (
       arena-loaded (y .last .0) (b .used) (d .arena),
       d .low,
       partial-small m u h p w m' l a f _
@@ -84,7 +84,7 @@ returns-2 c = let s = c .before .before .before .before .before .before .before 
     let m' = t .last .0 in let l = t .kept .0 in let a = t .ensures .0 in let f = t .ensures .1 in
     let y = c .before .before .before .before .before .partially-sorted in let g = c .before .enum-told .given in
     partial-refuses m u h p w m' l a f _ (c .before .before .before .before .before .before .before .before .nodes .ensures) n out refusals.NoSuchNode
-    (subst (λ o. Answers m' u (y .last .0) h n o) (g .1) (y .ensures) .0) _ (c .number .ensures)
+    (subst (λ o. AnswersPartial m' u (y .last .0) h n o) (g .1) (y .ensures) .0) _ (c .number .ensures)
 
 same-length-3 : tie.Need-same-length-3
 same-length-3 c = search needs
@@ -96,7 +96,7 @@ returns-3 c = let s = c .before .before .before .before .before .before .before 
     let m' = t .last .0 in let l = t .kept .0 in let a = t .ensures .0 in let f = t .ensures .1 in
     let y = c .before .before .before .before .before .partially-sorted in let g = c .before .enum-told2 .given in
     partial-refuses m u h p w m' l a f _ (c .before .before .before .before .before .before .before .before .nodes .ensures) n out refusals.AllKeysMet
-    (subst (λ o. Answers m' u (y .last .0) h n o) (g .1) (y .ensures) .0) _ (c .number2 .ensures)
+    (subst (λ o. AnswersPartial m' u (y .last .0) h n o) (g .1) (y .ensures) .0) _ (c .number2 .ensures)
 
 same-length-4 : tie.Need-same-length-4
 same-length-4 c = search needs
@@ -112,7 +112,7 @@ returns-4 c = let s = c .before .before .before .before .before .before .before 
     .settle-all in let m' = t .last .0 in let l = t .kept .0 in let a = t .ensures .0 in let f = t .ensures .1 in
     let y = c .before .before .before .before .before .before .before .before .before .before .partially-sorted in
     let g = c .before .before .before .before .before .before .a .given in let b = g .0 .0 in
-    let d = subst (λ o. Answers m' u (y .last .0) h n o) (g .1) (y .ensures) in
+    let d = subst (λ o. AnswersPartial m' u (y .last .0) h n o) (g .1) (y .ensures) in
     partial-wrote m u h p w m' l a f _
     (c .before .before .before .before .before .before .before .before .before .before .before .before .before .nodes .ensures) n out (y .last .0) b d
     (c .before .before .write-out .result) (c .before .before .write-out .last .1 .1 .1 .0) (c .before .before .write-out .ensures)

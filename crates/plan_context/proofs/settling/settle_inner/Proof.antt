@@ -4,7 +4,7 @@ use mathlib.Core.Path.{sym, ap, _∙_, subst}
 use Rattle.semantics.specs.Check.{wantsMet}
 use Rattle.fact_slots.specs.Slots.{loaded}
 use Rattle.node_facts.specs.Ready.{kidsOf, Ready}
-use Rattle.row_facts.specs.Over.{Over as Rows}
+use Rattle.row_facts.specs.Over.{OverRows as Rows}
 use Prim.Native.Nat.{_+_, _*_, _-_}
 use lib.ListN.{length, take, drop}
 use Rattle.scan.specs.Bytes.{cut}

@@ -25,8 +25,7 @@ returns c = let s = c .before .before .before .before .before .before .before in
       endless = not (eqb (getD r 0 0) 9 || eqb (getD r 0 0) 10)
           && (c .before .before .before .before .is-endless .ensures i || s .args .s .endless);
       nodes = s .args .s .nodes + 1;
-      fetch =
-          c .before .before .before .plan-fetch .ensures i;
+      fetch = c .before .before .before .plan-fetch .ensures i;
     }
 
 pub summed-spec : {M : Type 1} → statement M

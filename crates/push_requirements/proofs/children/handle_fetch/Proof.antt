@@ -6,7 +6,7 @@ use Rattle.plan.specs.Op.{Op}
 use Rattle.plan.specs.declared.Kind.the-variants.{Projection}
 use Rattle.key_lists.specs.Keys.{keysOf}
 use Rattle.node_properties.specs.Kinds.{op-of, code-kind}
-use Rattle.push_requirements.specs.Pushing.{Pushes}
+use Rattle.push_requirements.specs.Pushing.{HandsOn}
 use Rattle.push_requirements.specs.Answers.{cond-yes, cond-no}
 use Rattle.walks.specs.SortPushdown as walk
 use Rattle.push_requirements.proofs.children.handle_fetch.Statement.{statement}
@@ -29,7 +29,7 @@ returns-2 : tie.Need-returns-2
 returns-2 c = λ fs m. let s = c .before .before .before .before .before .before .before in let r = s .args .r .now in
     let e = op-of r Projection (code-kind r Projection (sym (c .before .before .is-projection .ensures) ∙ c .before .if2 .taken)) in
     cond-yes m _ _ _ _ (sym (c .before .before .before .before .order-allows .ensures) ∙ not-false _ (c .before .before .before .if1 .left))
-    (subst⁻¹ (λ (o : Op). Pushes m (walk.childRequired o fs (keysOf (s .args .parent))) (c .handle-projection-pushdown .result)) e
+    (subst⁻¹ (λ (o : Op). HandsOn m (walk.childRequired o fs (keysOf (s .args .parent))) (c .handle-projection-pushdown .result)) e
     (c .handle-projection-pushdown .ensures _ m e))
 
 handle-custom-pushdown-requires : tie.Need-handle-custom-pushdown-requires

@@ -2,7 +2,7 @@
 use mathlib.Core.Path.{sym, _∙_, subst}
 use Rattle.plan_codec.specs.Decode.{decode}
 use Rattle.key_lists.specs.Keys.{keysOf}
-use Rattle.push_requirements.specs.Pushing.{Pushes}
+use Rattle.push_requirements.specs.Pushing.{HandsOn}
 use Rattle.push_requirements.specs.declared.Pushed.the-variants.{Stop}
 use Rattle.push_requirements.specs.Answers.{cond-yes, cond-no}
 use Rattle.push_requirements.specs.Children.{limit-of, of-like}
@@ -40,7 +40,7 @@ returns-2 c = λ o fs ts m s e. let n = decode (c .before .before .before .befor
     (cond-yes m (walk.throughFetch n (c .before .before .before .before .before .before .before .before .before .args .limit) m fs) _ _ _
     (sym (c .before .before .through-fetch .ensures o fs ts m _ s
     (limit-of n o fs m _ _ _ s ts (c .before .before .before .before .before .before .before .before .before .args .limit) e)) ∙ c .before .if2 .taken)
-    (subst (λ (G : sem.Facts). Pushes m (walk.handleFetch (decode (c .before .before .before .before .before .before .before .before .before .args .r .now))
+    (subst (λ (G : sem.Facts). HandsOn m (walk.handleFetch (decode (c .before .before .before .before .before .before .before .before .before .args .r .now))
     G fs (keysOf (c .before .before .before .before .before .before .before .before .before .args .parent))) (c .handle-fetch .result)) (s .facts)
     (c .handle-fetch .ensures fs m))))
 

@@ -73,8 +73,7 @@ returns-2 c = let s = c .before .before .before .before .before .before .before 
     (record {
       is = c .before .before .before .before .before .keys-in2 .ensures .is
           ∙ c .before .before .before .before .before .before .known-order .ensures .is;
-      few =
-          c .before .before .before .before .before .keys-in2 .ensures .few;
+      few = c .before .before .before .before .before .keys-in2 .ensures .few;
     }) (c .before .before .join-order .ensures)) (not-true _ (c .if2 .taken))
 
 order-of-requires : tie.Need-order-of-requires
@@ -106,8 +105,7 @@ returns-3 c = let s = c .before .before .before .before .before .before .before 
     (record {
       is = c .before .before .before .before .before .before .before .keys-in2 .ensures .is
           ∙ c .before .before .before .before .before .before .before .before .known-order .ensures .is;
-      few =
-          c .before .before .before .before .before .before .before .keys-in2 .ensures .few;
+      few = c .before .before .before .before .before .before .before .keys-in2 .ensures .few;
     }) (c .before .before .before .before .join-order .ensures))
     (not-false _ (c .before .before .if2 .left)) (c .wanted-order2 .ensures) (c .before .order-of .ensures)
 

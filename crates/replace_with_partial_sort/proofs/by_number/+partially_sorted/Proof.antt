@@ -4,7 +4,7 @@ use mathlib.Core.Path.{refl, sym, subst, _∙_}
 use Rattle.walks.specs.Marks.{sizeT}
 use Rattle.plan_context.specs.View.{treeOf}
 use Rattle.sort_removal.specs.Standing.{slot-room, kid-asks}
-use Rattle.replace_with_partial_sort.specs.ByNumber.{Answers, standing, step-past, step-low, step-asks, step-missing, step-met, step-puts, step-became}
+use Rattle.replace_with_partial_sort.specs.ByNumber.{AnswersPartial, standing, step-past, step-low, step-asks, step-missing, step-met, step-puts, step-became}
 use Prim.Native.Nat.{ℕ, _<_}
 use borrow.Fn.Kinds.{In}
 use borrow.Fn.PlainCycle.{Measures, is, falls, and}
@@ -63,7 +63,7 @@ partially-sorted-same-length t c = c .before .before .replace-node .kept .0
 
 partially-sorted-returns : (t : ℕ) → partially-sorted-lts.Need-returns (calls t) (partially-sorted-at t) partially-sorted.Post
 partially-sorted-returns t c = let s = c .before .before .before .before .before .before in
-    subst (λ i. Answers (s .args .m .now) (s .args .u) (c .before .before .replace-node .last .0) (s .args .h) i (c .before .before .replace-node .result))
+    subst (λ i. AnswersPartial (s .args .m .now) (s .args .u) (c .before .before .replace-node .last .0) (s .args .h) i (c .before .before .replace-node .result))
     (sym (c .before .before .before .before .if1 .taken)) (c .before .before .replace-node .ensures)
 
 partially-sorted-sub-locate : (t : ℕ) → partially-sorted-lts.Need-sub-locate (calls t) (partially-sorted-at t) partially-sorted.Post

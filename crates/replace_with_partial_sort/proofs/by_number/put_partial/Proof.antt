@@ -55,8 +55,7 @@ slice-aggregate-put-over : tie.Need-slice-aggregate-put-over
 slice-aggregate-put-over c = search needs
 
 put-over-requires : tie.Need-put-over-requires
-put-over-requires c κs = let s =
-    c .before .before .before .before .before .before .before .before .before .before .before .before .before .before .before in
+put-over-requires c κs = let s = c .before .before .before .before .before .before .before .before .before .before .before .before .before .before .before in
     partial-puts (s .args .m .now) (s .args .u) (s .args .h) (s .pre .0) (s .args .n) (s .pre .1) (s .pre .2) (s .pre .3) _
     (c .before .before .before .before .before .before .before .before .before .before .before .read64 .ensures
     ∙ c .before .before .before .before .before .before .before .before .before .before .before .before .record-at .ensures) _

@@ -10,7 +10,7 @@ use Rattle.key_lists.specs.Keys.{keysOf, Ordered}
 use Rattle.asked_facts.specs.Asked.{told}
 use Rattle.push_requirements.specs.declared.Pushed.{Pushed}
 use Rattle.push_requirements.specs.declared.Pushed.the-variants.{Stop}
-use Rattle.push_requirements.specs.Pushing.{Pushes}
+use Rattle.push_requirements.specs.Pushing.{HandsOn}
 use Rattle.walks.specs.Utils.{needsMerge, sortAboveWithDistribution}
 use Rattle.walks.specs.SortPushdown.{minFetch, pushdownRequirementToChildren}
 use Rattle.sort_pushdown.specs.Decisions.{Decides, visitOf}
@@ -92,7 +92,7 @@ returns-3 c = let s = c .before .before .before .before .before .before .before 
     (c .before .before .before .before .before .before .before .before .before .requirement .given .0 .0)
     (requirement-is (s .args .v .req .order) _ (s .pre .real)
     (c .before .before .before .before .before .before .before .before .before .requirement .given .1)) _
-    (subst (λ (x : Pushed). Pushes (walk.childCount pl) (pushdownRequirementToChildren o (s .args .limit) (walk.childCount pl) (sem.facts pl)
+    (subst (λ (x : Pushed). HandsOn (walk.childCount pl) (pushdownRequirementToChildren o (s .args .limit) (walk.childCount pl) (sem.facts pl)
     (keysOf (c .before .before .before .before .before .before .before .before .before .requirement .given .0 .0)) (q .req .fetch)) x)
     (c .before .before .before .p .given .1) (c .before .before .before .before .before .pushdown-requirement-to-children .ensures o (sem.facts pl)
     (fetches pl) (walk.childCount pl) z e)))
@@ -107,8 +107,7 @@ needs-merge-requires : tie.Need-needs-merge-requires
 needs-merge-requires c κs = search needs
 
 merge-added-requires : tie.Need-merge-added-requires
-merge-added-requires c κs = let s =
-    c .before .before .before .before .before .before .before .before .before .before .before .before .before .before .before in
+merge-added-requires c κs = let s = c .before .before .before .before .before .before .before .before .before .before .before .before .before .before .before in
     visited-asked (s .args .r .now) (s .args .own .now) (s .args .a .now) (s .args .b .now) (s .args .v .req .order) _ (s .pre)
     (c .before .before .before .before .before .before .before .before .requirement .given .1)
 
@@ -128,7 +127,7 @@ returns-4 c = let s = c .before .before .before .before .before .before .before 
     (c .before .before .before .before .before .before .before .before .before .requirement .given .0 .0)
     (requirement-is (s .args .v .req .order) _ (s .pre .real)
     (c .before .before .before .before .before .before .before .before .before .requirement .given .1)) Stop
-    (subst (λ (x : Pushed). Pushes (walk.childCount pl) (pushdownRequirementToChildren o (s .args .limit) (walk.childCount pl) (sem.facts pl)
+    (subst (λ (x : Pushed). HandsOn (walk.childCount pl) (pushdownRequirementToChildren o (s .args .limit) (walk.childCount pl) (sem.facts pl)
     (keysOf (c .before .before .before .before .before .before .before .before .before .requirement .given .0 .0)) (q .req .fetch)) x)
     (c .before .before .before .enum-told2 .given .1) (c .before .before .before .before .before .pushdown-requirement-to-children .ensures o
     (sem.facts pl) (fetches pl) (walk.childCount pl) z e)))
@@ -164,7 +163,7 @@ returns-5 c = let s = c .before .before .before .before .before .before .before 
     (c .before .before .before .before .before .before .before .before .before .requirement .given .0 .0)
     (requirement-is (s .args .v .req .order) _ (s .pre .real)
     (c .before .before .before .before .before .before .before .before .before .requirement .given .1)) Stop
-    (subst (λ (x : Pushed). Pushes (walk.childCount pl) (pushdownRequirementToChildren o (s .args .limit) (walk.childCount pl) (sem.facts pl)
+    (subst (λ (x : Pushed). HandsOn (walk.childCount pl) (pushdownRequirementToChildren o (s .args .limit) (walk.childCount pl) (sem.facts pl)
     (keysOf (c .before .before .before .before .before .before .before .before .before .requirement .given .0 .0)) (q .req .fetch)) x)
     (c .before .before .before .enum-told2 .given .1) (c .before .before .before .before .before .pushdown-requirement-to-children .ensures o
     (sem.facts pl) (fetches pl) (walk.childCount pl) z e)))

@@ -6,7 +6,7 @@ use Rattle.semantics.specs.Properties.{fetches, rebuilt}
 use Rattle.key_lists.specs.Keys.{keysOf}
 use Rattle.asked_facts.specs.Asked.{told}
 use Rattle.push_requirements.specs.declared.Pushed.{Pushed}
-use Rattle.push_requirements.specs.Pushing.{Pushes}
+use Rattle.push_requirements.specs.Pushing.{HandsOn}
 use Rattle.sort_pushdown.specs.Merging.{asked-again, seen₁, limit₁, merge-goes, merge-stop}
 use Rattle.walks.specs.SortPushdown.{pushdownRequirementToChildren}
 use Rattle.semantics.specs.Facts as sem
@@ -50,7 +50,7 @@ returns c = let s = c .before .before .before .before .before .before .before .b
     (c .before .before .before .before .before .before .before .before .before .fresh-keys .ensures)
     (c .before .before .before .before .before .before .before .before .normal-form .ensures) (c .before .merge-only .result)
     (c .before .before .hand-down .result) (c .stays .result) _ _
-    (subst (λ (x : Pushed). Pushes (walk.childCount pl) (pushdownRequirementToChildren (rebuilt o (sem.facts pl)) (s .args .limit) (walk.childCount pl)
+    (subst (λ (x : Pushed). HandsOn (walk.childCount pl) (pushdownRequirementToChildren (rebuilt o (sem.facts pl)) (s .args .limit) (walk.childCount pl)
     (sem.facts pl) (keysOf (c .before .before .before .before .before .before .before .before .normal-form .result)) (s .args .fetch)) x)
     (c .before .before .before .before .before .p .given .1)
     (c .before .before .before .before .before .before .before .pushdown-requirement-to-children .ensures (rebuilt o (sem.facts pl)) (sem.facts pl)
@@ -89,7 +89,7 @@ returns-2 c = let s = c .before .before .before .before .before .before .before 
     (c .before .before .before .before .before .before .before .fresh-keys .ensures)
     (c .before .before .before .before .before .before .normal-form .ensures) (c .before .before .merge-and-sort .result)
     (c .before .with-own-distribution .result) (c .stays2 .result)
-    (subst (λ (x : Pushed). Pushes (walk.childCount pl) (pushdownRequirementToChildren (rebuilt o (sem.facts pl)) (s .args .limit) (walk.childCount pl)
+    (subst (λ (x : Pushed). HandsOn (walk.childCount pl) (pushdownRequirementToChildren (rebuilt o (sem.facts pl)) (s .args .limit) (walk.childCount pl)
     (sem.facts pl) (keysOf (c .before .before .before .before .before .before .normal-form .result)) (s .args .fetch)) x)
     (c .before .before .before .enum-told .given .1) (c .before .before .before .before .before .pushdown-requirement-to-children .ensures
     (rebuilt o (sem.facts pl)) (sem.facts pl) (fetches pl) (walk.childCount pl)

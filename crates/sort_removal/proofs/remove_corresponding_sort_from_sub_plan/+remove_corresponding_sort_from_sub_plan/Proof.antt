@@ -208,8 +208,7 @@ remove-corresponding-sort-from-sub-plan-loop-holds :
     remove-corresponding-sort-from-sub-plan.Post
     remove-corresponding-sort-from-sub-plan-Inv-loop
     remove-corresponding-sort-from-sub-plan-μ-loop
-remove-corresponding-sort-from-sub-plan-loop-holds t c = let s =
-    c .before .before .before .before .before .before .before .before .before .before .before in
+remove-corresponding-sort-from-sub-plan-loop-holds t c = let s = c .before .before .before .before .before .before .before .before .before .before .before in
     let g = going-none (s .args .m .now) (s .args .u) (s .args .h) (s .pre .1) (replicate 8 0) refl in
     (c .child-count .ensures ∙ few-kids (s .pre .1 .arena) (s .pre .1 .here) (g .made) .1, omega arith, g)
 

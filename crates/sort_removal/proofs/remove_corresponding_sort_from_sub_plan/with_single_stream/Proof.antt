@@ -43,8 +43,7 @@ slice-aggregate-put-over : tie.Need-slice-aggregate-put-over
 slice-aggregate-put-over c = search needs
 
 put-over-requires : tie.Need-put-over-requires
-put-over-requires c κs = let s =
-    c .before .before .before .before .before .before .before .before .before .before .before .before .before .before .before in
+put-over-requires c κs = let s = c .before .before .before .before .before .before .before .before .before .before .before .before .before .before .before in
     with-single-stream-puts (s .args .m .now) (s .args .u) (s .args .h) (s .args .single) (s .pre)
     (not-false _ (c .before .before .before .before .before .before .before .before .before .before .before .before .before .if1 .left)) _
     (c .before .before .before .before .before .before .before .before .before .before .before .row .ensures .1) _

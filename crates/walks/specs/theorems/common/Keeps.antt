@@ -384,6 +384,5 @@ walk-kept step g none f = all-kept-none
 walk-kept {a} {b} {h} step g (tree o c r) f =
     let k : KeepsAll a b h (bare c) (transformUp step c) = walk-kept step g c (f .1) in
     let fits : FitsA (arity o) (count (strip (bare c))) = subst (λ (x : Plan). FitsA (arity o) (count x)) (sym (strip-bare c)) (f .0) in
-    let here : Keeps a b h (node o false (bare c)) (rebuild o false (transformUp step c)) =
-    kept-rebuild o false false (bare c) (transformUp step c) fits k in
+    let here : Keeps a b h (node o false (bare c)) (rebuild o false (transformUp step c)) = kept-rebuild o false false (bare c) (transformUp step c) fits k in
     kept-plant (kept-trans here (g (rebuild o false (transformUp step c)) (here .fit))) (walk-kept step g r (f .2))

@@ -99,11 +99,11 @@ rebuilt-twice (outputRequirement ks d f) fs = refl
 rebuilt-twice (partialSort p ks n f) fs = refl
 
 -- ---- a subplan opened
-pub record Opened (c d : Forest Marked) : Type 0 where
+pub record Widened (c d : Forest Marked) : Type 0 where
   pub wider : Each Wider (known c) (known d)
   pub passes : check (strip d) ≡ true
 
-record OpenedT (t u : Tree) : Type 0 where
+record WidenedT (t u : Tree) : Type 0 where
   wider : Wider (fact t) (fact u)
   passes : PassT u
 
@@ -136,7 +136,7 @@ coalesce-facts (hashJoin t on) fs e = no-bool e
 coalesce-facts (outputRequirement ks d f) fs e = no-bool e
 coalesce-facts (partialSort p ks n f) fs e = no-bool e
 
-lift-opens : (o : Op) (c : Forest Marked) → firstIs bottleneck c ≡ true → Fit (strip c) → check (strip c) ≡ true → Opened c (liftFirst o c)
+lift-opens : (o : Op) (c : Forest Marked) → firstIs bottleneck c ≡ true → Fit (strip c) → check (strip c) ≡ true → Widened c (liftFirst o c)
 lift-opens o none b f e = record { wider = each-nil; passes = refl }
 lift-opens o (tree m c r) b f e =
     let h : PassT (at m c) = first-pass m c r e in
@@ -153,11 +153,11 @@ lift-opens o (tree m c r) b f e =
       passes = pass-plant x r (skip-pass o (at m c) c h (h .1)) (rest-pass m c r e);
     }
 
-pub first-removed-opens : (x : Bool) (o : Op) (c d : Forest Marked) → Fit (strip c) → check (strip c) ≡ true → Opened c d
-    → Opened c (firstBottleneckRemoved x o c d)
+pub first-removed-opens : (x : Bool) (o : Op) (c d : Forest Marked) → Fit (strip c) → check (strip c) ≡ true → Widened c d
+    → Widened c (firstBottleneckRemoved x o c d)
 first-removed-opens x o c d f e k = go (firstIs bottleneck c) refl x
   where
-    go : (y : Bool) → firstIs bottleneck c ≡ y → (z : Bool) → Opened c (cond (y && z) (liftFirst o c) d)
+    go : (y : Bool) → firstIs bottleneck c ≡ y → (z : Bool) → Widened c (cond (y && z) (liftFirst o c) d)
     go true q true = lift-opens o c q f e
     go true q false = k
     go false q z = k
@@ -202,7 +202,7 @@ abbrev Gone : Forest Marked → Forest Marked → Op → Type 0
 Gone c d o = FitsA (arity o) (count (strip c)) → idle (shape o) o d ≡ true → Wider (factsOp o (known c)) (at0 (known d)) × (count (strip d) ≡ 1)
 
 idle-opens : (m : Marked) (c d : Forest Marked) → FitsA (arity (m .op)) (count (strip c)) → KeepsAll false true true c d → All Some (known c)
-    → All Some (known d) → Stays (m .op) (known c) → wantsMet (m .op) (known c) ≡ true → Opened c d → OpenedT (at m c) (withoutIdle m d)
+    → All Some (known d) → Stays (m .op) (known c) → wantsMet (m .op) (known c) ≡ true → Widened c d → WidenedT (at m c) (withoutIdle m d)
 idle-opens m c d f k hs ks st e op = go (idle (shape (m .op)) (m .op) d) refl
   where
     t : Tree
@@ -220,7 +220,7 @@ idle-opens m c d f k hs ks st e op = go (idle (shape (m .op)) (m .op) d) refl
         (λ f n q. no-bool q)
         (λ o s n q. no-bool (ap (λ (z : Shape). idle z o d) (sym s) ∙ q))
 
-    go : (y : Bool) → idle (shape (m .op)) (m .op) d ≡ y → OpenedT (at m c) (cond y (kid0 t d) t)
+    go : (y : Bool) → idle (shape (m .op)) (m .op) d ≡ y → WidenedT (at m c) (cond y (kid0 t d) t)
     go true q = let g = gone (m .op) f q in
         record { wider = subst (Wider (factsOp (m .op) (known c))) (sym (first-fact t d (g .1))) (g .0); passes = kid-pass t d (g .1) (op .passes) }
     go false q = record { wider = over-opened; passes = (wants-remark _ (m .op) (known d) ∙ wants-wider (m .op) (op .wider) e, op .passes) }
@@ -229,19 +229,19 @@ some-known : (c : Forest Marked) → Ok (strip c) → All Some (known c)
 some-known c h = streams-some (strip c) (ok-to (strip c) h)
 
 open-node : (m : Marked) (c d : Forest Marked) (b : Bool) → FitsA (arity (m .op)) (count (strip c)) → Ok (strip c) → KeepsAll false true true c d
-    → (m .mark ≡ true → Stays (m .op) (known c) × Opened c d) → PassT (at m c) → OpenedT (at m c) (cond (m .mark && b) (withoutIdle m d) (at m c))
+    → (m .mark ≡ true → Stays (m .op) (known c) × Widened c d) → PassT (at m c) → WidenedT (at m c) (cond (m .mark && b) (withoutIdle m d) (at m c))
 open-node m c d b f h k s p = go (m .mark) refl b
   where
-    as-it-was : OpenedT (at m c) (at m c)
+    as-it-was : WidenedT (at m c) (at m c)
     as-it-was = record { wider = wider-refl (fact (at m c)); passes = p }
 
-    go : (x : Bool) → m .mark ≡ x → (y : Bool) → OpenedT (at m c) (cond (x && y) (withoutIdle m d) (at m c))
+    go : (x : Bool) → m .mark ≡ x → (y : Bool) → WidenedT (at m c) (cond (x && y) (withoutIdle m d) (at m c))
     go true e true = let v = s e in idle-opens m c d f k (some-known c h) (some-known d (k .ok refl h)) (v .0) (p .0) (v .1)
     go true e false = as-it-was
     go false e y = as-it-was
 
 pub openEach-opens : (q : ℕ → Bool) (c : Forest Marked) → Fit (strip c) → Ok (strip c) → MarksStay c → check (strip c) ≡ true
-    → Opened c (removeBottleneckInSubplanImpl q c)
+    → Widened c (removeBottleneckInSubplanImpl q c)
 openEach-opens q none f h n e = record { wider = each-nil; passes = refl }
 openEach-opens q (tree m c r) f h n e =
     let x : Bool = not (singles (m .op) 0) in
@@ -250,9 +250,9 @@ openEach-opens q (tree m c r) f h n e =
     let k : KeepsAll false true true c d = first-removed-kept x (m .op) c o (f .1)
     (removeBottleneckInSubplanImpl-kept (λ i. not (singles (m .op) i)) c (f .1)) in
     let p : PassT (at m c) = first-pass m c r e in
-    let here : OpenedT (at m c) (cond (m .mark && q 0) (withoutIdle m d) (at m c)) = open-node m c d (q 0) (f .0) (h .1) k (λ i. let y = n .0 i in
+    let here : WidenedT (at m c) (cond (m .mark && q 0) (withoutIdle m d) (at m c)) = open-node m c d (q 0) (f .0) (h .1) k (λ i. let y = n .0 i in
     (y .0, first-removed-opens x (m .op) c o (f .1) (p .1) (openEach-opens (λ i. not (singles (m .op) i)) c (f .1) (h .1) (y .1) (p .1)))) p in
-    let rest : Opened r (removeBottleneckInSubplanImpl (λ i. q (suc i)) r) = openEach-opens (λ i. q (suc i)) r (f .2) (h .2) (n .1) (rest-pass m c r e) in
+    let rest : Widened r (removeBottleneckInSubplanImpl (λ i. q (suc i)) r) = openEach-opens (λ i. q (suc i)) r (f .2) (h .2) (n .1) (rest-pass m c r e) in
     record {
       wider = each-cons (here .wider) (rest .wider);
       passes = pass-plant (cond (m .mark && q 0) (withoutIdle m d) (at m c))

@@ -30,7 +30,7 @@ use Rattle.walks.specs.theorems.parallelize.Kept.{without-self-kept, rem
 use Rattle.walks.specs.theorems.common.OrderMet.{wants-remark}
 use Rattle.walks.specs.theorems.ensure.Removal.{isOther, other-code}
 use Rattle.walks.specs.theorems.ensure.Passes.{addSort-met}
-use Rattle.walks.specs.theorems.parallelize.Bottlenecks.{MarksStay, FineT, kid-pass, openEach-opens, Opened, first-removed-opens, pass-plant, PassT, rebuilt-facts}
+use Rattle.walks.specs.theorems.parallelize.Bottlenecks.{MarksStay, FineT, kid-pass, openEach-opens, Widened, first-removed-opens, pass-plant, PassT, rebuilt-facts}
 
 -- ---- the step: the node's facts stay
 facts-are : (F G : Facts) → blank F ≡ blank G → F .streams ≡ G .streams → F .order ≡ G .order → F ≡ G
@@ -50,7 +50,7 @@ record Ready (t : Tree) : Type 0 where
   passes : PassT t
 
 module _ (t : Tree) (h : Ready t) where
-  root-opens : Opened (t .kids) (bottlenecksRemoved t)
+  root-opens : Widened (t .kids) (bottlenecksRemoved t)
   root-opens = first-removed-opens true (opT t) (t .kids) (removeBottleneckInSubplanImpl (λ i. true) (t .kids)) (h .fit .1) (h .passes .1)
       (openEach-opens (λ i. true) (t .kids) (h .fit .1) (h .ok .1) (h .kids) (h .passes .1))
 
