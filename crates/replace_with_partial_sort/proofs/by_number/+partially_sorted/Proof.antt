@@ -63,7 +63,8 @@ partially-sorted-same-length t c = c .before .before .replace-node .kept .0
 
 partially-sorted-returns : (t : ℕ) → partially-sorted-lts.Need-returns (calls t) (partially-sorted-at t) partially-sorted.Post
 partially-sorted-returns t c = let s = c .before .before .before .before .before .before in
-    subst (λ i. AnswersPartial (s .args .m .now) (s .args .u) (c .before .before .replace-node .last .0) (s .args .h) i (c .before .before .replace-node .result))
+    subst
+    (λ i. AnswersPartial (s .args .m .now) (s .args .u) (c .before .before .replace-node .last .0) (s .args .h) i (c .before .before .replace-node .result))
     (sym (c .before .before .before .before .if1 .taken)) (c .before .before .replace-node .ensures)
 
 partially-sorted-sub-locate : (t : ℕ) → partially-sorted-lts.Need-sub-locate (calls t) (partially-sorted-at t) partially-sorted.Post
