@@ -1,5 +1,5 @@
 #!/usr/bin/env python3
-"""Makes the plan files of document 01's worked examples, from its section 'A plan file comes in':
+"""Makes the plan files of document 01's worked examples and of one of docs/DECISIONS.md, from 01's section 'A plan file comes in':
 
     tools/worked_examples.py
 
@@ -9,17 +9,19 @@ import os
 
 CRATES = os.path.join(os.path.dirname(os.path.abspath(__file__)), "..", "crates")
 
-SOURCE, FILTER, COALESCE, SORT, MERGE, OUTPUT_REQUIREMENT = 1, 2, 6, 7, 8, 13
+SOURCE, FILTER, REPARTITION, COALESCE, SORT, MERGE, OUTPUT_REQUIREMENT = 1, 2, 5, 6, 7, 8, 13
 NO_FETCH = 4294967295
 DESCENDING = 1
+PRESERVE = 1
+SINGLE = 1
 
 
-def record(kind, children=0, streams=0, fetch=0, keys=(), width=0):
+def record(kind, children=0, streams=0, marks=0, fetch=0, keys=(), width=0, distribution=0):
     """One record of 64 bytes. A key is a column, ascending with nulls last, or a pair of a column and its options."""
     r = bytearray(64)
-    r[0], r[1], r[2] = kind, children, streams
+    r[0], r[1], r[2], r[3] = kind, children, streams, marks
     r[4:8] = fetch.to_bytes(4, "little")
-    r[12], r[13] = len(keys), width
+    r[12], r[13], r[14] = len(keys), width, distribution
     for i, key in enumerate(keys):
         r[16 + 2 * i : 18 + 2 * i] = key if isinstance(key, tuple) else (key, 0)
     return bytes(r)
@@ -37,6 +39,14 @@ def wants(*keys):
 def chain(nodes):
     """So many nodes: filters, one over the other, over a source."""
     return [record(FILTER, 1)] * (nodes - 1) + [source(1, [2])]
+
+
+def growing(layers):
+    """Reading 4's tree, 13 single [1] / (rr2 p / 13 single)^layers / sort[0] p f9 / s2: its root's step puts a node into each layer."""
+    single = record(OUTPUT_REQUIREMENT, 1, fetch=NO_FETCH, distribution=SINGLE)
+    layer = [record(REPARTITION, 1, streams=2, marks=PRESERVE), single]
+    root = record(OUTPUT_REQUIREMENT, 1, fetch=NO_FETCH, keys=[1], distribution=SINGLE)
+    return [root] + layer * layers + [record(SORT, 1, marks=PRESERVE, fetch=9, keys=[0]), source(2, [])]
 
 
 def plan_file(records):
@@ -69,6 +79,7 @@ def main():
         "sort_over_coalesce": plan_file([
             record(SORT, 1, fetch=5, keys=[2]), record(FILTER, 1), record(COALESCE, 1, fetch=NO_FETCH), source(2, [2])
         ]),
+        "growing_125": plan_file(growing(61)),
     }
     for name, data in examples.items():
         write("worked_examples/data/" + name, data)

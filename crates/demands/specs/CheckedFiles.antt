@@ -21,7 +21,7 @@ use Rattle.plan_codec.specs.RoundTrip.{read-well-formed}
 use Rattle.semantics.specs.Check.{check, EachMet}
 use Rattle.semantics.specs.theorems.check.CheckIsMet.{check-met, met-check}
 use Rattle.semantics.specs.Runs.{Env, Run, Sources, Streams}
-use Rattle.plan_calls.specs.Answers.{checkAnswer}
+use Rattle.call_answers.specs.Answers.{checkAnswer}
 use Rattle.demands.specs.OrderKept.{AllFed, order-kept}
 
 -- No run of a plan, over rows that keep its declared facts, feeds an operator out of order

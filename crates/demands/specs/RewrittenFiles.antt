@@ -33,7 +33,7 @@ use Rattle.walks.specs.PushdownSorts.{atRoot, push}
 use Rattle.walks.specs.Counted.{Answer, answered, hasPartialSort, refused}
 use Rattle.walks.specs.Terms.{answerDown, answerUp, clear, hasConstantSort, sizesDown, sizesUp, small}
 use Rattle.walks.specs.theorems.calls.Answers.{ensured-is, parallelized-is, preserved-is, pushed-is, well-fit}
-use Rattle.plan_calls.specs.Answers.{afterReading, outputIn, refusalIn, rewrites, rewritten, tooShort}
+use Rattle.call_answers.specs.Answers.{afterReading, outputIn, refusalIn, rewrites, rewritten, tooShort}
 use Rattle.demands.specs.OrderKept.{AllFed}
 use Rattle.demands.specs.Walks.{answer, ensuring, parallelizing, preserving, pushing, Walk}
 use Rattle.demands.specs.PlanKept.{well-formed-again}

@@ -1,4 +1,1 @@
-// This crate is its specs: what is demanded, as theorems. Crate feeds_in_order ties them to the code. A crate needs a function.
-pub fn nothing() -> u64 {
-    0
-}
+// What is demanded, as theorems: see specs/. Crate feeds_in_order ties them to the code.

@@ -43,7 +43,7 @@ use Rattle.plan_calls.specs.declared.calls.Call.{Call}
 use Rattle.plan_calls.specs.declared.calls.Call.the-variants.{CheckOrder, CopyPlan, TransformUp}
 use Rattle.plan_calls.specs.declared.calls.Called.{Called}
 use Rattle.plan_calls.specs.declared.calls.Called.the-variants.{Done, NoRoom}
-use Rattle.plan_calls.specs.Answers.{Result, refuses, checks, gives, afterReading, rewritten}
+use Rattle.call_answers.specs.Answers.{Result, refuses, checks, gives, afterReading, rewritten}
 use Rattle.plan_calls.specs.PartialSorts.{partialT}
 use Rattle.plan_calls.specs.Calls.{resultOf, stoppedAs, CalledAs, Loads, Memory}
 

@@ -28,7 +28,7 @@ use Rattle.plan_calls.specs.declared.calls.Call.the-variants.{CheckOrder
 use Rattle.plan_calls.specs.declared.calls.Called.{Called}
 use Rattle.plan_calls.specs.declared.calls.Called.the-variants.{Done, NoRoom}
 use Rattle.plan_calls.specs.PartialSorts.{partialT}
-use Rattle.plan_calls.specs.Answers.{Result, checks, gives, rewritten, refusalIn, outputIn, passesIn}
+use Rattle.call_answers.specs.Answers.{Result, checks, gives, rewritten, refusalIn, outputIn, passesIn}
 
 abbrev pub resultOf : Call → Plan → Result
 resultOf CheckOrder f = checks (check f)

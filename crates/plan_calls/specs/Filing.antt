@@ -31,7 +31,7 @@ use Rattle.plan_context.specs.Nodes.{counts-of, seen}
 use Rattle.plan_context.specs.Records.{planT}
 use Rattle.plan_context.specs.Reading.{Loaded}
 use Rattle.plan_context.specs.Facts.{size-strip}
-use Rattle.plan_calls.specs.Answers.{gives, refusalIn, outputIn}
+use Rattle.call_answers.specs.Answers.{gives, refusalIn, outputIn}
 
 pub arena-loaded : (m : List ℕ) (u : ℕ) → Arena m u → Loaded m u
 arena-loaded m u a = record { slots = a .slots; small = a .small; proper = λ i h. a .all i h .proper }

@@ -1,4 +1,3 @@
-pub mod Answers
 pub mod Filing
 pub mod PartialSorts
 pub mod Calls

@@ -22,7 +22,7 @@ use Rattle.arena.specs.declared.At.{At}
 use Rattle.plan_calls.specs.declared.calls.Call.the-variants.{PartialSort}
 use Rattle.plan_calls.specs.declared.calls.Called.{Called}
 use Rattle.plan_calls.specs.declared.calls.Called.the-variants.{Done, NoRoom}
-use Rattle.plan_calls.specs.Answers.{gives, rewritten}
+use Rattle.call_answers.specs.Answers.{gives, rewritten}
 use Rattle.plan_calls.specs.Calls.{CalledAs, Formed, resultOf}
 use Rattle.plan_calls.specs.Calling.{plan-size}
 

@@ -32,7 +32,7 @@ use Rattle.pushdown_sorts.specs.Walk.{countedT, decided, Ends, pushedT, Pushes}
 use Rattle.plan_calls.specs.declared.calls.Call.the-variants.{PushDown}
 use Rattle.plan_calls.specs.declared.calls.Called.{Called}
 use Rattle.plan_calls.specs.declared.calls.Called.the-variants.{Done}
-use Rattle.plan_calls.specs.Answers.{gives, refuses, Result, rewritten}
+use Rattle.call_answers.specs.Answers.{gives, refuses, Result, rewritten}
 use Rattle.plan_calls.specs.PartialSorts.{partialT}
 use Rattle.plan_calls.specs.Calls.{CalledAs, Formed, Pushable, resultOf}
 use Rattle.plan_calls.specs.Calling.{partial-plan, plan-size}

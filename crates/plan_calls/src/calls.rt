@@ -25,7 +25,7 @@ ghost use Rattle.walks.specs.Marks.{sizeT};
 ghost use Rattle.plan_context.specs.View.{treeIn, treeOf};
 ghost use Rattle.plan_context.specs.Records.{planT};
 ghost use Rattle.plan_context.specs.Reading.{Loaded};
-ghost use Rattle.plan_calls.specs.Answers.{afterReading, gives};
+ghost use Rattle.call_answers.specs.Answers.{afterReading, gives};
 ghost use Rattle.plan_calls.specs.PartialSorts.{partialT};
 ghost use Rattle.plan_calls.specs.Calls.{resultOf, stoppedAs, CalledAs, Formed, Pushable, Loads, Memory};
 ghost use Rattle.arena.specs.Arena.{slotSize};

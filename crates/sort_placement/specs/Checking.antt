@@ -12,7 +12,7 @@ use Rattle.scan.specs.Bytes.{oneIf}
 use Rattle.plan_codec.specs.Reading.{plan, planOf, reading, refused}
 use Rattle.plan_codec.specs.Reading as codec
 use Rattle.plan_calls.specs.declared.calls.Call.the-variants.{CheckOrder}
-use Rattle.plan_calls.specs.Answers.{afterReading, checkAnswer, passesIn, refusalIn}
+use Rattle.call_answers.specs.Answers.{afterReading, checkAnswer, passesIn, refusalIn}
 use Rattle.plan_calls.specs.Calls.{resultOf}
 
 module _ (s out : List ℕ) where

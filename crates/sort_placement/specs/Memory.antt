@@ -16,7 +16,7 @@ use Rattle.transform_up.specs.Tidying.{fullSlots}
 use Rattle.plan_calls.specs.declared.calls.Call.{Call}
 use Rattle.plan_calls.specs.declared.calls.Called.{Called}
 use Rattle.plan_calls.specs.declared.calls.Called.the-variants.{Done, NoRoom}
-use Rattle.plan_calls.specs.Answers.{Result, afterReading}
+use Rattle.call_answers.specs.Answers.{Result, afterReading}
 use Rattle.plan_calls.specs.Calls.{resultOf, CalledAs}
 use Rattle.sort_placement.specs.Replies.{Answered}
 use Rattle.plan_calls.specs.Calling.{file-refused}

@@ -4,7 +4,7 @@ use mathlib.Core.List.{List}
 use Prim.Native.Nat.{ℕ}
 use Rattle.plan.specs.Numbers.{numberOf}
 use Rattle.sort_placement.specs.declared.memory.Reply.{Reply}
-use Rattle.plan_calls.specs.Answers.{Result, refusalIn, outputIn, passesIn}
+use Rattle.call_answers.specs.Answers.{Result, refusalIn, outputIn, passesIn}
 
 -- The number, whether the plan passes, and every byte of the output afterwards: all that the result settles
 abbrev pub Answered : Reply → Result → List ℕ → List ℕ → Type 0

@@ -11,7 +11,7 @@ ghost use Rattle.plan.specs.Numbers.{numberOf};
 ghost use Rattle.plan_format.specs.Reading.{refusalOf};
 ghost use Rattle.plan_codec.specs.Reading.{reading};
 ghost use Rattle.walks.specs.Counted.{answered, ensured, parallelized, partiallySorted, preserved, pushed};
-ghost use Rattle.plan_calls.specs.Answers.{checkAnswer, settingsIn, rewrites, refusalIn, outputIn};
+ghost use Rattle.call_answers.specs.Answers.{checkAnswer, settingsIn, rewrites, refusalIn, outputIn};
 
 // In `passes` 1 where the plan passes the order check, 0 where it doesn't.
 #[no_mangle]

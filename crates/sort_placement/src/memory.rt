@@ -8,7 +8,7 @@ ghost use mathlib.Core.Path.{_≡_};
 ghost use Prim.Native.Nat.{_*_, _≤_, _<_};
 ghost use Rattle.plan_codec.specs.Reading.{reading};
 ghost use Rattle.plan_format.specs.Blocks.{blockCount};
-ghost use Rattle.plan_calls.specs.Answers.{afterReading};
+ghost use Rattle.call_answers.specs.Answers.{afterReading};
 ghost use Rattle.plan_calls.specs.Calls.{resultOf, CalledAs};
 ghost use Rattle.sort_placement.specs.Replies.{Answered};
 

@@ -1,6 +1,6 @@
-// Runs worked examples of document 01 ('Worked on paper') on the plan files of data/, which tools/worked_examples.py makes. Of a check it writes a line: a
-// refusal's number
-// or that the plan is accepted, and whether a wanted order is met; of a rewrite the listing of the plan that comes of it.
+// Runs worked examples of document 01 ('Worked on paper') and one of docs/DECISIONS.md on the plan files of data/, which tools/worked_examples.py makes. Of
+// a check it writes a line: a refusal's number or that the plan is accepted, and whether a wanted order is met; of a rewrite the listing of the plan that
+// comes of it, or the refusal's number.
 use libc::STDOUT_FILENO;
 
 // What the export answers, and what it leaves in the lent number.
@@ -132,5 +132,10 @@ fn main() {
         b"order-preserving, spm better, sort [2] fetch 5, filter, coalesce, two streams known [2]:\n",
         b"sort_over_coalesce",
         false,
+    );
+    rewrite(
+        b"ensure, reading 4's 125 nodes, 188 after the root's step: ",
+        b"growing_125",
+        true,
     );
 }

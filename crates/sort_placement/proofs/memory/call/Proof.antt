@@ -4,7 +4,7 @@ use mathlib.Core.Path.{_≡_, refl, sym, ap, _∙_, subst}
 use Prim.Native.Nat.{_*_, _-_, _≤_}
 use Rattle.plan_codec.specs.Reading.{reading}
 use Rattle.plan.specs.Numbers.{numberOf}
-use Rattle.plan_calls.specs.Answers.{afterReading}
+use Rattle.call_answers.specs.Answers.{afterReading}
 use lib.ListN.{length}
 use Rattle.plan_calls.specs.Calls.{resultOf, CalledAs}
 use Rattle.sort_placement.specs.Replies.{Answered}

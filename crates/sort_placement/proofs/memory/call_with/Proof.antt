@@ -1,7 +1,7 @@
 use borrow.Author.Needs.{needs}
 use native.Mathlib.Omega.{arith}
 use Rattle.plan_codec.specs.Reading.{reading}
-use Rattle.plan_calls.specs.Answers.{afterReading}
+use Rattle.call_answers.specs.Answers.{afterReading}
 use Rattle.plan_calls.specs.Calls.{resultOf}
 use Rattle.sort_placement.specs.Memory.{not-full}
 use Rattle.sort_placement.proofs.memory.call_with.Statement.{statement}
