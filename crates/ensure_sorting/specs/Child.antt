@@ -36,7 +36,7 @@ use Rattle.plan_context.specs.Handles.{Marks}
 use Rattle.plan_updates.specs.Covering.{Under, ok-of}
 use Rattle.plan_updates.specs.Opening.{grown-none, grown-more, grown-then}
 use Rattle.utils.specs.Sorting.{Sortable}
-use Rattle.sort_removal.specs.Standing.{Standing}
+use Rattle.sort_connection.specs.Standing.{Standing}
 use Rattle.sort_removal.specs.Sizes.{kids-size}
 use Rattle.sort_removal.specs.Removing.{removeOne, marked-grown}
 

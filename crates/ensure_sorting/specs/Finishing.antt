@@ -37,8 +37,8 @@ use Rattle.plan_context.specs.Nodes.{counts-of}
 use Rattle.plan_context.specs.Facts.{Tells}
 use Rattle.plan_context.specs.Handles.{kid-is}
 use Rattle.plan_updates.specs.Putting.{put-over}
-use Rattle.sort_removal.specs.Standing.{Standing, view, own-proper, merge-op, one-kid}
-use Rattle.sort_removal.specs.Connection.{Connected}
+use Rattle.sort_connection.specs.Standing.{Standing, view, own-proper, merge-op, one-kid}
+use Rattle.sort_connection.specs.Connection.{Connected}
 use Rattle.sort_removal.specs.Sizes.{connected-size}
 
 pub record Finishes (b : List ℕ) (w h : ℕ) (r ks : List ℕ) : Type 0 where

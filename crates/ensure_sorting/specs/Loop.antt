@@ -33,7 +33,7 @@ use Rattle.walks.specs.theorems.common.Keys.{keysOk, keys-of}
 use Rattle.walks.specs.theorems.common.NewNodes.{wanted-fits, wantsFit, node-fetch}
 use Rattle.walks.specs.OutputRequirements.{outputFetch}
 use Rattle.walks.specs.EnsureSorting.{updateSortCtxChildrenData, updateChildToRemoveUnnecessarySort, ensureChild, ensureEach, ensuredKids, afterLoop, finish}
-use Rattle.walks.specs.theorems.ensure.Kept.{ensureEach-kept}
+use Rattle.walks.specs.theorems.ensure.Kept.{ensureEach-kept, output-ok}
 use Rattle.plan_context.specs.View.{treeOf, forest, mostNodes, mostSlots, Arena, Grown}
 use Rattle.plan_context.specs.Laws.{facts-at, length-facts, same-trans}
 use Rattle.plan_context.specs.Nodes.{Seen}
@@ -41,11 +41,12 @@ use Rattle.plan_updates.specs.Kids.{Kids, kids-none, kids-more, kids-forest}
 use Rattle.plan_updates.specs.From.{from, from-first, from-next}
 use Rattle.plan_updates.specs.ChildLoop.{drop-size, half, view, same-slot, same-tree, kid-below, kid-same, split, counted, new-below, new-kids}
 use Rattle.utils.specs.Sorting.{Sortable}
-use Rattle.sort_removal.specs.Standing.{Standing, tree-is}
-use Rattle.sort_removal.specs.Connection.{count-roots}
-use Rattle.sort_removal.specs.Sizes.{cond-le, connected-size}
+use Rattle.sort_connection.specs.Standing.{Standing, tree-is}
+use Rattle.sort_connection.specs.Connection.{count-roots}
+use Rattle.sort_removal.specs.Sizes.{connected-size}
 use Rattle.ensure_sorting.specs.Child.{Ensures, update-size}
 use Rattle.ensure_sorting.specs.Finishing.{Finishes}
+use Rattle.walks.specs.theorems.calls.Counts.{cond-le}
 
 -- What the loop and the end after it ask
 pub record Loops (b : List ℕ) (u h : ℕ) : Type 0 where
@@ -58,9 +59,9 @@ pub record Loops (b : List ℕ) (u h : ℕ) : Type 0 where
 
 -- ---- sizes
 
-cover-size : (p : Bool) (ks : List Key) (f : Fetch) (t : Tree) → sizeT (cover (newSort p ks f) t) ≤ suc (sizeT t)
-cover-size p [] f t = omega arith
-cover-size p (k ∷ ks) f t = omega arith
+new-sort-size : (p : Bool) (ks : List Key) (f : Fetch) (t : Tree) → sizeT (cover (newSort p ks f) t) ≤ suc (sizeT t)
+new-sort-size p [] f t = omega arith
+new-sort-size p (k ∷ ks) f t = omega arith
 
 child-size : (w : List Key) (b s : Bool) (f : Fetch) (t : Tree) → sizeT (ensureChild w b s f t) ≤ 2 * sizeT t + 1
 child-size [] b s f t = let x = update-size s t in
@@ -68,7 +69,7 @@ child-size [] b s f t = let x = update-size s t in
 child-size (k ∷ w) b s f t =
     let x = update-size s t in
     let y = cond-le (2 * sizeT t) (isNil (knownOrder (fact t))) t (updateChildToRemoveUnnecessarySort s t) (omega arith) (omega arith) in
-    let z = cover-size (ltb 1 (fact (cond (isNil (knownOrder (fact t))) t (updateChildToRemoveUnnecessarySort s t)) .streams))
+    let z = new-sort-size (ltb 1 (fact (cond (isNil (knownOrder (fact t))) t (updateChildToRemoveUnnecessarySort s t)) .streams))
     (freshKeys (fact (cond (isNil (knownOrder (fact t))) t (updateChildToRemoveUnnecessarySort s t))) [] (k ∷ w)) f
     (cond (isNil (knownOrder (fact t))) t (updateChildToRemoveUnnecessarySort s t)) in
     let v = connected-size (addSortAbove (k ∷ w) f (cond (isNil (knownOrder (fact t))) t (updateChildToRemoveUnnecessarySort s t)) .kids) in
@@ -83,13 +84,6 @@ each-size w b s f (tree m c r) =
     let y = each-size (λ i. w (suc i)) (λ i. b (suc i)) (λ i. s (suc i)) f r in omega arith
 
 -- ---- what a new sort over a child may have
-
-output-ok : (o : Op) (ws : List ℕ) → nodeOk o ws ≡ true → fetchOk (outputFetch o) ≡ true
-output-ok o ws e = go (eqb (code o) 13)
-  where
-    go : (x : Bool) → fetchOk (cond x (cuts o .fetch) Unlimited) ≡ true
-    go true = node-fetch o ws e
-    go false = refl
 
 wants-at : (w : ℕ → List Key) (fs : List Facts) → wantsFit w fs ≡ true → (j : ℕ) → j < length fs → keysOk (getD fs j nothing .width) (w j) ≡ true
 wants-at w [] e j l = absurd (omega arith)

@@ -33,12 +33,12 @@ use Rattle.plan_context.specs.Nodes.{few-over}
 use Rattle.plan_context.specs.Facts.{Tells}
 use Rattle.plan_updates.specs.Opened.{stepRoom, Opened}
 use Rattle.plan_updates.specs.Opening.{opened-over, grown-none, grown-more, grown-then}
-use Rattle.sort_removal.specs.Standing.{Standing, view, tree-is, op-is, own-proper, sort-op, is-code, not-code}
-use Rattle.sort_removal.specs.Connection.{Connected}
+use Rattle.sort_connection.specs.Standing.{Standing, view, tree-is, op-is, own-proper, sort-op, is-code, not-code}
+use Rattle.sort_connection.specs.Connection.{Connected}
 use Rattle.sort_removal.specs.Sizes.{connected-size}
 use Rattle.sort_removal.specs.Removing.{roots-none}
 use Rattle.ensure_sorting.specs.Loop.{Loops}
-use Rattle.sort_removal.specs.Immediate.{Immediates, immediateAt}
+use Rattle.immediate_sort_removal.specs.Immediate.{Immediates, immediateAt}
 
 -- ---- the node at h, whose children's marks are right
 

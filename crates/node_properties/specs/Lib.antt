@@ -1,4 +1,3 @@
 pub mod Nodes
-pub mod Kinds
 pub mod Fields
 pub mod Maintaining

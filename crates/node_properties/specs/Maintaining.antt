@@ -2,31 +2,24 @@
 use mathlib.Core.Path.{_≡_, refl, sym, ap, ap₂, _∙_}
 use mathlib.Core.Bool.{Bool, true, false, not, _&&_, Bool·beq}
 use mathlib.Core.List.{List}
-use Prim.Native.Nat.{ℕ, zero, suc}
+use Prim.Native.Nat.{ℕ}
 use native.Mathlib.Omega.{arith}
 use lib.Dec.{eqb}
 use lib.ListN.{length, getD}
 use borrow.Author.Tests.{eqb-true, eq-eqb, ne-eqb}
-use Rattle.row_order.specs.Iso.{Key}
 use Rattle.row_order.specs.Order.{no-bool}
-use Rattle.plan.specs.Op.{Op}
 use Rattle.plan.specs.Numbers.{code, kindNumber, kindOf}
 use Rattle.plan.specs.WellFormed.{childrenOk}
 use Rattle.plan.specs.declared.Kind.{Kind}
 use Rattle.plan.specs.declared.Kind.the-variants.{Source, Filter, Projection, Union, Repartition, Coalesce, Sort, Merge, GlobalLimit, LocalLimit, SortMergeJoin, HashJoin, OutputRequirement, PartialSort}
 use Rattle.semantics.specs.Facts.{Facts, factsOp, isNil, keepsOrder, knownOrder, nothing}
-use Rattle.semantics.specs.Properties.{leftSingle, maintains}
-use Rattle.plan.specs.declared.Distribution.the-variants.{Single, Unspecified}
+use Rattle.semantics.specs.Properties.{maintains}
 use Rattle.plan_codec.specs.NodeRecord.{NodeRecord}
 use Rattle.plan_codec.specs.Decode.{decode, fromBytes, operatorOf}
 use Rattle.walks.specs.Marks.{shape}
 use Rattle.walks.specs.ParallelizeSorts.{Partitioning, unequal, parted, partitioning, eqPartitioning, eqKeys, samePartitioning}
 use Rattle.node_properties.specs.Nodes.{Among}
-use Rattle.node_properties.specs.Kinds.{op-of, asked-of, kind-is, code-kind}
-
-pub others-free : (j : ℕ) → (j ≡ 0 → ⊥) → Unspecified ≡ leftSingle j
-others-free zero e = absurd (e refl)
-others-free (suc j) e = refl
+use Rattle.record_fields.specs.Kinds.{op-of, asked-of, kind-is, code-kind}
 
 module _ (r : List ℕ) (fs : List Facts) (j : ℕ) (F G : Facts) (a : Among (decode r) fs j F G) where
   pub union-maintains : kindOf (getD r 0 0) ≡ Union → (x y : Bool) → x ≡ not (isNil (knownOrder F)) → y ≡ eqb (length (knownOrder G))

@@ -40,8 +40,8 @@ use Rattle.plan_updates.specs.Opened.{Opened, stepRoom}
 use Rattle.plan_updates.specs.Opening.{opened-over, grown-more, grown-then}
 use Rattle.utils.specs.Sorting.{Sortable}
 use Rattle.parallelize_sorts.specs.declared.SortExprs.{SortExprs}
-use Rattle.parallelize_sorts.specs.Connecting.{some-first}
-use Rattle.parallelize_sorts.specs.Removing.{Opens, without-self-size}
+use Rattle.bottleneck_removal.specs.Connecting.{some-first}
+use Rattle.bottleneck_removal.specs.Removing.{Opens, without-self-size}
 use Rattle.parallelize_sorts.specs.Exprs.{Exprs, cascades, Cascaded, cascaded, merge-keys, Coalesced, stays-else}
 
 -- A node with the record r over the tree at h, that stands in no slot

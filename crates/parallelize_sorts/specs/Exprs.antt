@@ -21,14 +21,14 @@ use Rattle.semantics.specs.Facts.{Facts, factsOp, sortStreams}
 use Rattle.semantics.specs.Properties.{cuts}
 use Rattle.semantics.specs.theorems.common.Bools.{and-left, and-right}
 use Rattle.key_lists.specs.Keys.{keysOf, Keyed}
-use Rattle.node_properties.specs.Kinds.{op-of, code-kind}
+use Rattle.record_fields.specs.Kinds.{op-of, code-kind}
 use Rattle.walks.specs.Marks.{Marked, Tree, fact, node, over, plant, Shape, aSort, aMerge, aRepartition, aCoalesce, another, shape}
 use Rattle.walks.specs.Utils.{isSort, isSortPreservingMerge, isCoalescePartitions, addSortAboveWithCheck}
 use Rattle.walks.specs.Terms.{passing}
 use Rattle.walks.specs.theorems.common.Keys.{KeysFit, keys-of}
 use Rattle.walks.specs.ParallelizeSorts.{cascade, withoutSelf, parallelBy}
 use Rattle.parallelize_sorts.specs.declared.SortExprs.{SortExprs}
-use Rattle.parallelize_sorts.specs.Removing.{without-self-by}
+use Rattle.bottleneck_removal.specs.Removing.{without-self-by}
 
 -- They are those that parallelBy hands to cascade, as written (reading 7)
 abbrev pub Exprs : Shape → SortExprs → Type 0

@@ -1,8 +1,2 @@
-pub mod Connecting
-pub mod Shown
-pub mod Skipping
-pub mod Sizes
-pub mod IdleNodes
-pub mod Removing
 pub mod Exprs
 pub mod Cascading

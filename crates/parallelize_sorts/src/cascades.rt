@@ -1,8 +1,8 @@
 // A coalesce and a sort over it give their place to a sort of each stream and a merge over it.
 use crate::SortExprs;
-use crate::bottlenecks::remove_bottleneck_in_subplan;
 use arena::At;
 use asked_facts::asked::several_streams;
+use bottleneck_removal::bottlenecks::remove_bottleneck_in_subplan;
 use new_records::coalesce_record;
 use new_records::merge_record;
 use node_properties::fetch;

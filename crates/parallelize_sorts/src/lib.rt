@@ -1,15 +1,13 @@
 // enforce_sorting/mod.rs, parallelizing: coalesces below a sort are taken out, so that each stream is sorted by itself and a merge
 // gathers them.
-pub mod bottlenecks;
 pub mod cascades;
-pub mod marks;
 
 use crate::cascades::cascade;
 use crate::cascades::coalesce_again;
 use crate::cascades::sorts_one_stream;
-use crate::marks::first_connected;
-use crate::marks::update_coalesce_ctx_children;
 use arena::At;
+use bottleneck_removal::marks::first_connected;
+use bottleneck_removal::marks::update_coalesce_ctx_children;
 use key_lists::Keys;
 use node_properties::is_coalesce_partitions;
 use plan::Fetch;

@@ -64,7 +64,7 @@ pub fn read(s: &[u8], m: &mut [u8]) -> PlanRead
         };
     }
     let n = s.len() / 512;
-    let c = plan_passes::record_count(s, n);
+    let c = block_passes::record_count(s, n);
     let r = fill(s, c, m);
     PlanRead {
         refusal: x,

@@ -1,6 +1,2 @@
-pub mod Filing
-pub mod PartialSorts
-pub mod Calls
+pub mod Results
 pub mod Calling
-pub mod Pushing
-pub mod PartialSorting

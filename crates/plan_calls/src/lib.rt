@@ -1,2 +1,13 @@
 // The calls on a plan file, in an arena that the caller lends: read, check or rewrite, write.
+use transform_up::Walk;
+
 pub mod calls;
+
+// What is asked of a plan.
+pub enum Call {
+    CheckOrder,
+    CopyPlan,
+    TransformUp(Walk),
+    PushDown,
+    PartialSort(u32),
+}

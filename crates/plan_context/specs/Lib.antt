@@ -3,7 +3,6 @@ pub mod Laws
 pub mod Facts
 pub mod Nodes
 pub mod Handles
-pub mod Own
 pub mod Summaries
 pub mod Settling
 pub mod Storing

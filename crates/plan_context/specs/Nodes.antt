@@ -28,6 +28,7 @@ use Rattle.arena.specs.Arena.{slot, Below}
 use Rattle.plan_context.specs.View.{treeIn, forest, mostNodes, ProperSlot, Over}
 use Rattle.plan_context.specs.Laws.{length-facts, tree-in}
 use Rattle.plan_context.specs.Facts.{Child}
+use Rattle.record_fields.specs.Kinds.{kind-is}
 
 -- a union has eight children at most, every other kind two
 few-kids : (o : Op) (n : ℕ) → (kind o ≡ Union → ⊥) → childrenOk o n ≡ true → n ≤ 2
@@ -61,10 +62,6 @@ few-any (sortMergeJoin t on) n e = omega (arith, eqb-true n 2 e)
 few-any (hashJoin t on) n e = omega (arith, eqb-true n 2 e)
 few-any (outputRequirement ks d t) n e = omega (arith, eqb-true n 1 e)
 few-any (partialSort p ks k t) n e = omega (arith, eqb-true n 1 e)
-
-pub kind-is : (r : List ℕ) → kind (decode r) ≡ kindOf (getD r 0 0)
-unfolding decode
-kind-is r = operator-kind (kindOf (getD r 0 0)) (fromBytes r)
 
 -- the children's facts, from the first two
 two-kids : (fs : List Facts) (n : ℕ) (F G : Facts) → length fs ≡ n → n ≤ 2 → (0 < length fs → F ≡ at0 fs) → (1 < length fs → G ≡ at1 fs)
@@ -137,7 +134,7 @@ module _ (m r ks : List ℕ) (a : Over m r ks) where
   module _ (n : kindOf (getD r 0 0) ≡ Union → ⊥) (f g : Coded) (p : Child (known (forest m ks)) 0 f) (q : Child (known (forest m ks)) 1 g) where
     pub same-kids : kidsOf r f g ≡ known (forest m ks)
     same-kids =
-        let few : length ks ≤ 2 = few-kids (decode r) (length ks) (λ e. n (sym (kind-is r) ∙ e)) (rule .count) in
+        let few : length ks ≤ 2 = few-kids (decode r) (length ks) (λ e. n (kind-is r ∙ e)) (rule .count) in
         let l = length-facts m ks in let d = proper .count in
         two-kids (known (forest m ks)) (children r) (told f) (told g) (omega arith) (omega arith) (p .is) (q .is)
 

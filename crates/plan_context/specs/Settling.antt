@@ -33,12 +33,14 @@ use Rattle.row_facts.specs.Over.{OverRows as Rows}
 use Rattle.walks.specs.Marks.{known, node, fact}
 use Rattle.arena.specs.Arena.{slotSize, keptFrom, keptSize, index, marked, slot, held, keptPart}
 use Rattle.arena.specs.Keeping.{withKept, kept-front, slot-kept, held-kept, kept-here, kept-long}
-use Rattle.plan_context.specs.declared.Summary.{Summary}
+use Rattle.tree_summary.specs.declared.Summary.{Summary}
 use Rattle.plan_context.specs.View.{newest, trees, treeIn, treeOf, forest, summaryIn, Sums, SettledSlot, Arena, Same, Here, Over, Settles, Settled}
 use Rattle.plan_context.specs.Laws.{theres, holds-same, moved-proper}
 use Rattle.plan_context.specs.Facts.{Shows, shows, usable-of, Child, child-is, coded-nothing, nothing-usable, no-child}
-use Rattle.plan_context.specs.Summaries.{sums-mark, SumsEach, own, own-sums}
-use Rattle.plan_context.specs.Nodes.{Seen, seen, rule, proper, kind-is, same-kids, ready, own-says}
+use Rattle.tree_summary.specs.Own.{own}
+use Rattle.plan_context.specs.Summaries.{sums-mark, SumsEach, own-sums}
+use Rattle.plan_context.specs.Nodes.{Seen, seen, rule, proper, same-kids, ready, own-says}
+use Rattle.record_fields.specs.Kinds.{kind-is}
 
 -- ---- one slot stored
 
@@ -172,7 +174,7 @@ module _ (m r ks : List ℕ) (a : Over m r ks) where
 
   module _ (n : kindOf (getD r 0 0) ≡ Union → ⊥) where
     pub inner-some : (kindOf (getD r 0 0) ≡ Source → ⊥) → 0 < length ks
-    inner-some g = some-kid (decode r) (length ks) (λ e. n (sym (kind-is r) ∙ e)) (λ e. g (sym (kind-is r) ∙ e)) (rule m r ks a .count)
+    inner-some g = some-kid (decode r) (length ks) (λ e. n (kind-is r ∙ e)) (λ e. g (kind-is r ∙ e)) (rule m r ks a .count)
 
     -- a source
     module _ (e : kindOf (getD r 0 0) ≡ Source) where

@@ -12,7 +12,7 @@ use Rattle.scan.specs.Words.{four-again}
 use Rattle.fact_slots.specs.Slots.{loaded}
 use Rattle.row_facts.specs.Rows.{loaded-kept}
 use Rattle.arena.specs.Arena.{keptSize}
-use Rattle.plan_context.specs.declared.Summary.{Summary}
+use Rattle.tree_summary.specs.declared.Summary.{Summary}
 use Rattle.plan_context.specs.View.{summaryFrom, summaryIn}
 
 abbrev pub summaryBytes : Summary → List ℕ

@@ -14,9 +14,10 @@ use Rattle.plan_codec.specs.Encode.{encode}
 use Rattle.semantics.specs.Properties.{anyOf, endless as endlessEach, fetches}
 use Rattle.semantics.specs.Check.{check, wantsMet}
 use Rattle.walks.specs.Marks.{Marked, Tree, strip, known, node, plant, opT, setMark}
-use Rattle.plan_context.specs.declared.Summary.{Summary}
+use Rattle.tree_summary.specs.declared.Summary.{Summary}
 use Rattle.plan_context.specs.View.{treeOf, forest, Sums}
-use Rattle.plan_context.specs.Own.{fetchIn, endlessIn, code-byte, fetch-is, endless-is, limit-is}
+use Rattle.tree_summary.specs.Own.{fetchIn, fetch-is, endless-is, limit-is, own}
+use Rattle.record_fields.specs.Encoded.{code-byte}
 
 -- a mark does not change it
 pub sums-mark : (b : Bool) (t : Tree) (s : Summary) → Sums t s → Sums (setMark b t) s
@@ -92,16 +93,7 @@ summing-few m [] (suc j) = omega arith
 summing-few m (k ∷ ks) zero = omega arith
 summing-few m (k ∷ ks) (suc j) = let h = summing-few m ks j in omega arith
 
--- ---- the node itself: as the code makes it, w being whether its wanted orders are met
-
-abbrev pub own : List ℕ → Bool → Summary → Summary
-own r w s =
-    record {
-      passes = w && s .passes;
-      endless = not (eqb (getD r 0 0) 9 || eqb (getD r 0 0) 10) && (endlessIn r || s .endless);
-      nodes = s .nodes + 1;
-      fetch = cond (eqb (getD r 0 0) 3) (s .fetch) (fetchIn r);
-    }
+-- ---- the node itself
 
 pub own-sums : (r : List ℕ) (n : ℕ) (w : Bool) (s : Summary) (c : Forest Marked) → r ≡ encode n (decode r) → w ≡ wantsMet (decode r) (known c)
     → SumsEach c s → Sums (node (decode r) false c) (own r w s)

@@ -20,7 +20,7 @@ use Rattle.fact_slots.specs.Slots.{loaded}
 use Rattle.arena.specs.Arena.{slotSize, Node, slot, held, at as numbered, index, marked, keptPart, Below}
 use Rattle.arena.specs.Keeping.{withKept}
 use Rattle.arena.specs.declared.At.{At}
-use Rattle.plan_context.specs.declared.Summary.{Summary}
+use Rattle.tree_summary.specs.declared.Summary.{Summary}
 
 -- ---- trees
 

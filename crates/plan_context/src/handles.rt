@@ -1,11 +1,7 @@
 // Marks and children by handles.
-use arena::child;
 ghost use mathlib.Core.Path.{_≡_};
 ghost use Prim.Native.Nat.{_<_};
-ghost use lib.ListN.{length};
-ghost use Rattle.walks.specs.Marks.{kid0};
-ghost use Rattle.arena.specs.Arena.{index, marked, slot};
-ghost use Rattle.plan_context.specs.View.{treeOf, Here};
+ghost use Rattle.arena.specs.Arena.{marked};
 ghost use Rattle.plan_context.specs.Handles.{Marks};
 
 // Whether the node is marked.

@@ -1,5 +1,5 @@
 // What the slot of a handle keeps of its node.
-use crate::Summary;
+use tree_summary::Summary;
 ghost use mathlib.Core.Path.{_≡_};
 ghost use mathlib.Core.List.{_++_};
 ghost use Prim.Native.Nat.{_<_};

@@ -1,5 +1,4 @@
 // What is kept of a node, from its record and from what is kept of its children: they stand in older slots.
-use crate::Summary;
 use crate::kept::load_summary;
 use crate::kept::store_summary;
 use arena::KEPT_FROM;
@@ -16,10 +15,10 @@ use node_facts::source_of;
 use plan::Kind;
 use record_fields::kind_of;
 use row_facts::node_into;
-use row_facts::wants_met;
+use row_wants::wants_met;
+use tree_summary::Summary;
+use tree_summary::summed;
 ghost use mathlib.Core.Path.{_≡_};
-ghost use mathlib.Core.Bool.{cond};
-ghost use lib.Dec.{eqb};
 ghost use Prim.Native.Nat.{ℕ, _<_};
 ghost use lib.ListN.{length, getD};
 ghost use Rattle.plan.specs.Numbers.{kindOf};
@@ -35,8 +34,7 @@ ghost use Rattle.arena.specs.Arena.{keptSize, slot, held};
 ghost use Rattle.plan_context.specs.Reading.{Loaded};
 ghost use Rattle.plan_context.specs.View.{treeOf, forest, summaryIn, Sums, Arena, Settles, Settled};
 ghost use Rattle.plan_context.specs.Facts.{Child};
-ghost use Rattle.plan_context.specs.Own.{fetchIn, endlessIn};
-ghost use Rattle.plan_context.specs.Summaries.{SumsEach, own};
+ghost use Rattle.plan_context.specs.Summaries.{SumsEach};
 
 // The facts of child j of node i.
 fn child_facts(m: &[u8], i: usize, j: usize) -> Facts
@@ -115,53 +113,6 @@ fn below(m: &[u8], i: usize) -> Summary
         };
     }
     s
-}
-
-// The node's own fetch, 4294967295 for none.
-fn own_fetch(r: &[u8]) -> u32
-    requires { ⌜ length (now r) ≡ 64 ⌝ }
-    ensures { λ n. ⌜ n ≡ fetchIn (now (r .entry)) ⌝ }
-{
-    let k = r[0];
-    if ((5 < k) & (k < 11)) | (12 < k) {
-        return scan::get32(r, 4);
-    }
-    4294967295
-}
-
-// Whether it is a source whose rows do not end.
-fn is_endless(r: &[u8]) -> bool
-    requires { ⌜ length (now r) ≡ 64 ⌝ }
-    ensures { λ b. ⌜ b ≡ endlessIn (now (r .entry)) ⌝ }
-{
-    (r[0] == 1) & ((r[3] >> 2) & 1 == 1)
-}
-
-// The fetch of the plan: a projection's is its input's.
-fn plan_fetch(r: &[u8], input: u32) -> u32
-    requires { ⌜ length (now r) ≡ 64 ⌝ }
-    ensures { λ n. ⌜ n ≡ cond (eqb (getD (now (r .entry)) 0 0) 3) input (fetchIn (now (r .entry))) ⌝ }
-{
-    if r[0] == 3 {
-        return input;
-    }
-    own_fetch(r)
-}
-
-// The summary of the node over children with the summary s; met: their orders are those that it wants.
-fn summed(r: &[u8], met: bool, s: Summary) -> Summary
-    requires { ⌜ (length (now r) ≡ 64) × (s .nodes < 65535) ⌝ }
-    ensures { λ x. ⌜ x ≡ own (now (r .entry)) met s ⌝ }
-{
-    let k = r[0];
-    let endless = is_endless(r);
-    let fetch = plan_fetch(r, s.fetch);
-    Summary {
-        passes: met & s.passes,
-        endless: !((k == 9) | (k == 10)) & (endless | s.endless),
-        nodes: s.nodes + 1,
-        fetch: fetch,
-    }
 }
 
 // The facts f and the summary s over the bytes of one slot.

@@ -2,7 +2,7 @@
 use mathlib.Core.Path.{_≡_, refl, sym, ap, ap₂, _∙_}
 use mathlib.Core.Bool.{Bool, true, false, cond, _&&_, _||_}
 use mathlib.Core.List.{List, _∷_}
-use Prim.Native.Nat.{ℕ, zero, suc, _+_, _-_, _/_, _^_, _≤_, _<_}
+use Prim.Native.Nat.{ℕ, zero, suc, _+_, _-_, _≤_, _<_}
 use native.Mathlib.Omega.{arith}
 use lib.Dec.{leb, eqb}
 use lib.ListN.{length, getD, take, drop, set}
@@ -10,7 +10,6 @@ use lib.Seq.{drop-length}
 use borrow.Author.Tests.{leb-true, eqb-true, ne-eqb}
 use Rattle.scan.specs.Below.{all-at, and-left, and-right, or-false}
 use Rattle.scan.specs.Bytes.{cut}
-use Rattle.scan.specs.Words.{shifted-out}
 use Rattle.plan.specs.Numbers.{numberOf}
 use Rattle.plan.specs.declared.Refusal.{Refusal}
 use Rattle.plan.specs.declared.Refusal.the-variants.{Accepted, Field, Column, Width}
@@ -85,10 +84,6 @@ node-width r ws e = go (unionOk r ws) (columnsRule (fields r) r (columnLimit (fi
     go true true false q e = absurd (omega arith)
     go true false c q e = absurd (omega arith)
     go false b c q e = absurd (omega arith)
-
--- a set shifted by 32 or more is gone
-pub wide-set : (x w : ℕ) → x < 2 ^ 32 → 32 ≤ w → true ≡ eqb (x / 2 ^ w) 0
-wide-set x w h l = ap (λ (n : ℕ). eqb n 0) (sym (shifted-out x 32 w h l))
 
 -- the counts that a record's rules bound
 pub field-small : (f : Fields) (r : List ℕ) → rulesOk f r ≡ true → (getD r 12 0 ≤ 8) × (getD r 13 0 ≤ 32)

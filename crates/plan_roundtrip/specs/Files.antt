@@ -13,7 +13,7 @@ use Rattle.scan.specs.Bytes.{part, length-part}
 use Rattle.plan.specs.WellFormed.{every}
 use Rattle.plan.specs.declared.Refusal.{Refusal}
 use Rattle.plan.specs.declared.Refusal.the-variants.{Accepted, Length, BlockSum, Header, KindOrChildren, RecordCount, Field}
-use Rattle.plan_passes.specs.Laws.{length-facts}
+use Rattle.block_passes.specs.Laws.{length-facts}
 use Rattle.scan.specs.Parts.{at-part, part-part, part-right}
 use Rattle.plan_format.specs.Record.{children, kindOk, recordOk}
 use Rattle.plan_format.specs.Blocks.{lengthOk, block, blockCount, recordCount, recordStart, recordAt, records, span}

@@ -16,7 +16,7 @@ use Rattle.scan.specs.Bytes.{part, total, zeros, le16, le32, length-part}
 use Rattle.plan_format.specs.Blocks.{lengthOk, blockCount, block, sumOk, countOk, paddingOk, headerOk}
 use Rattle.plan_format.specs.Reading.{sumsOk, headersOk}
 use Rattle.plan_format.specs.Writing.{header, fourBytes, body, blockOf, blocksFor, sevenAt, blocksTo, fileOfBytes}
-use Rattle.plan_passes.specs.Laws.{count-small}
+use Rattle.block_passes.specs.Laws.{count-small}
 use Rattle.scan.specs.Parts.{at-part, part-left, part-right}
 use Rattle.plan_roundtrip.specs.Back.{AllBytes}
 

@@ -23,7 +23,8 @@ use Rattle.walks.specs.Marks.{known, Shape, aSort, aMerge, aRepartition, aCoale
 use Rattle.plan_context.specs.View.{forest, Over}
 use Rattle.plan_context.specs.Laws.{length-facts}
 use Rattle.plan_context.specs.Facts.{Child}
-use Rattle.plan_context.specs.Nodes.{rule, kind-is}
+use Rattle.plan_context.specs.Nodes.{rule}
+use Rattle.record_fields.specs.Kinds.{kind-is}
 
 -- The node has a mark that does not count over children with facts fs
 abbrev pub losingBy : Shape → Facts → Bool
@@ -131,7 +132,7 @@ other-shape (partialSort p ks n g) F f = refl
 
 module _ (m r ks : List ℕ) (a : Over m r ks) where
   pub not-losing : (kindOf (getD r 0 0) ≡ Repartition → ⊥) → false ≡ losing (decode r) (known (forest m ks))
-  not-losing f = sym (other-shape (decode r) (at0 (known (forest m ks))) (λ e. f (sym (kind-is r) ∙ e)))
+  not-losing f = sym (other-shape (decode r) (at0 (known (forest m ks))) (λ e. f (kind-is r ∙ e)))
 
   pub one-kid : kindOf (getD r 0 0) ≡ Repartition → length ks ≡ 1
   unfolding decode

@@ -23,7 +23,7 @@ use Rattle.key_lists.specs.declared.Keys.{Keys}
 use Rattle.key_lists.specs.declared.Order.{Order}
 use Rattle.key_lists.specs.declared.Order.the-variants.{Unordered, By}
 use Rattle.key_lists.specs.Keys.{keysOf, Ordered}
-use Rattle.node_properties.specs.Kinds.{op-of}
+use Rattle.record_fields.specs.Kinds.{op-of}
 use Rattle.node_properties.specs.Nodes.{Among}
 use Rattle.walks.specs.SortPushdown as walk
 use Rattle.walks.specs.theorems.common.Keeps.{remark-same}

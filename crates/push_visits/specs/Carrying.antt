@@ -24,7 +24,7 @@ use Rattle.key_lists.specs.declared.Order.{Order}
 use Rattle.key_lists.specs.declared.Order.the-variants.{Unordered, By}
 use Rattle.key_lists.specs.Keys.{keysIn, keysOf, orderOf, Real}
 use Rattle.asked_facts.specs.Asked.{told}
-use Rattle.node_properties.specs.Kinds.{op-of}
+use Rattle.record_fields.specs.Kinds.{op-of}
 use Rattle.arena.specs.Arena.{slot}
 use Rattle.arena.specs.Laws.{below-at}
 use Rattle.arena.specs.declared.At.{At}

@@ -8,6 +8,7 @@ use plan_context::kept::summary;
 use sort_pushdown::Decision;
 use sort_pushdown::Visit;
 use sort_pushdown::deciding::pushdown_sorts_helper;
+use tree_summary::Summary;
 ghost use mathlib.Core.Path.{_≡_};
 ghost use Prim.Native.Nat.{ℕ, _*_, _<_, _≤_};
 ghost use Rattle.arena.specs.Arena.{index};
@@ -46,7 +47,7 @@ pub fn fetch_at(a: &[u8], h: usize) -> Fetch
     requires { ⌜ Here (now a) h ⌝ }
     ensures { λ f. ⌜ f ≡ fetchT (treeOf (now (a .entry)) h) ⌝ }
 {
-    let s = summary(a, h);
+    let s: Summary = summary(a, h);
     fetch_from(s.fetch)
 }
 

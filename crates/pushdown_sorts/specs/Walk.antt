@@ -17,8 +17,8 @@ use Rattle.plan_context.specs.Records.{planT}
 use Rattle.plan_updates.specs.Kids.{Kids}
 use Rattle.sort_pushdown.specs.declared.Visit.{Visit}
 use Rattle.sort_pushdown.specs.declared.Decision.{Decision}
-use Rattle.sort_pushdown.specs.declared.Step.{Step}
-use Rattle.sort_pushdown.specs.declared.Step.the-variants as step
+use Rattle.push_steps.specs.declared.Step.{Step}
+use Rattle.push_steps.specs.declared.Step.the-variants as step
 use Rattle.push_visits.specs.Carried.{Visits}
 use Rattle.pushdown_sorts.specs.declared.Walked.{Walked}
 use Rattle.pushdown_sorts.specs.declared.Pushed.{Pushed}

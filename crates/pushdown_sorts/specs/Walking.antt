@@ -31,7 +31,7 @@ use Rattle.walks.specs.PushdownSorts as walk
 use Rattle.walks.specs.theorems.push.WellFormed.{VisitFits, EachFits, helper-fitted, push-ok}
 use Rattle.walks.specs.theorems.common.Keys.{no-keys}
 use Rattle.walks.specs.Counted.{answered, answerOf, Counted, stopped, counted, bind, constantSort, overflows, afterwards, countDown}
-use Rattle.walks.specs.theorems.calls.Counts.{one-le, one-visited}
+use Rattle.walks.specs.theorems.calls.Counts.{one-le, one-visited, cover-size}
 use Rattle.plan_context.specs.View.{treeIn, treeOf, forest, Arena, Grown}
 use Rattle.plan_context.specs.Laws.{facts-at, length-facts, same-trans}
 use Rattle.plan_context.specs.Facts.{size-strip}
@@ -41,11 +41,11 @@ use Rattle.plan_updates.specs.ChildLoop.{drop-size, drop-next, no-more}
 use Rattle.sort_pushdown.specs.declared.Visit.{Visit}
 use Rattle.sort_pushdown.specs.declared.Decision.{Decision}
 use Rattle.sort_pushdown.specs.declared.NewNodes.{NewNodes}
-use Rattle.sort_pushdown.specs.declared.Step.{Step}
-use Rattle.sort_pushdown.specs.declared.Step.the-variants as step
+use Rattle.push_steps.specs.declared.Step.{Step}
+use Rattle.push_steps.specs.declared.Step.the-variants as step
 use Rattle.sort_pushdown.specs.Decisions.{Decides, visitOf, visitFor, topsOf, ofChild}
-use Rattle.sort_pushdown.specs.Steps.{stepBy, afterBy}
-use Rattle.sort_pushdown.specs.Visits.{children-visited, after-is, constant-is, over-is}
+use Rattle.push_steps.specs.Steps.{stepBy, afterBy}
+use Rattle.push_steps.specs.Visits.{children-visited, after-is, constant-is, over-is}
 use Rattle.pushdown_sorts.specs.declared.Walked.{Walked}
 use Rattle.pushdown_sorts.specs.declared.Pushed.{Pushed}
 use Rattle.pushdown_sorts.specs.declared.Pushed.the-variants.{Refused, Done}
@@ -247,10 +247,6 @@ tops-few : (t : NewNodes) → length (topsOf t) ≤ 2
 tops-few t =
     let x = merge-few (orderOf (t .merge)) (t .mfetch) in let y = sort-few (t .preserve) (orderOf (t .sort)) (t .sfetch) in
     let z = length-append (newMerge (orderOf (t .merge)) (t .mfetch)) (newSort (t .preserve) (orderOf (t .sort)) (t .sfetch)) in omega arith
-
-cover-size : (ts : List Op) (t : Tree) → sizeT (cover ts t) ≡ length ts + sizeT t
-cover-size [] t = omega arith
-cover-size (o ∷ os) t = let x = cover-size os t in omega arith
 
 roots-strip : (f : Forest Marked) → length (known f) ≡ length (roots f)
 roots-strip none = refl

@@ -2,3 +2,4 @@ pub mod Fields
 pub mod Decoded
 pub mod Proper
 pub mod Encoded
+pub mod Kinds

@@ -29,7 +29,7 @@ use Rattle.walks.specs.theorems.common.NewNodes.{node-fetch}
 use Rattle.walks.specs.OrderPreserving as walk
 use Rattle.walks.specs.OrderPreserving.{alternatePlan, accepted, replaceBy, useOrderPreservingVariant, planWithOrderPreservingVariants, replaceWithOrderPreservingVariants}
 use Rattle.walks.specs.theorems.preserve.Kept.{strip-carry}
-use Rattle.plan_context.specs.declared.Summary.{Summary}
+use Rattle.tree_summary.specs.declared.Summary.{Summary}
 use Rattle.plan_context.specs.View.{treeOf, forest, mostSlots, Sums, Grown, Here, Puts}
 use Rattle.plan_context.specs.Laws.{here, fewer, same-trans, forest-same, length-facts}
 use Rattle.plan_updates.specs.Opened.{stepRoom, Opened}
@@ -39,10 +39,10 @@ use Rattle.plan_context.specs.Nodes.{counts-of, few-any}
 use Rattle.plan_updates.specs.Covering.{one}
 use Rattle.replace_with_order_preserving_variants.specs.declared.Settings.{Settings}
 use Rattle.plan_updates.specs.ProperRecords.{record-proper}
-use Rattle.replace_with_order_preserving_variants.specs.Kinds.{op-ind, one-kid, treated-7}
-use Rattle.replace_with_order_preserving_variants.specs.Marking.{Carrying, Updating, Updated, marks-ok, carry-size}
-use Rattle.replace_with_order_preserving_variants.specs.Preserving.{Preserves}
-use Rattle.replace_with_order_preserving_variants.specs.Replacing.{grown-as, made-then}
+use Rattle.order_preservation_marks.specs.Kinds.{op-ind, one-kid, treated-7}
+use Rattle.order_preservation_marks.specs.Marking.{Carrying, Updating, Updated, marks-ok, carry-size}
+use Rattle.order_preserving_plans.specs.Preserving.{Preserves}
+use Rattle.order_preservation_marks.specs.Replacing.{grown-as, made-then}
 
 -- The settings as the walks have them
 abbrev pub settingsOf : Settings → walk.Settings

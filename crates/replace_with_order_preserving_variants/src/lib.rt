@@ -1,7 +1,5 @@
 // replace_with_order_preserving_variants.rs: the step of the order-preserving walk. A sort over a path of nodes that could keep their
 // input's order is replaced by that path with nodes that keep it, where these give the sort's order.
-use crate::marking::update_order_preservation_ctx_children_data;
-use crate::preserving::plan_with_order_preserving_variants;
 use arena::At;
 use arena::child;
 use arena::child_count;
@@ -11,6 +9,8 @@ use asked_facts::asked::meets;
 use asked_facts::asked::normal_form;
 use node_properties::is_sort;
 use node_properties::keys;
+use order_preservation_marks::marking::update_order_preservation_ctx_children_data;
+use order_preserving_plans::preserving::plan_with_order_preserving_variants;
 use plan_context::handles::is_marked;
 use plan_context::handles::set_mark;
 use plan_context::kept::row;
@@ -26,12 +26,8 @@ ghost use Rattle.walks.specs.Marks.{node, sizeT, shape};
 ghost use Rattle.walks.specs.OrderPreserving as walk;
 ghost use Rattle.plan_context.specs.View.{treeOf, forest, Arena, Grown};
 ghost use Rattle.plan_updates.specs.Opened.{stepRoom, Opened};
-ghost use Rattle.replace_with_order_preserving_variants.specs.Marking.{Cut, Carrying};
+ghost use Rattle.order_preservation_marks.specs.Marking.{Cut, Carrying};
 ghost use Rattle.replace_with_order_preserving_variants.specs.Step.{settingsOf, Sorts, Sorting, acceptOne};
-
-pub mod breaking;
-pub mod marking;
-pub mod preserving;
 
 // 01, 'The four walks': "settings: spr better, spm better, prefer existing".
 pub struct Settings {
@@ -86,7 +82,7 @@ fn accept(m: &mut [u8], u: usize, h: usize) -> At
 
 // A sort with the record r over the tree at h, which is marked. "If the alternate plan makes this sort unnecessary, accept the
 // alternate"; otherwise the tree stays as it was, and the slots of the alternative are free again. Its order-breaking variants, which
-// the Rust makes then, reach no answer (breaking.rt).
+// the Rust makes then, reach no answer (crate order_breaking_plans).
 fn replace_sort(m: &mut [u8], u: usize, r: &[u8], h: usize, i: usize, s: Settings) -> At
     requires { ⌜ Sorting (now m) u (now r) h i ⌝ }
     ensures { λ a. ⌜ Grown (now (m .entry)) u (now (m .exit)) a

@@ -25,8 +25,8 @@ use Rattle.walks.specs.PartialSort.{commonPrefixLength, Replaced, pastTheEnd, b
 use Rattle.plan_context.specs.View.{treeOf, forest, Sums}
 use Rattle.plan_context.specs.Laws.{facts-at}
 use Rattle.plan_context.specs.Facts.{Tells}
-use Rattle.plan_context.specs.declared.Summary.{Summary}
-use Rattle.sort_removal.specs.Standing.{Standing, tree-is, op-is, own-over, own-proper, sort-op, one-kid, is-code, not-code}
+use Rattle.tree_summary.specs.declared.Summary.{Summary}
+use Rattle.sort_connection.specs.Standing.{Standing, tree-is, op-is, own-over, own-proper, sort-op, one-kid, is-code, not-code}
 use Rattle.replace_with_partial_sort.specs.declared.Replaced.{Replaced as Answer}
 use Rattle.replace_with_partial_sort.specs.declared.Replaced.the-variants.{AllKeysMet, Same, Partial}
 

@@ -1,7 +1,4 @@
 // enforce_sorting/mod.rs: replace_with_partial_sort, which works on one node.
-pub mod by_number;
-
-use arena::At;
 use arena::child;
 use arena::record_at;
 use asked_facts::asked::met_keys;
@@ -13,7 +10,7 @@ ghost use mathlib.Core.Path.{_≡_};
 ghost use Rattle.walks.specs.Marks.{opT, strip};
 ghost use Rattle.walks.specs.PartialSort.{replaceWithPartialSort as replaced};
 ghost use Rattle.plan_context.specs.View.{treeOf};
-ghost use Rattle.sort_removal.specs.Standing.{Standing};
+ghost use Rattle.sort_connection.specs.Standing.{Standing};
 ghost use Rattle.replace_with_partial_sort.specs.Replacing.{becoming, Fitting};
 
 // What becomes of the node: refusal 22, itself, or a partial sort with this many keys met.
@@ -21,19 +18,6 @@ pub enum Replaced {
     AllKeysMet,
     Same,
     Partial(usize),
-}
-
-// Refusal 20, refusal 22, or the tree that it becomes.
-pub enum Sorted {
-    NoSuchNode,
-    AllKeysMet,
-    Becomes(At),
-}
-
-// A child of a node, and a number within its tree; behind the last child, how far.
-pub struct Place {
-    pub child: usize,
-    pub left: usize,
 }
 
 // The node at h. A sort stays where its child is bounded or meets none of its keys.

@@ -2,10 +2,8 @@
 // constants and classes copy the child's bytes and change streams and order; no facts are taken apart for them.
 
 use asked_facts::asked::keeps_order;
-use asked_facts::asked::meets;
 use asked_facts::asked::normal_form;
 use asked_facts::asked::one_stream;
-use byte_rows::wide;
 use fact_slots::CLASSES;
 use fact_slots::ORDER;
 use fact_slots::ORDER_LEN;
@@ -16,17 +14,14 @@ use fact_slots::load_row;
 use fact_slots::store;
 use fact_slots::word_row;
 use key_lists::Keys;
-use key_lists::front;
 use node_facts::hash_joined;
 use node_facts::projected;
 use node_facts::sort_merge_joined;
 use plan::Kind;
 use record_fields::KIND;
-use record_fields::ROLE;
 use record_fields::key_list;
 use record_fields::kind_of;
 use record_fields::preserves;
-use record_fields::right_key_list;
 ghost use mathlib.Core.Path.{_≡_};
 ghost use mathlib.Core.Bool.{true, cond};
 ghost use mathlib.Core.List.{[], _++_, map};
@@ -37,10 +32,9 @@ ghost use Rattle.semantics.specs.Facts as sem;
 ghost use Rattle.facts.specs.Known.{known, Coherent, Says};
 ghost use Rattle.fact_slots.specs.Slots.{loaded};
 ghost use Rattle.plan.specs.WellFormed.{below};
-ghost use Rattle.semantics.specs.Check.{wantsMet};
 ghost use Rattle.plan_codec.specs.Decode.{decode};
 ghost use Rattle.join_facts.specs.Joining.{Joinable};
-ghost use Rattle.node_facts.specs.Ready.{kidsOf, count, lentKeys, lentColumns, typeIn, onIn, Ready};
+ghost use Rattle.node_facts.specs.Ready.{kidsOf, count, lentKeys, lentColumns, typeIn, onIn};
 ghost use Rattle.key_lists.specs.Keys.{keysOf};
 ghost use Rattle.asked_facts.specs.Asked.{told, FactRow};
 ghost use Rattle.row_facts.specs.Over.{OverRows};
@@ -181,29 +175,5 @@ pub fn node_into(own: &mut [u8], r: &[u8], first: &[u8], second: &[u8])
         Kind::HashJoin => join_hashed(own, r, first, second),
         Kind::OutputRequirement => keep(own, first),
         Kind::PartialSort => sort(own, r, first, preserves(r)),
-    }
-}
-
-// Whether the children's facts meet the orders that the node wants of them.
-pub fn wants_met(r: &[u8], first: &[u8], second: &[u8]) -> bool
-    requires { ⌜ (48 ≤ length (now first)) × (48 ≤ length (now second)) × Ready (now r) (loaded (now first)) (loaded (now second)) ⌝ }
-    ensures { λ b. ⌜ b ≡ wantsMet (decode (now (r .entry))) (kidsOf (now (r .entry)) (loaded (now (first .entry))) (loaded (now (second .entry)))) ⌝ }
-{
-    let kind = kind_of(r[KIND]);
-    match kind {
-        Kind::Source => true,
-        Kind::Filter => true,
-        Kind::Projection => true,
-        Kind::Union => true,
-        Kind::Repartition => true,
-        Kind::Coalesce => true,
-        Kind::Sort => true,
-        Kind::Merge => meets(first, key_list(r)),
-        Kind::GlobalLimit => true,
-        Kind::LocalLimit => true,
-        Kind::SortMergeJoin => meets(first, key_list(r)) & meets(second, right_key_list(r)),
-        Kind::HashJoin => true,
-        Kind::OutputRequirement => meets(first, key_list(r)),
-        Kind::PartialSort => meets(first, front(key_list(r), wide(r[ROLE]))),
     }
 }

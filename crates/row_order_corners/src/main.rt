@@ -82,24 +82,28 @@ fn nulls(options: usize, null: Comparison) -> bool {
         & by_one(options, 1, LEAST, 1, GREATEST, Comparison::Peers)
 }
 
-// Column 1 ascending, then column 0 descending.
-fn prefixes() -> bool {
+// Rows of two columns, by column 1 ascending, then column 0 descending.
+fn by_two(x_nulls: u32, x: [i64; 2], y_nulls: u32, y: [i64; 2], want: Comparison) -> bool {
     let keys = [1, DESC];
+    says(&keys, x_nulls, &x, y_nulls, &y, want)
+}
+
+fn prefixes() -> bool {
     let a = [5, 7];
     let b = [6, 7];
     let c = [4, 8];
-    says(&keys, 0, &a, 0, &b, Comparison::After)
-        & says(&keys, 0, &a, 0, &a, Comparison::Peers)
-        & says(&keys, 0, &b, 0, &c, Comparison::Before)
-        & says(&keys, 2, &b, 2, &c, Comparison::Before)
-        & says(&keys, 2, &a, 2, &b, Comparison::After)
-        & says(&keys, 2, &a, 0, &b, Comparison::After)
-        & says(&keys, 3, &a, 2, &b, Comparison::After)
-        & says(&keys, 3, &a, 3, &b, Comparison::Peers)
+    by_two(0, a, 0, b, Comparison::After)
+        & by_two(0, a, 0, a, Comparison::Peers)
+        & by_two(0, b, 0, c, Comparison::Before)
+        & by_two(2, b, 2, c, Comparison::Before)
+        & by_two(2, a, 2, b, Comparison::After)
+        & by_two(2, a, 0, b, Comparison::After)
+        & by_two(3, a, 2, b, Comparison::After)
+        & by_two(3, a, 3, b, Comparison::Peers)
 }
 
-// Eight columns by all four pairs of options. The rows of `b` and `c` differ from `a` in the last column and in column 3.
-fn eight_keys() -> bool {
+// Rows of eight columns, by all four pairs of options.
+fn by_eight(x_nulls: u32, x: [i64; 8], y_nulls: u32, y: [i64; 8], want: Comparison) -> bool {
     let keys = [
         0,
         1 + DESC,
@@ -110,30 +114,46 @@ fn eight_keys() -> bool {
         6 + FIRST,
         7 + DESC + FIRST,
     ];
+    says(&keys, x_nulls, &x, y_nulls, &y, want)
+}
+
+// The rows of `b` and `c` differ from `a` in the last column and in column 3.
+fn eight_keys() -> bool {
     let a = [1, 2, 3, 4, 5, 6, 7, 8];
     let b = [1, 2, 3, 4, 5, 6, 7, 9];
     let c = [1, 2, 3, 5, 5, 6, 7, 7];
-    says(&keys, 0, &a, 0, &a, Comparison::Peers)
-        & says(&keys, 0, &a, 0, &b, Comparison::After)
-        & says(&keys, 0, &a, 0, &c, Comparison::After)
-        & says(&keys, 0, &b, 0, &c, Comparison::After)
-        & says(&keys, 127, &a, 127, &b, Comparison::After)
-        & says(&keys, 128, &a, 0, &b, Comparison::Before)
-        & says(&keys, 255, &a, 255, &c, Comparison::Peers)
+    by_eight(0, a, 0, a, Comparison::Peers)
+        & by_eight(0, a, 0, b, Comparison::After)
+        & by_eight(0, a, 0, c, Comparison::After)
+        & by_eight(0, b, 0, c, Comparison::After)
+        & by_eight(127, a, 127, b, Comparison::After)
+        & by_eight(128, a, 0, b, Comparison::Before)
+        & by_eight(255, a, 255, c, Comparison::Peers)
+}
+
+// A row of one cell and one of 32, the last of them 9, by the key.
+fn short_and_long(key: usize, nulls: u32, want: Comparison) -> bool {
+    let keys = [key];
+    let short = [1];
+    let mut long = [0; 32];
+    long[31] = 9;
+    says(&keys, 0, &short, nulls, &long, want)
+}
+
+// Two rows of one cell, by column 31.
+fn both_short(nulls: u32) -> bool {
+    let keys = [31];
+    let short = [1];
+    says(&keys, nulls, &short, 0, &short, Comparison::Peers)
 }
 
 // A column past the cells is null, whatever the null set says of it.
 fn past_the_cells() -> bool {
-    let last = [31];
-    let first = [31 + FIRST];
-    let short = [1];
-    let mut long = [0; 32];
-    long[31] = 9;
-    says(&last, 0, &short, 0, &long, Comparison::After)
-        & says(&first, 0, &short, 0, &long, Comparison::Before)
-        & says(&last, 0, &short, 2147483648, &long, Comparison::Peers)
-        & says(&last, 0, &short, 0, &short, Comparison::Peers)
-        & says(&last, 2147483648, &short, 0, &short, Comparison::Peers)
+    short_and_long(31, 0, Comparison::After)
+        & short_and_long(31 + FIRST, 0, Comparison::Before)
+        & short_and_long(31, 2147483648, Comparison::Peers)
+        & both_short(0)
+        & both_short(2147483648)
 }
 
 // A key that is repeated decides nothing, with other options neither.

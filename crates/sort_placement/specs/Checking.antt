@@ -3,7 +3,6 @@ use mathlib.Core.Path.{_≡_, refl, sym, ap, _∙_}
 use mathlib.Core.Bool.{Bool, true, false, cond}
 use mathlib.Core.List.{List}
 use Prim.Native.Nat.{ℕ}
-use native.Mathlib.Omega.{arith}
 use borrow.Author.Tests.{eqb-true, eqb-false}
 use lib.Dec.{eqb}
 use Rattle.plan.specs.Numbers.{numberOf}
@@ -11,9 +10,9 @@ use Rattle.plan_format.specs.Reading.{refusalOf}
 use Rattle.scan.specs.Bytes.{oneIf}
 use Rattle.plan_codec.specs.Reading.{plan, planOf, reading, refused}
 use Rattle.plan_codec.specs.Reading as codec
-use Rattle.plan_calls.specs.declared.calls.Call.the-variants.{CheckOrder}
+use Rattle.plan_calls.specs.declared.Call.the-variants.{CheckOrder}
 use Rattle.call_answers.specs.Answers.{afterReading, checkAnswer, passesIn, refusalIn}
-use Rattle.plan_calls.specs.Calls.{resultOf}
+use Rattle.plan_calls.specs.Results.{resultOf}
 
 module _ (s out : List ℕ) where
   abbrev read : Bool → codec.PlanOrRefusal

@@ -1,9 +1,7 @@
 // The C exports, on numbers and byte slices. Each answers the number of its refusal, or 0; a refusal leaves what was lent alone, and bytes past the file
 // that is written stay.
-pub mod memory;
-
-use crate::memory::call;
-use plan_calls::calls::Call;
+use call_memory::call;
+use plan_calls::Call;
 use replace_with_order_preserving_variants::Settings;
 use transform_up::Walk;
 ghost use mathlib.Core.Path.{_≡_};

@@ -1,22 +1,19 @@
 -- The decision, piece by piece. Assumes nothing.
 use mathlib.Core.Path.{_≡_, refl, sym, ap, ap₂, _∙_, subst, subst⁻¹}
-use mathlib.Core.Bool.{Bool, true, false, cond, not, _&&_}
-use mathlib.Core.List.{List, [], _∷_, _++_, append-nil}
+use mathlib.Core.Bool.{Bool, true, false, cond, _&&_}
+use mathlib.Core.List.{List, [], _++_, append-nil}
 use Prim.Native.Nat.{ℕ, zero, suc, _+_, _<_, _≤_}
 use native.Mathlib.Omega.{arith}
-use lib.Dec.{eqb, ltb}
-use lib.ListN.{length, getD, length-append}
+use lib.Dec.{ltb}
+use lib.ListN.{getD}
 use borrow.Author.Tests.{eqb-true}
 use Rattle.row_order.specs.Iso.{Key}
-use Rattle.row_order.specs.Order.{no-bool}
 use Rattle.plan.specs.Op.{Op, source, filter, projection, union, repartition, coalesce, sortOp, mergeOp, globalLimit, localLimit, sortMergeJoin, hashJoin, outputRequirement, partialSort, Plan}
-use Rattle.plan.specs.Numbers.{code}
 use Rattle.plan.specs.WellFormed.{childrenOk}
 use Rattle.plan.specs.declared.Distribution.{Distribution}
 use Rattle.plan.specs.declared.Distribution.the-variants.{Unspecified}
 use Rattle.plan.specs.declared.Fetch.{Fetch}
 use Rattle.plan.specs.declared.Fetch.the-variants.{Unlimited}
-use Rattle.plan.specs.declared.Refusal.the-variants.{TooManyNodes, ConstantSort}
 use Rattle.semantics.specs.Facts.{Facts, facts, factsOp, isNil, compatible}
 use Rattle.semantics.specs.Properties.{freshKeys, wanted, distOf, fetches, rebuilt, cuts, sortDist}
 use Rattle.key_lists.specs.declared.Keys.{Keys}
@@ -26,17 +23,15 @@ use Rattle.key_lists.specs.Keys.{keysOf, orderOf, Keyed, Ordered, Real}
 use Rattle.push_requirements.specs.declared.ParentRequirements.{ParentRequirements as Coded}
 use Rattle.push_requirements.specs.Answers.{some-keys}
 use Rattle.push_requirements.specs.Pushing.{required, orderBy, Handed, SeenNode}
-use Rattle.walks.specs.Utils.{needsMerge, newMerge, newSort, sortAboveWithDistribution, isSort}
+use Rattle.walks.specs.Utils.{needsMerge, newMerge, sortAboveWithDistribution}
 use Rattle.walks.specs.theorems.common.Keeps.{remark-same}
 use Rattle.walks.specs.SortPushdown.{ParentRequirements, strongerDistribution}
 use Rattle.walks.specs.PushdownSorts as walk
-use Rattle.walks.specs.Counted.{one, tooMany}
+use Rattle.walks.specs.Counted.{one}
 use Rattle.sort_pushdown.specs.declared.NewNodes.{NewNodes}
 use Rattle.sort_pushdown.specs.declared.ChildRequirements.{ChildRequirements}
 use Rattle.sort_pushdown.specs.declared.Decision.{Decision}
-use Rattle.sort_pushdown.specs.declared.Step.the-variants.{Refused, On}
-use Rattle.sort_pushdown.specs.Decisions.{topsOf, Adds, ofChild, reqFor, Asks, visitFor, Decides, removedBy, staysBy}
-use Rattle.sort_pushdown.specs.Steps.{some, stepBy}
+use Rattle.sort_pushdown.specs.Decisions.{Adds, ofChild, reqFor, Asks, visitFor, Decides, removedBy, staysBy}
 
 -- ---- new nodes
 
@@ -267,59 +262,6 @@ module _ (n o : Op) (fs : List Facts) (m : ℕ) (F L R : Facts) (s : SeenNode n 
     rest = h .rest;
   }
 
--- ---- steps
-
-pub one-some : (o : Order) (k : Keys) → Real o → o ≡ By k → 1 ≡ some (orderOf o)
-one-some o k h e = go (orderOf o) (requirement-some o k h e)
-  where
-    go : (ks : List Key) → isNil ks ≡ false → 1 ≡ some ks
-    go [] f = no-bool (sym f)
-    go (x ∷ ks) f = refl
-
-merge-count : (ks : List Key) (f : Fetch) → length (newMerge ks f) ≡ some ks
-merge-count [] f = refl
-merge-count (k ∷ ks) f = refl
-
-sort-count : (p : Bool) (ks : List Key) (f : Fetch) → length (newSort p ks f) ≡ some ks
-sort-count p [] f = refl
-sort-count p (k ∷ ks) f = refl
-
-pub some-le : (ks : List Key) → some ks ≤ 1
-some-le [] = omega arith
-some-le (k ∷ ks) = omega arith
-
-pub count-is : (t : NewNodes) (a b : ℕ) → a ≡ some (orderOf (t .merge)) → b ≡ some (orderOf (t .sort)) → a + b ≡ length (topsOf t)
-count-is t a b x y =
-    ap₂ _+_ (x ∙ sym (merge-count (orderOf (t .merge)) (t .mfetch))) (y ∙ sym (sort-count (t .preserve) (orderOf (t .sort)) (t .sfetch)))
-    ∙ sym (length-append (newMerge (orderOf (t .merge)) (t .mfetch)) (newSort (t .preserve) (orderOf (t .sort)) (t .sfetch)))
-
-pub sort-code : (o : Op) → eqb (code o) 7 ≡ isSort o
-sort-code (source s) = refl
-sort-code filter = refl
-sort-code (projection cols) = refl
-sort-code union = refl
-sort-code (repartition p n h ks) = refl
-sort-code (coalesce f) = refl
-sort-code (sortOp p ks f) = refl
-sort-code (mergeOp ks f) = refl
-sort-code (globalLimit s f note) = refl
-sort-code (localLimit f note) = refl
-sort-code (sortMergeJoin t on) = refl
-sort-code (hashJoin t on) = refl
-sort-code (outputRequirement ks d f) = refl
-sort-code (partialSort p ks n f) = refl
-
--- the ways through a step
-module _ (a q p : Bool) (n : ℕ) where
-  pub step-so : a ≡ true → Refused ConstantSort ≡ stepBy a q p n
-  step-so e = sym (ap (λ x. stepBy x q p n) e)
-
-  pub step-over : a ≡ false → not q && tooMany (n + one p) ≡ true → Refused TooManyNodes ≡ stepBy a q p n
-  step-over e d = sym (ap (λ x. stepBy x q p n) e ∙ ap (λ x. cond x (Refused TooManyNodes) (On n)) d)
-
-  pub step-goes : a ≡ false → not q && tooMany (n + one p) ≡ false → On n ≡ stepBy a q p n
-  step-goes e d = sym (ap (λ x. stepBy x q p n) e ∙ ap (λ x. cond x (Refused TooManyNodes) (On n)) d)
-
 -- the visit of child number j
 pub child-is : (d : Decision) (j : ℕ) (own : Fetch) (ts : List Fetch) (req : Coded) (g : Fetch) → req ≡ ofChild (d .reqs) j
     → g ≡ cond (d .reqs .initial) own (req .fetch) → own ≡ getD ts j Unlimited
@@ -329,7 +271,3 @@ child-is d j own ts req g x y z =
     let w : g ≡ cond (d .reqs .initial) (getD ts j Unlimited) (ofChild (d .reqs) j .fetch) =
     y ∙ ap₂ (λ a (q : Coded). cond (d .reqs .initial) a (q .fetch)) z x in
     λ i. record { req = record { order = orderOf (x i .order); fetch = w i; dist = x i .distribution }; touch = d .gone; root = false }
-
-pub not-not : (b : Bool) → not (not b) ≡ b
-not-not true = refl
-not-not false = refl

@@ -1,5 +1,3 @@
 pub mod Decisions
-pub mod Steps
 pub mod Deciding
 pub mod Merging
-pub mod Visits

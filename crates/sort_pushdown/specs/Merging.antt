@@ -30,7 +30,7 @@ use Rattle.push_requirements.specs.Pushing.{HandsOn, Handed, Asked, SeenNode}
 use Rattle.walks.specs.Utils.{needsMerge, newMerge, sortAboveWithDistribution}
 use Rattle.walks.specs.Marks.{shape}
 use Rattle.walks.specs.theorems.common.Keeps.{remark-same}
-use Rattle.walks.specs.theorems.parallelize.Bottlenecks.{rebuilt-facts}
+use Rattle.walks.specs.theorems.parallelize.Bottlenecks.{rebuilt-facts, rebuilt-twice}
 use Rattle.walks.specs.SortPushdown.{minFetch, Pushed, goes, stop, pushdownRequirementToChildren}
 use Rattle.walks.specs.PushdownSorts as walk
 use Rattle.sort_pushdown.specs.declared.NewNodes.{NewNodes}
@@ -134,15 +134,6 @@ remark-twice g h (sortMergeJoin t on) = refl
 remark-twice g h (hashJoin t on) = refl
 remark-twice g h (outputRequirement ks d f) = refl
 remark-twice g h (partialSort p ks n f) = refl
-
-counts-twice : (p x y : Bool) → (p && (x && y)) && (x && y) ≡ p && (x && y)
-counts-twice true true true = refl
-counts-twice true true false = refl
-counts-twice true false y = refl
-counts-twice false x y = refl
-
-pub rebuilt-twice : (o : Op) (fs : List Facts) → rebuilt (rebuilt o fs) fs ≡ rebuilt o fs
-rebuilt-twice o fs = remark-twice _ _ o ∙ ap (λ g. remark g o) (fun-ext (λ p. counts-twice p (not (isNil (knownOrder (at0 fs)))) (ltb 1 (at0 fs .streams))))
 
 pub seen-again : (n o : Op) (fs : List Facts) (m : ℕ) (F L R : Facts) → SeenNode n o fs m F L R → SeenNode n (rebuilt o fs) fs m F L R
 seen-again n o fs m F L R s =

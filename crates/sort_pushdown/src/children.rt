@@ -3,12 +3,12 @@ use crate::ChildRequirements;
 use crate::Decision;
 use crate::Visit;
 use key_lists::Order;
-use node_properties::wanted_distribution;
-use node_properties::wanted_order;
 use plan::Distribution;
 use plan::Fetch;
 use push_requirements::ParentRequirements;
 use push_requirements::requirements::stronger_distribution;
+use wanted_inputs::wanted_distribution;
+use wanted_inputs::wanted_order;
 ghost use mathlib.Core.Path.{_≡_};
 ghost use mathlib.Core.Bool.{true, cond};
 ghost use mathlib.Core.List.{List};
@@ -23,7 +23,7 @@ ghost use Rattle.plan_codec.specs.Decode.{decode};
 ghost use Rattle.record_fields.specs.Proper.{Proper};
 ghost use Rattle.semantics.specs.Properties.{fetches};
 ghost use Rattle.walks.specs.PushdownSorts as walk;
-ghost use Rattle.push_requirements.specs.Pushing.{required, Handed};
+ghost use Rattle.push_requirements.specs.Pushing.{Handed};
 ghost use Rattle.sort_pushdown.specs.Decisions.{Asks, ofChild, visitOf, visitFor};
 
 // An order for the first child and one for the others, with each child's own distribution if it is stronger.

@@ -3,11 +3,9 @@ pub mod children;
 pub mod deciding;
 pub mod new_nodes;
 pub mod sorts;
-pub mod steps;
 
 use key_lists::Order;
 use plan::Fetch;
-use plan::Refusal;
 use push_requirements::ParentRequirements;
 ghost use mathlib.Core.Path.{_≡_};
 ghost use Rattle.key_lists.specs.Keys.{Real};
@@ -61,10 +59,4 @@ pub struct Decision {
     pub reqs: ChildRequirements,
     pub peak: bool,
     pub quiet: bool,
-}
-
-// What a step answers: a refusal, or how many nodes the plan has after it.
-pub enum Step {
-    Refused(Refusal),
-    On(usize),
 }

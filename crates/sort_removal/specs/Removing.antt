@@ -30,8 +30,8 @@ use Rattle.walks.specs.theorems.ensure.Kept.{removeKids-kept, strip-connected}
 use Rattle.plan_context.specs.View.{treeOf, forest, mostNodes, mostSlots, Arena, Grown, Puts}
 use Rattle.plan_context.specs.Nodes.{Seen, counts-of}
 use Rattle.plan_context.specs.Handles.{Marks, kid-is}
-use Rattle.sort_removal.specs.Standing.{Standing, view, tree-is, own-over, own-proper, merge-op, part-op, one-kid}
-use Rattle.sort_removal.specs.Connection.{Connected}
+use Rattle.sort_connection.specs.Standing.{Standing, view, tree-is, own-over, own-proper, merge-op, part-op, one-kid}
+use Rattle.sort_connection.specs.Connection.{Connected}
 use Rattle.sort_removal.specs.Sizes.{kids-size, connected-size}
 
 -- One root of removeKids

@@ -30,7 +30,7 @@ use Rattle.plan_context.specs.Nodes.{counts-of}
 use Rattle.plan_context.specs.Facts.{Tells}
 use Rattle.plan_context.specs.Handles.{Marks}
 use Rattle.plan_updates.specs.Opening.{grown-none}
-use Rattle.sort_removal.specs.Standing.{Standing}
+use Rattle.sort_connection.specs.Standing.{Standing}
 
 -- ---- the record of the new node
 

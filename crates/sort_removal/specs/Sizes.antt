@@ -1,6 +1,6 @@
 -- Removing sorts at most doubles a tree.
 use mathlib.Core.Path.{_≡_, refl}
-use mathlib.Core.Bool.{Bool, true, false, cond, _&&_, _||_}
+use mathlib.Core.Bool.{Bool, false, _&&_, _||_}
 use Prim.Native.Nat.{ℕ, suc, _*_, _≤_}
 use native.Mathlib.Omega.{arith}
 use lib.Dec.{ltb}
@@ -11,10 +11,7 @@ use Rattle.semantics.specs.Facts.{isNil, knownOrder}
 use Rattle.semantics.specs.Properties.{singles}
 use Rattle.walks.specs.Marks.{Marked, Tree, at, over, fact, fetchT, sizeT, kid0, anyMark, rebuild, Shape, aSort, aMerge, aRepartition, aCoalesce, another, shape}
 use Rattle.walks.specs.EnsureSorting.{connectedEach, updateSortCtxChildrenData, singleStreamOp, withSingleStream, updatedAfterRemoval, dropSort, removeBy, removeTop, removeKids}
-
-pub cond-le : (n : ℕ) (x : Bool) (t u : Tree) → sizeT t ≤ n → sizeT u ≤ n → sizeT (cond x t u) ≤ n
-cond-le n true t u h k = h
-cond-le n false t u h k = k
+use Rattle.walks.specs.theorems.calls.Counts.{cond-le}
 
 pub connected-size : (c : Forest Marked) → size (connectedEach c) ≡ size c
 connected-size none = refl

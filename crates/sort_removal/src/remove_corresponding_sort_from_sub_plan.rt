@@ -1,7 +1,4 @@
 // The sorts below a node removed: those that it is connected to.
-use crate::update_sort_ctx_children_data::any_marked;
-use crate::update_sort_ctx_children_data::is_connected;
-use crate::update_sort_ctx_children_data::update_sort_ctx_children_data;
 use arena::At;
 use arena::child;
 use arena::child_count;
@@ -18,7 +15,6 @@ use node_properties::is_repartition;
 use node_properties::is_sort;
 use node_properties::is_sort_preserving_merge;
 use node_properties::some_fetch;
-use node_properties::wants_single;
 use plan::Fetch;
 use plan_context::handles::is_marked;
 use plan_context::handles::set_mark;
@@ -27,6 +23,11 @@ use plan_context::kept::summary;
 use plan_updates::putting::put_again;
 use plan_updates::putting::put_over;
 use plan_updates::putting::update_plan_from_children;
+use sort_connection::update_sort_ctx_children_data::any_marked;
+use sort_connection::update_sort_ctx_children_data::is_connected;
+use sort_connection::update_sort_ctx_children_data::update_sort_ctx_children_data;
+use tree_summary::Summary;
+use wanted_inputs::wants_single;
 ghost use mathlib.Core.Path.{_≡_};
 ghost use mathlib.Core.Bool.{true};
 ghost use Prim.Native.Nat.{_+_, _*_};
@@ -38,7 +39,7 @@ ghost use Rattle.arena.specs.Arena.{index, marked, slot};
 ghost use Rattle.walks.specs.Marks.{fetchT, sizeT};
 ghost use Rattle.walks.specs.EnsureSorting.{singleStreamOp, withSingleStream};
 ghost use Rattle.plan_context.specs.View.{treeOf, Grown};
-ghost use Rattle.sort_removal.specs.Standing.{Standing};
+ghost use Rattle.sort_connection.specs.Standing.{Standing};
 ghost use Rattle.sort_removal.specs.SingleStream.{AsksSingleStream};
 ghost use Rattle.sort_removal.specs.Removing.{Rems, Overs, Removed, removeOne};
 ghost use Rattle.sort_removal.specs.Recursion.{Removes};
@@ -48,7 +49,7 @@ fn plan_fetch(m: &[u8], u: usize, h: usize) -> Fetch
     requires { ⌜ Standing (now m) u h ⌝ }
     ensures { λ f. ⌜ f ≡ fetchT (treeOf (now (m .entry)) h) ⌝ }
 {
-    let s = summary(m, h);
+    let s: Summary = summary(m, h);
     let n = s.fetch;
     if n == 4294967295 {
         return Fetch::Unlimited;

@@ -1,10 +1,8 @@
 -- The counted walk, tree by tree, and child by child.
-use mathlib.Core.Path.{_≡_, refl, sym, ap, ap₂, _∙_, subst}
+use mathlib.Core.Path.{_≡_, refl, sym, ap, _∙_}
 use mathlib.Core.Bool.{Bool, true, false, cond}
-use mathlib.Core.List.{List, [], _∷_}
-use Prim.Native.Nat.{ℕ, zero, suc, _+_, _-_, _≤_, _<_}
+use Prim.Native.Nat.{ℕ, _+_, _-_, _≤_}
 use native.Mathlib.Omega.{arith}
-use lib.Dec.{ltb}
 use Rattle.plan.specs.Forest.{Forest, none, tree, size}
 use Rattle.plan.specs.Op.{Op, Plan}
 use Rattle.plan.specs.WellFormed.{every}

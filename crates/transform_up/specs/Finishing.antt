@@ -1,4 +1,4 @@
--- One node's end: the step, the count, tidying.
+-- One node's end: room, the rebuilt record, the step and its end.
 use mathlib.Core.Path.{_≡_, refl, sym, ap, _∙_, subst}
 use mathlib.Core.Bool.{Bool, true, false, _&&_, _||_}
 use mathlib.Core.List.{List}
@@ -22,11 +22,12 @@ use Rattle.plan_context.specs.Laws.{theres, same-trans}
 use Rattle.plan_updates.specs.Rebuilt.{rebuilt-tree, rebuilt-over}
 use Rattle.plan_updates.specs.Opened.{Opened, stepRoom}
 use Rattle.transform_up.specs.declared.Walk.{Walk}
-use Rattle.transform_up.specs.declared.Walked.{Walked}
-use Rattle.transform_up.specs.declared.Walked.the-variants.{Done, Stopped}
-use Rattle.transform_up.specs.declared.Stop.the-variants.{TooManyNodes, NoRoom}
+use Rattle.step_ends.specs.declared.Walked.{Walked}
+use Rattle.step_ends.specs.declared.Walked.the-variants.{Done, Stopped}
+use Rattle.step_ends.specs.declared.Stop.the-variants.{TooManyNodes, NoRoom}
 use Rattle.transform_up.specs.Walking.{stepOf}
-use Rattle.transform_up.specs.Tidying.{tidyFrom, fullSlots, enough, Tidies, Tidied}
+use Rattle.step_ends.specs.Tidying.{tidyFrom, fullSlots, enough}
+use Rattle.step_ends.specs.Ending.{Ending, Ended, after}
 
 -- What it asks: slot i's node over the walked children ks, in an arena with u nodes, v of them not of this subtree
 pub record Finish (m : List ℕ) (v u : ℕ) (ks : List ℕ) (i n before : ℕ) (c : List ℕ) : Type 0 where
@@ -133,37 +134,37 @@ module _ (m : List ℕ) (v u : ℕ) (ks : List ℕ) (i n before : ℕ) (c : List
         stepped-tree : treeOf m₁ (s .root) ≡ stepOf w (rebuild (decode (slot m i .rec)) false (forest m ks))
         stepped-tree = g .tree ∙ ap (stepOf w) tree-is
 
-        module _ (after : ℕ) (ha : after ≡ sizeT (treeOf m₁ (s .root))) where
-          count-is : n + after - before ≡ total w (rebuild (decode (slot m i .rec)) false (forest m ks)) n
-          count-is = let y = ap sizeT stepped-tree in let z = p .counts in omega arith
+        pub finish-ending : Ending m₁ v s n before c
+        finish-ending =
+            let y = p .part in let l = p .low in let o = p .many in let q = p .more in let k = g .more in let rm = g .room in let z = p .counts in
+            record {
+              arena = g .arena;
+              more = omega arith;
+              here = g .here;
+              many = p .many;
+              part = p .part;
+              room = λ b. let t = full-room (omega arith) in
+                  (omega arith, p .scratch t);
+              small = omega arith;
+            }
 
-          pub finish-tidies : n + after - before ≤ 126 → Tidies m₁ v s c
-          finish-tidies h =
-              let y = p .part in let l = p .low in let o = p .many in let q = p .more in let k = g .more in let rm = g .room in let z = p .counts in
-              record {
-                arena = g .arena;
-                more = omega arith;
-                here = g .here;
-                few = omega arith;
-                room = λ b. let t = full-room (omega arith) in
-                    (omega arith, p .scratch t);
-                small = omega arith;
-              }
+        count-is : after m₁ s n before ≡ total w (rebuild (decode (slot m i .rec)) false (forest m ks)) n
+        count-is = let y = ap sizeT stepped-tree in let z = p .counts in omega arith
 
-          pub finish-many : 126 < n + after - before → tooMany (total w (rebuild (decode (slot m i .rec)) false (forest m ks)) n) ≡ true
-          finish-many h = ap tooMany (sym count-is) ∙ lt-ltb 126 (n + after - before) h
-
-          pub finish-ends : n + after - before ≤ 126 → (m₂ : List ℕ) (z : At) → Tidied m₁ v m₂ z (treeOf m₁ (s .root))
-              → Ends w (rebuild (decode (slot m i .rec)) false (forest m ks)) n m v m₂ (z .used) (z .root) (n + after - before)
-          finish-ends h m₂ z k =
-              record {
-                fits = ap tooMany (sym count-is) ∙ le-ltb 126 (n + after - before) h;
-                counts = count-is;
-                most = h;
-                arena = k .arena;
-                old = same-trans v v m m₁ m₂ (omega arith) (same-trans v u m m m₁ (p .more) refl (g .old)) (k .old);
-                more = k .more;
-                here = k .here;
-                tree = k .tree ∙ stepped-tree;
-                low = subst (λ y. (z .used ≤ tidyFrom) ⊎ (z .used ≤ v + sizeT y)) stepped-tree (k .low);
-              }
+        pub finish-ended : (y : Walked) (m₂ : List ℕ) → Ended y m₁ v s n before m₂
+            → Finished y w (rebuild (decode (slot m i .rec)) false (forest m ks)) n m v m₂
+        finish-ended (Done used root count) m₂ e =
+            let k = e .2 in
+            record {
+              fits = ap tooMany (sym count-is) ∙ le-ltb 126 (after m₁ s n before) (let h = e .0 in let l = e .1 in omega arith);
+              counts = e .0 ∙ count-is;
+              most = e .1;
+              arena = k .arena;
+              old = same-trans v v m m₁ m₂ (omega arith) (same-trans v u m m m₁ (p .more) refl (g .old)) (k .old);
+              more = k .more;
+              here = k .here;
+              tree = k .tree ∙ stepped-tree;
+              low = subst (λ t. (used ≤ tidyFrom) ⊎ (used ≤ v + sizeT t)) stepped-tree (k .low);
+            }
+        finish-ended (Stopped TooManyNodes) m₂ e = ap tooMany (sym count-is) ∙ lt-ltb 126 (after m₁ s n before) e
+        finish-ended (Stopped NoRoom) m₂ e = absurd e

@@ -1,6 +1,6 @@
 -- The walk of a subtree: its children left to right, then the step.
 use mathlib.Core.Path.{_≡_, refl, sym, ap, ap₂, _∙_, subst}
-use mathlib.Core.Bool.{Bool, true, false, cond}
+use mathlib.Core.Bool.{true, false, cond}
 use mathlib.Core.List.{List, []}
 use mathlib.Core.Logic.{_⊎_, inl, inr}
 use Prim.Native.Nat.{ℕ, suc, _+_, _*_, _-_, _≤_, _<_}
@@ -8,7 +8,7 @@ use native.Mathlib.Omega.{arith}
 use native.Mathlib.Numerals.{add-one}
 use lib.ListN.{length, getD, take, drop, set, drop-of-length-le}
 use lib.Seq.{drop-cons, length-take-le}
-use Rattle.plan.specs.Forest.{Forest, none, tree, size}
+use Rattle.plan.specs.Forest.{none, tree, size}
 use Rattle.plan.specs.Op.{Op, Plan}
 use Rattle.plan.specs.declared.Refusal.the-variants.{TooManyNodes}
 use Rattle.plan_format.specs.Record.{children}
@@ -17,26 +17,26 @@ use Rattle.plan_codec.specs.Encode.{encode}
 use Rattle.arena.specs.Arena.{slotSize, slot, index, Below}
 use Rattle.arena.specs.declared.At.{At}
 use Rattle.arena.specs.Laws.{below-at}
-use Rattle.walks.specs.Marks.{Marked, Tree, node, plant, opT, sizeT, rebuild, strip, bare, transformUp}
+use Rattle.walks.specs.Marks.{Tree, node, plant, opT, sizeT, rebuild, strip, bare, transformUp}
 use Rattle.walks.specs.Terms.{_⊕_}
-use Rattle.walks.specs.theorems.common.Trees.{Ok, OkT, Fit, FitsA, arity, ok-fit}
+use Rattle.walks.specs.theorems.common.Trees.{Ok, OkT, FitsA, arity, ok-fit}
 use Rattle.walks.specs.theorems.common.Trees as walks
 use Rattle.walks.specs.theorems.common.Keeps.{kept-node, like-refl, walk-kept, strip-bare}
 use Rattle.walks.specs.Counted.{Counted, stopped, counted, bind, tooMany, stepped, countUp}
-use Rattle.plan_context.specs.View.{treeIn, treeOf, forest, Arena, Same, Grown}
+use Rattle.plan_context.specs.View.{treeIn, treeOf, forest, Arena, Grown}
 use Rattle.plan_context.specs.Laws.{same-trans, slot-same, in-same}
 use Rattle.plan_context.specs.Nodes.{Seen, seen}
 use Rattle.plan_context.specs.Facts.{size-strip}
 use Rattle.plan_updates.specs.Kids.{Kids, kids-none, kids-more, kids-forest, plus-none}
 use Rattle.transform_up.specs.declared.Walk.{Walk}
-use Rattle.transform_up.specs.declared.Walked.{Walked}
-use Rattle.transform_up.specs.declared.Walked.the-variants.{Done, Stopped}
-use Rattle.transform_up.specs.declared.Stop.{Stop}
-use Rattle.transform_up.specs.declared.Stop.the-variants as stop
+use Rattle.step_ends.specs.declared.Walked.{Walked}
+use Rattle.step_ends.specs.declared.Walked.the-variants.{Done, Stopped}
+use Rattle.step_ends.specs.declared.Stop.{Stop}
+use Rattle.step_ends.specs.declared.Stop.the-variants as stop
 use Rattle.transform_up.specs.Walking.{stepOf, mayAdd, step-keeps}
 use Rattle.transform_up.specs.Counting.{countTree, count-is, Going, going-none, going-more, going-stop}
-use Rattle.transform_up.specs.Tidying.{tidyFrom, fullSlots}
-use Rattle.transform_up.specs.Finishing.{total, Finish, Ends, Finished}
+use Rattle.step_ends.specs.Tidying.{tidyFrom, fullSlots}
+use Rattle.transform_up.specs.Finishing.{total, Finish, Finished}
 
 -- ---- contracts
 

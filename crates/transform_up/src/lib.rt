@@ -10,21 +10,22 @@ use arena::record_at;
 use ensure_sorting::ensure_sorting;
 use parallelize_sorts::parallelize_sorts;
 use plan_context::kept::nodes;
-use plan_updates::copying::copy;
 use plan_updates::putting::rebuilt;
 use replace_with_order_preserving_variants::Settings;
 use replace_with_order_preserving_variants::replace_with_order_preserving_variants;
-ghost use mathlib.Core.Path.{_≡_};
+use step_ends::Stop;
+use step_ends::Walked;
+use step_ends::end_step;
+use step_ends::has_room;
 ghost use mathlib.Core.Bool.{false};
 ghost use Prim.Native.Nat.{suc, _+_};
 ghost use Rattle.plan.specs.Forest.{size};
 ghost use Rattle.plan_codec.specs.Decode.{decode};
 ghost use Rattle.walks.specs.Marks.{node, rebuild};
 ghost use Rattle.arena.specs.Arena.{slot};
-ghost use Rattle.plan_context.specs.View.{treeOf, forest, Grown};
+ghost use Rattle.plan_context.specs.View.{forest, Grown};
 ghost use Rattle.plan_updates.specs.Opened.{Opened, stepRoom};
 ghost use Rattle.transform_up.specs.Walking.{stepOf};
-ghost use Rattle.transform_up.specs.Tidying.{enough, Tidies, Tidied};
 ghost use Rattle.transform_up.specs.Finishing.{Finish, Finished};
 ghost use Rattle.transform_up.specs.Frame.{Walkable, Outcome};
 
@@ -34,24 +35,6 @@ pub enum Walk {
     Parallelize,
     Preserve(Settings),
 }
-
-// Why a walk stops: refusal 23, or the arena is too small for it.
-pub enum Stop {
-    TooManyNodes,
-    NoRoom,
-}
-
-// What the walk of a subtree answers: the slots used, the handle of the new tree, and the nodes of the whole plan.
-pub enum Walked {
-    Done(usize, usize, usize),
-    Stopped(Stop),
-}
-
-// A subtree that used more slots than this is copied together after its walk.
-pub const TIDY_FROM: usize = 382;
-
-// So many slots are enough for every walk of every plan.
-pub const FULL: usize = 772;
 
 // The step at one node: the record r over the children ks. Slot i holds the node as it was read.
 fn step(w: Walk, m: &mut [u8], u: usize, r: &[u8], ks: &[usize], i: usize) -> At
@@ -67,28 +50,8 @@ fn step(w: Walk, m: &mut [u8], u: usize, r: &[u8], ks: &[usize], i: usize) -> At
     }
 }
 
-// Whether a walk that may use so many slots has them: either no tidying comes, or there is room for all of it.
-fn has_room(slots: usize, need: usize) -> bool
-    ensures { λ b. ⌜ b ≡ enough slots need ⌝ }
-{
-    (need <= slots) & ((need <= TIDY_FROM) | (FULL <= slots))
-}
-
-// The tree of s, copied to the slots from v on where many are used: what only the steps needed goes. Everything from v on is of this subtree, so no live
-// handle moves.
-fn tidied(m: &mut [u8], v: usize, s: At, c: &mut [u8]) -> At
-    requires { ⌜ Tidies (now m) v s (now c) ⌝ }
-    ensures { λ r. ⌜ Tidied (now (m .entry)) v (now (m .exit)) r (treeOf (now (m .entry)) (s .root)) ⌝ }
-{
-    if s.used <= TIDY_FROM {
-        return s;
-    }
-    let x = copy(m, s.used, c, 0, s.root);
-    copy(c, x.used, m, v, x.root)
-}
-
-// The end of one node's walk: slot i's node, rebuilt over its walked children, is stepped and counted. It has so many nodes before its step, the whole plan
-// n.
+// The end of one node's walk: slot i's node, rebuilt over its walked children, is stepped and counted. It has so many nodes before its step,
+// the whole plan n.
 fn finish(
     w: Walk,
     m: &mut [u8],
@@ -110,12 +73,7 @@ fn finish(
     let r = read64(record_at(m, i));
     let x = rebuilt(m, &r, ks);
     let s = step(w, m, u, &x, ks, i);
-    let total = n + nodes(m, s.root) - before;
-    if 126 < total {
-        return Walked::Stopped(Stop::TooManyNodes);
-    }
-    let z = tidied(m, v, s, c);
-    Walked::Done(z.used, z.root, total)
+    end_step(m, v, s, n, before, c)
 }
 
 // The walk of slot i's tree, in an arena with v nodes and a plan of n. The new tree stands behind them or shares them; c is lent.

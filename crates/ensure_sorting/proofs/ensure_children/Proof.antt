@@ -9,7 +9,7 @@ use Rattle.semantics.specs.Properties.{wanted, singles}
 use Rattle.key_lists.specs.Keys.{Ordered}
 use Rattle.arena.specs.Arena.{index, slot}
 use Rattle.walks.specs.OutputRequirements.{outputFetch}
-use Rattle.sort_removal.specs.Standing.{view, slot-room, own-proper}
+use Rattle.sort_connection.specs.Standing.{view, slot-room, own-proper}
 use Rattle.plan_updates.specs.ChildLoop.{node-room, few-kids, kid-there}
 use Rattle.ensure_sorting.specs.Loop.{Going, standing, going-none, still, child-asks, going-more, going-ends, end-grown}
 use Rattle.ensure_sorting.proofs.ensure_children.Statement.{statement}

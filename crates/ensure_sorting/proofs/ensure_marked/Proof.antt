@@ -1,5 +1,5 @@
 use borrow.Author.Needs.{needs}
-use Rattle.sort_removal.specs.Standing.{is-here, own-proper, kid-asks, kid-standing}
+use Rattle.sort_connection.specs.Standing.{is-here, own-proper, kid-asks, kid-standing}
 use Rattle.ensure_sorting.specs.Step.{marks-standing, sort-code, other-code, leaf-grown, first-some, loop-asks, loop-grown, other-kind, not-met, met-asks, met-grown}
 use Rattle.ensure_sorting.proofs.ensure_marked.Statement.{statement}
 use Rattle.ensure_sorting.proofs.ensure_marked.Tie as tie

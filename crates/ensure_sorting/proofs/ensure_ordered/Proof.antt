@@ -1,6 +1,6 @@
 use borrow.Author.Needs.{needs}
 use borrow.Author.Tests.{not-true, not-false}
-use Rattle.sort_removal.specs.Standing.{is-here}
+use Rattle.sort_connection.specs.Standing.{is-here}
 use Rattle.ensure_sorting.specs.Child.{child-standing, kept-met, plain-sorts, plain-grown, over-sorts, over-grown}
 use Rattle.ensure_sorting.proofs.ensure_ordered.Statement.{statement}
 use Rattle.ensure_sorting.proofs.ensure_ordered.Tie as tie

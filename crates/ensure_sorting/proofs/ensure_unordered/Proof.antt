@@ -1,5 +1,5 @@
 use borrow.Author.Needs.{needs}
-use Rattle.sort_removal.specs.Standing.{is-here}
+use Rattle.sort_connection.specs.Standing.{is-here}
 use Rattle.ensure_sorting.specs.Child.{child-standing, updated, kept-free}
 use Rattle.ensure_sorting.proofs.ensure_unordered.Statement.{statement}
 use Rattle.ensure_sorting.proofs.ensure_unordered.Tie as tie

@@ -1,6 +1,6 @@
 use borrow.Author.Needs.{needs}
 use Rattle.plan_codec.specs.Decode.{decode}
-use Rattle.sort_removal.specs.Standing.{is-code, not-code}
+use Rattle.sort_connection.specs.Standing.{is-code, not-code}
 use Rattle.ensure_sorting.specs.Finishing.{end-proper, merge-some, merge-here, one-ok, one-end, more-end, other-end}
 use Rattle.ensure_sorting.proofs.finish.Statement.{statement}
 use Rattle.ensure_sorting.proofs.finish.Tie as tie

@@ -6,7 +6,7 @@ use Rattle.row_order.specs.Iso.{Key}
 use Rattle.plan.specs.declared.Kind.the-variants.{Projection}
 use Rattle.semantics.specs.Facts.{dropRepeats}
 use Rattle.key_lists.specs.Keys.{Keyed}
-use Rattle.node_properties.specs.Kinds.{op-of}
+use Rattle.record_fields.specs.Kinds.{op-of}
 use Rattle.join_sides.proofs.remap_requirement_through_projection.Statement.{statement}
 use Rattle.join_sides.proofs.remap_requirement_through_projection.Tie as tie
 

@@ -2,7 +2,7 @@
 use borrow.Author.Needs.{needs}
 use mathlib.Core.Path.{refl, sym, ap, _∙_}
 use Rattle.plan.specs.declared.Kind.the-variants.{Source, Filter, Projection, Union, Repartition, Coalesce, Sort, Merge, GlobalLimit, LocalLimit, SortMergeJoin, HashJoin, OutputRequirement, PartialSort}
-use Rattle.node_properties.specs.Kinds.{asked-of}
+use Rattle.record_fields.specs.Kinds.{asked-of}
 use mathlib.Core.Bool.{not}
 use Rattle.plan.specs.WellFormed.{someFetch}
 use Rattle.semantics.specs.Properties.{cardinalityEqual}

@@ -2,7 +2,7 @@
 use borrow.Author.Needs.{needs}
 use mathlib.Core.Path.{refl, sym, _∙_}
 use Rattle.plan.specs.declared.Kind.the-variants.{Source, Filter, Projection, Union, Repartition, Coalesce, Sort, Merge, GlobalLimit, LocalLimit, SortMergeJoin, HashJoin, OutputRequirement, PartialSort}
-use Rattle.node_properties.specs.Kinds.{asked-of}
+use Rattle.record_fields.specs.Kinds.{asked-of}
 use Rattle.semantics.specs.Properties.{cuts}
 use Rattle.node_properties.proofs.fetch.Statement.{statement}
 use Rattle.node_properties.proofs.fetch.Tie as tie

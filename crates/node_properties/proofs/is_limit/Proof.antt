@@ -1,6 +1,6 @@
 -- `node_properties::is_limit` meets its contract. Assumes nothing.
 use borrow.Author.Needs.{needs}
-use Rattle.node_properties.specs.Kinds.{codes-are}
+use Rattle.record_fields.specs.Kinds.{codes-are}
 use Rattle.node_properties.proofs.is_limit.Statement.{statement}
 use Rattle.node_properties.proofs.is_limit.Tie as tie
 

@@ -1,6 +1,6 @@
 -- `node_properties::is_projection` meets its contract. Assumes nothing.
 use borrow.Author.Needs.{needs}
-use Rattle.node_properties.specs.Kinds.{code-is}
+use Rattle.record_fields.specs.Kinds.{code-is}
 use Rattle.node_properties.proofs.is_projection.Statement.{statement}
 use Rattle.node_properties.proofs.is_projection.Tie as tie
 

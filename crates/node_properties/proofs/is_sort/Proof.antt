@@ -1,6 +1,6 @@
 -- `node_properties::is_sort` meets its contract. Assumes nothing.
 use borrow.Author.Needs.{needs}
-use Rattle.node_properties.specs.Kinds.{code-is}
+use Rattle.record_fields.specs.Kinds.{code-is}
 use Rattle.node_properties.proofs.is_sort.Statement.{statement}
 use Rattle.node_properties.proofs.is_sort.Tie as tie
 

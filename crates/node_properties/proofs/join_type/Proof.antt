@@ -4,7 +4,7 @@ use mathlib.Core.Path.{sym, ap, _∙_}
 use Rattle.plan.specs.Op.{sortMergeJoin, hashJoin}
 use Rattle.plan.specs.declared.Kind.the-variants.{SortMergeJoin, HashJoin}
 use Rattle.record_fields.specs.Proper.{pairsOf}
-use Rattle.node_properties.specs.Kinds.{op-of}
+use Rattle.record_fields.specs.Kinds.{op-of}
 use Rattle.node_properties.proofs.join_type.Statement.{statement}
 use Rattle.node_properties.proofs.join_type.Tie as tie
 

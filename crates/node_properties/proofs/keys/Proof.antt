@@ -3,7 +3,7 @@ use mathlib.Core.Path.{subst}
 use mathlib.Core.List.{List}
 use Rattle.row_order.specs.Iso.{Key}
 use Rattle.key_lists.specs.Keys.{Keyed}
-use Rattle.node_properties.specs.Fields.{keys-are}
+use Rattle.record_fields.specs.Kinds.{keys-are}
 use Rattle.node_properties.proofs.keys.Statement.{statement}
 use Rattle.node_properties.proofs.keys.Tie as tie
 

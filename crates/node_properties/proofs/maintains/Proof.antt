@@ -5,7 +5,7 @@ use Rattle.plan.specs.declared.Kind.the-variants.{Source, Filter, Projection, C
 use Rattle.semantics.specs.Facts.{smjKept, hashKept}
 use Rattle.semantics.specs.Properties.{maintains, keptSide}
 use Rattle.asked_facts.specs.Asked.{told}
-use Rattle.node_properties.specs.Kinds.{asked-of}
+use Rattle.record_fields.specs.Kinds.{asked-of}
 use Rattle.node_properties.specs.Maintaining.{union-maintains, repartition-maintains}
 use Rattle.node_properties.proofs.maintains.Statement.{statement}
 use Rattle.node_properties.proofs.maintains.Tie as tie

@@ -7,7 +7,7 @@ use lib.ListN.{getD}
 use Rattle.plan.specs.declared.Fetch.the-variants.{Unlimited}
 use Rattle.plan_codec.specs.Decode.{decode}
 use Rattle.semantics.specs.Properties.{cuts}
-use Rattle.node_properties.specs.Kinds.{code-is}
+use Rattle.record_fields.specs.Kinds.{code-is}
 use Rattle.node_properties.proofs.output_fetch.Statement.{statement}
 use Rattle.node_properties.proofs.output_fetch.Tie as tie
 

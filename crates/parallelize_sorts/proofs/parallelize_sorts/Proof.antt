@@ -7,7 +7,7 @@ use Rattle.plan_codec.specs.Decode.{decode}
 use Rattle.walks.specs.Marks.{fact}
 use Rattle.plan_context.specs.View.{treeOf}
 use Rattle.plan_updates.specs.Opening.{opened-puts}
-use Rattle.parallelize_sorts.specs.Connecting.{some-first}
+use Rattle.bottleneck_removal.specs.Connecting.{some-first}
 use Rattle.parallelize_sorts.specs.Exprs.{coalesced, cascades-alike, coalesced-alike, cascades-pass}
 use Rattle.parallelize_sorts.specs.Cascading.{step-proper, unconnected, first-here, step-rebuilds, rebuilt-grown, left-grown}
 use Rattle.parallelize_sorts.proofs.parallelize_sorts.Statement.{statement}

@@ -1,5 +1,5 @@
 use borrow.Author.Needs.{needs}
-use Rattle.parallelize_sorts.specs.IdleNodes.{marked-grown, root-small}
+use Rattle.bottleneck_removal.specs.IdleNodes.{marked-grown, root-small}
 use Rattle.parallelize_sorts.proofs.stay.Statement.{statement}
 use Rattle.parallelize_sorts.proofs.stay.Tie as tie
 

@@ -3,7 +3,8 @@ use mathlib.Core.Path.{refl, sym, _∙_}
 use lib.ListN.{length}
 use borrow.Author.Tests.{not-false}
 use Rattle.plan_format.specs.Reading.{earlyRefusal}
-use Rattle.plan_passes.specs.Laws.{refuse-stop, refuse-on, length-facts, count-le}
+use Rattle.block_passes.specs.Laws.{length-facts, count-le}
+use Rattle.plan_passes.specs.Laws.{refuse-stop, refuse-on}
 use Rattle.plan_passes.proofs.early_refusal.Statement.{statement}
 use Rattle.plan_passes.proofs.early_refusal.Tie as tie
 

@@ -1,6 +1,6 @@
 use borrow.Author.Needs.{needs}
 use Rattle.plan_format.specs.Fields.{fieldsOf}
-use Rattle.plan_rules.specs.Kinds.{rules}
+use Rattle.plan_rules.specs.Rules.{rules}
 use Rattle.plan_rules.proofs.local_limit_ok.Statement.{statement}
 use Rattle.plan_rules.proofs.local_limit_ok.Tie as tie
 

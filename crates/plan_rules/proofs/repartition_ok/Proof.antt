@@ -2,7 +2,7 @@ use borrow.Author.Needs.{needs}
 use native.Mathlib.Omega.{arith}
 use mathlib.Core.Path.{_∙_}
 use Rattle.plan_format.specs.Fields.{fieldsOf}
-use Rattle.plan_rules.specs.Kinds.{rules, plain-keys}
+use Rattle.plan_rules.specs.Rules.{rules, plain-keys}
 use Rattle.plan_rules.proofs.repartition_ok.Statement.{statement}
 use Rattle.plan_rules.proofs.repartition_ok.Tie as tie
 

@@ -5,9 +5,9 @@ use Prim.Native.Nat.{_/_}
 use lib.ListN.{length}
 use lib.Seq.{length-take-le}
 use Rattle.arena.specs.Arena.{marked}
-use Rattle.replace_with_order_preserving_variants.specs.Nodes.{shown}
-use Rattle.replace_with_order_preserving_variants.specs.Marking.{half, carry-arena, cut-puts, cut-grown, unmarked-is}
-use Rattle.replace_with_order_preserving_variants.specs.Replacing.{grown-as}
+use Rattle.order_preservation_marks.specs.Nodes.{shown}
+use Rattle.order_preservation_marks.specs.Marking.{half, carry-arena, cut-puts, cut-grown, unmarked-is}
+use Rattle.order_preservation_marks.specs.Replacing.{grown-as}
 use Rattle.replace_with_order_preserving_variants.proofs.accept.Statement.{statement}
 use Rattle.replace_with_order_preserving_variants.proofs.accept.Tie as tie
 

@@ -4,8 +4,8 @@ use mathlib.Core.Bool.{false}
 use Prim.Native.Nat.{_-_}
 use lib.ListN.{length, replicate}
 use Rattle.arena.specs.Arena.{marked, slot}
-use Rattle.replace_with_order_preserving_variants.specs.Nodes.{shown, child-asks, kid-below}
-use Rattle.replace_with_order_preserving_variants.specs.Marking.{nothing-left, Cutting, cutting-none, cutting-room, cutting-more, cutting-all}
+use Rattle.order_preservation_marks.specs.Nodes.{shown, child-asks, kid-below}
+use Rattle.order_preservation_marks.specs.Marking.{nothing-left, Cutting, cutting-none, cutting-room, cutting-more, cutting-all}
 use Rattle.replace_with_order_preserving_variants.proofs.unmarked.Statement.{statement}
 use Rattle.replace_with_order_preserving_variants.proofs.unmarked.Tie as tie
 

@@ -1,6 +1,6 @@
 use borrow.Author.Needs.{needs}
 use borrow.Author.Tests.{not-true, not-false}
-use Rattle.sort_removal.specs.Standing.{is-here, own-proper, kid-asks, kid-standing}
+use Rattle.sort_connection.specs.Standing.{is-here, own-proper, kid-asks, kid-standing}
 use Rattle.replace_with_partial_sort.specs.Replacing.{not-sort, sort-some, bounded, all-met, none-met, some-met, some-fits}
 use Rattle.replace_with_partial_sort.proofs.replace_with_partial_sort.Statement.{statement}
 use Rattle.replace_with_partial_sort.proofs.replace_with_partial_sort.Tie as tie

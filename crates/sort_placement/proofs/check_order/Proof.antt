@@ -1,13 +1,9 @@
 use borrow.Author.Needs.{needs}
-use native.Mathlib.Omega.{arith}
 use mathlib.Core.Path.{_∙_}
 use mathlib.Core.List.{[]}
 use Rattle.sort_placement.specs.Checking.{check-number, check-writes, check-stays}
 use Rattle.sort_placement.proofs.check_order.Statement.{statement}
 use Rattle.sort_placement.proofs.check_order.Tie as tie
-use Rattle.sort_placement.proofs.check_order.Reads as reads
-use Rattle.sort_placement.proofs.check_order.Lts as lts
-use Rattle.sort_placement.proofs.memory.call.Reads as call-reads
 
 slice-aggregate-call : tie.Need-slice-aggregate-call
 slice-aggregate-call c = search needs

@@ -11,7 +11,7 @@ use Rattle.arena.specs.Arena.{slot}
 use Rattle.arena.specs.Laws.{index-even}
 use Rattle.plan_context.specs.View.{treeIn}
 use Rattle.plan_context.specs.Laws.{here}
-use Rattle.transform_up.specs.declared.Walked.the-variants.{Done, Stopped}
+use Rattle.step_ends.specs.declared.Walked.the-variants.{Done, Stopped}
 use Rattle.transform_up.specs.Frame.{Walking, Outcome, shown, slot-is, walking-none, walking-next, walking-more, walking-stops, before-is, walking-end, walking-done}
 use Prim.Native.Nat.{ℕ, _<_}
 use borrow.Fn.Kinds.{In}

@@ -1,23 +1,20 @@
 use borrow.Author.Needs.{needs}
 use native.Mathlib.Omega.{arith}
-use mathlib.Core.Path.{sym, ap, _∙_}
-use Prim.Native.Nat.{_/_}
+use mathlib.Core.Path.{sym, _∙_}
 use borrow.Author.Tests.{not-true, not-false}
 use Rattle.arena.specs.Arena.{slot}
-use Rattle.plan_context.specs.Laws.{here}
-use Rattle.plan_context.specs.Nodes.{proper, seen}
-use Rattle.transform_up.specs.Finishing.{no-room, finish-over, finish-opened, finish-tidies, finish-many, finish-ends}
+use Rattle.plan_context.specs.Nodes.{seen}
+use Rattle.transform_up.specs.Finishing.{no-room, finish-over, finish-opened, finish-ending, finish-ended}
 use Rattle.transform_up.proofs.finish.Statement.{statement}
 use Rattle.transform_up.proofs.finish.Tie as tie
 use Rattle.transform_up.proofs.finish.Reads as reads
 use Rattle.transform_up.proofs.finish.Lts as lts
 use Rattle.arena.proofs.read64.Reads as read64-reads
 use Rattle.arena.proofs.record_at.Reads as record-at-reads
-use Rattle.plan_context.proofs.kept.nodes.Reads as nodes-reads
 use Rattle.plan_updates.proofs.putting.rebuilt.Reads as rebuilt-reads
-use Rattle.transform_up.proofs.has_room.Reads as has-room-reads
+use Rattle.step_ends.proofs.has_room.Reads as has-room-reads
 use Rattle.transform_up.proofs.step.Reads as step-reads
-use Rattle.transform_up.proofs.tidied.Reads as tidied-reads
+use Rattle.step_ends.proofs.end_step.Reads as end-step-reads
 
 mul-has-room : tie.Need-mul-has-room
 mul-has-room c = let s = c .before .before .before in let p = s .pre in let m = s .args .m .now in let v = s .args .v in let u = s .args .u in
@@ -76,84 +73,29 @@ step-requires c κs = let s = c .before .before .before .before .before .before 
     (rw (c .before .before .before .before .before .read64 .ensures, c .before .before .before .before .before .before .record-at .ensures) at
     (c .before .before .rebuilt .ensures))
 
-nodes-requires : tie.Need-nodes-requires
-nodes-requires c κs = let g = c .before .before .before .step .ensures in here _ _ _ (g .arena) (g .here)
-
-add-total : tie.Need-add-total
-add-total c = let s = c .before .before .before .before .before .before .before .before .before .before .before .before .before .before .before .before
-    .before .before in let p = s .pre in let m = s .args .m .now in let v = s .args .v in let u = s .args .u in let ks = s .args .ks .now in
+end-step-requires : tie.Need-end-step-requires
+end-step-requires c κs = let s = c .before .before .before .before .before .before .before .before .before .before .before .before .before .before .before .before .before .before in let p = s .pre in let m = s .args .m .now in let v = s .args .v in let u = s .args .u in let ks = s .args .ks .now in
     let i = s .args .i in let n = s .args .n in let b = s .args .before in let k = s .args .c .now in
-    let g = c .before .before .before .before .step .ensures in let h = g .here in
-    let f = g .arena .all (c .before .before .before .before .step .result .root / 2) (omega arith) .proper .few in let e = c .nodes .ensures in
-    let y = p .many in omega arith
-
-sub-total : tie.Need-sub-total
-sub-total c = let s = c .before .before .before .before .before .before .before .before .before .before .before .before .before .before .before .before
-    .before .before in let p = s .pre in let m = s .args .m .now in let v = s .args .v in let u = s .args .u in let ks = s .args .ks .now in
-    let i = s .args .i in let n = s .args .n in let b = s .args .before in let k = s .args .c .now in let x = p .part in omega arith
+    let big = (sym (c .before .before .before .before .before .before .before .before .before .before .before .before .before .before .has-room .ensures) ∙ not-false _ (c .before .before .before .before .before .before .before .before .before .before .before .before .before .if1 .left)) in
+    finish-ending m v u ks i n b k p big _
+    (rw (c .before .before .before .before .before .before .before .before .before .before .read64 .ensures, c .before .before .before .before .before .before .before .before .before .before .before .record-at .ensures) at (c .before .before .before .before .before .before .before .rebuilt .ensures)) (s .args .w) _
+    (c .before .before .before .before .step .kept .1 .0) _ (c .before .before .before .before .step .ensures)
 
 same-length : tie.Need-same-length
 same-length c = search needs
 
-returns-2 : tie.Need-returns-2
-returns-2 c = let s = c .before .before .before .before .before .before .before .before .before .before .before .before .before .before .before .before
-    .before .before .before in let p = s .pre in let m = s .args .m .now in let v = s .args .v in let u = s .args .u in let ks = s .args .ks .now in
-    let i = s .args .i in let n = s .args .n in let b = s .args .before in let k = s .args .c .now in
-    let big = (sym (c .before .before .before .before .before .before .before .before .before .before .before .before .before .before .before .has-room
-    .ensures) ∙ not-false _ (c .before .before .before .before .before .before .before .before .before .before .before .before .before .before .if1 .left))
-    in finish-many m v u ks i n b k p big _
-    (rw (
-      c .before .before .before .before .before .before .before .before .before .before .before .read64 .ensures,
-      c .before .before .before .before .before .before .before .before .before .before .before .before .record-at .ensures,
-    ) at
-    (c .before .before .before .before .before .before .before .before .rebuilt .ensures)) (s .args .w) _
-    (c .before .before .before .before .before .step .kept .1 .0) _ (c .before .before .before .before .before .step .ensures) _ (c .before .nodes .ensures)
-    (c .if2 .taken)
-
-tidied-requires : tie.Need-tidied-requires
-tidied-requires c κs = let s =
-    c .before .before .before .before .before .before .before .before .before .before .before .before .before .before .before .before .before .before
-    .before .before .before in let p = s .pre in let m = s .args .m .now in let v = s .args .v in let u = s .args .u in let ks = s .args .ks .now in
-    let i = s .args .i in let n = s .args .n in let b = s .args .before in let k = s .args .c .now in
-    let big = (sym (c .before .before .before .before .before .before .before .before .before .before .before .before .before .before .before .before
-    .before .has-room .ensures) ∙ not-false _
-    (c .before .before .before .before .before .before .before .before .before .before .before .before .before .before .before .before .if1 .left)) in
-    finish-tidies m v u ks i n b k p big _
-    (rw (
-      c .before .before .before .before .before .before .before .before .before .before .before .before .before .read64 .ensures,
-      c .before .before .before .before .before .before .before .before .before .before .before .before .before .before .record-at .ensures,
-    ) at
-    (c .before .before .before .before .before .before .before .before .before .before .rebuilt .ensures)) (s .args .w) _
-    (c .before .before .before .before .before .before .before .step .kept .1 .0) _
-    (c .before .before .before .before .before .before .before .step .ensures) _ (c .before .before .before .nodes .ensures)
-    (omega (arith, c .before .before .if2 .left))
-
 same-length-2 : tie.Need-same-length-2
 same-length-2 c = search needs
 
-same-length-3 : tie.Need-same-length-3
-same-length-3 c = search needs
-
-returns-3 : tie.Need-returns-3
-returns-3 c = let s = c .before .before .before .before .before .before .before .before .before .before .before .before .before .before .before .before
-    .before .before .before .before .before .before .before .before .before .before in let p = s .pre in let m = s .args .m .now in let v = s .args .v in
-    let u = s .args .u in let ks = s .args .ks .now in let i = s .args .i in let n = s .args .n in let b = s .args .before in let k = s .args .c .now in
-    let big = (sym (c .before .before .before .before .before .before .before .before .before .before .before .before .before .before .before .before
-    .before .before .before .before .before .before .has-room .ensures)
-    ∙ not-false _ (c .before .before .before .before .before .before .before .before .before .before .before .before .before .before .before .before .before
-    .before .before .before .before .if1 .left)) in
-    finish-ends m v u ks i n b k p big _
-    (rw (
-      c .before .before .before .before .before .before .before .before .before .before .before .before .before .before .before .before .before .before
-          .read64 .ensures,
-      c .before .before .before .before .before .before .before .before .before .before .before .before .before .before .before .before
-          .before .before .before .record-at .ensures,
-    ) at
-    (c .before .before .before .before .before .before .before .before .before .before .before .before .before .before .before .rebuilt .ensures))
-    (s .args .w) _ (c .before .before .before .before .before .before .before .before .before .before .before .before .step .kept .1 .0) _
-    (c .before .before .before .before .before .before .before .before .before .before .before .before .step .ensures) _
-    (c .before .before .before .before .before .before .before .before .nodes .ensures)
-    (omega (arith, c .before .before .before .before .before .before .before .if2 .left)) _ _ (c .before .before .before .before .tidied .ensures)
+returns-2 : tie.Need-returns-2
+returns-2 c = let s = c .before .before .before .before .before .before .before .before .before .before .before .before .before .before .before .before .before .before .before .before .before .before .before in let p = s .pre in let m = s .args .m .now in let v = s .args .v in let u = s .args .u in let ks = s .args .ks .now in
+    let i = s .args .i in let n = s .args .n in let b = s .args .before in let k = s .args .c .now in
+    let big = (sym (c .before .before .before .before .before .before .before .before .before .before .before .before .before .before .before .before .before .before .before .has-room .ensures) ∙ not-false _ (c .before .before .before .before .before .before .before .before .before .before .before .before .before .before .before .before .before .before .if1 .left)) in
+    finish-ended m v u ks i n b k p big _
+    (rw (c .before .before .before .before .before .before .before .before .before .before .before .before .before .before .before .read64 .ensures, c .before .before .before .before .before .before .before .before .before .before .before .before .before .before .before .before .record-at .ensures) at (c .before .before .before .before .before .before .before .before .before .before .before .before .rebuilt .ensures)) (s .args .w) _
+    (c .before .before .before .before .before .before .before .before .before .step .kept .1 .0) _ (c .before .before .before .before .before .before .before .before .before .step .ensures)
+    (c .before .before .before .before .end-step .result) (c .before .before .before .before .end-step .last .0)
+    (c .before .before .before .before .end-step .ensures)
 
 pub finish-spec : {M : Type 1} → statement M
 finish-spec =
@@ -170,12 +112,7 @@ finish-spec =
     rebuilt-requires
     slice-aggregate-step
     step-requires
-    nodes-requires
-    add-total
-    sub-total
+    end-step-requires
     same-length
-    returns-2
-    tidied-requires
     same-length-2
-    same-length-3
-    returns-3)
+    returns-2)

@@ -3,7 +3,8 @@ use native.Mathlib.Omega.{arith}
 use mathlib.Core.Path.{sym, ap, _∙_, subst}
 use Rattle.plan_context.specs.View.{treeOf}
 use Rattle.plan_context.specs.Records.{planT}
-use Rattle.plan_calls.specs.Calls.{resultOf, CalledAs}
+use Rattle.call_parts.specs.Calls.{CalledAs}
+use Rattle.plan_calls.specs.Results.{resultOf}
 use Rattle.plan.specs.Numbers.{numberOf}
 use lib.ListN.{length}
 use Rattle.plan_roundtrip.specs.Back.{AllBytes}
@@ -11,11 +12,6 @@ use Rattle.plan_arena.specs.ReadFile.{is-accepted}
 use Rattle.plan_calls.specs.Calling.{file-refused, file-loads, file-called}
 use Rattle.plan_calls.proofs.calls.call_in.Statement.{statement}
 use Rattle.plan_calls.proofs.calls.call_in.Tie as tie
-use Rattle.plan_calls.proofs.calls.call_in.Reads as reads
-use Rattle.plan_calls.proofs.calls.call_in.Lts as lts
-use Rattle.plan.proofs.number.Reads as number-reads
-use Rattle.plan_arena.proofs.read.Reads as read-reads
-use Rattle.plan_calls.proofs.calls.perform.Reads as perform-reads
 
 read-requires : tie.Need-read-requires
 read-requires c κs = c .before .before .before .before .before .pre .room

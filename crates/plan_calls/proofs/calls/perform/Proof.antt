@@ -1,15 +1,7 @@
 use borrow.Author.Needs.{needs}
-use native.Mathlib.Omega.{arith}
 use lib.ListN.{length}
 use Rattle.plan_calls.proofs.calls.perform.Statement.{statement}
 use Rattle.plan_calls.proofs.calls.perform.Tie as tie
-use Rattle.plan_calls.proofs.calls.perform.Reads as reads
-use Rattle.plan_calls.proofs.calls.perform.Lts as lts
-use Rattle.plan_calls.proofs.calls.check_in.Reads as check-in-reads
-use Rattle.plan_calls.proofs.calls.push_in.Reads as push-in-reads
-use Rattle.plan_calls.proofs.calls.sort_partially.Reads as sort-partially-reads
-use Rattle.plan_calls.proofs.calls.walk_in.Reads as walk-in-reads
-use Rattle.plan_calls.proofs.calls.write_out.Reads as write-out-reads
 
 enum-told : tie.Need-enum-told
 enum-told c = search needs

@@ -5,7 +5,7 @@ use borrow.Author.Tests.{not-true, not-false}
 use Rattle.plan.specs.Op.{Op}
 use Rattle.plan.specs.declared.Kind.the-variants.{Projection}
 use Rattle.key_lists.specs.Keys.{keysOf}
-use Rattle.node_properties.specs.Kinds.{op-of, code-kind}
+use Rattle.record_fields.specs.Kinds.{op-of, code-kind}
 use Rattle.push_requirements.specs.Pushing.{HandsOn}
 use Rattle.push_requirements.specs.Answers.{cond-yes, cond-no}
 use Rattle.walks.specs.SortPushdown as walk

@@ -5,7 +5,7 @@ use mathlib.Core.List.{List}
 use Rattle.row_order.specs.Iso.{Key}
 use Rattle.plan.specs.declared.Kind.the-variants.{Projection}
 use Rattle.key_lists.specs.Keys.{Ordered}
-use Rattle.node_properties.specs.Kinds.{op-of}
+use Rattle.record_fields.specs.Kinds.{op-of}
 use Rattle.push_requirements.specs.Answers.{alike}
 use Rattle.push_requirements.proofs.children.handle_projection_pushdown.Statement.{
   statement,

@@ -32,7 +32,7 @@ use Rattle.push_visits.proofs.visiting.decide_at.Reads as decide-at-reads
 use Rattle.push_visits.proofs.visiting.fetch_at.Reads as fetch-at-reads
 use Rattle.pushdown_sorts.proofs.walking.refused.Reads as refused-reads
 use Rattle.sort_pushdown.proofs.children.child_visit.Reads as child-visit-reads
-use Rattle.sort_pushdown.proofs.steps.step_at.Reads as step-at-reads
+use Rattle.push_steps.proofs.step_at.Reads as step-at-reads
 use Rattle.pushdown_sorts.proofs.walking.+push_at.{statement}
 use Rattle.pushdown_sorts.proofs.walking.+push_at.Tie.{close}
 

@@ -5,7 +5,7 @@ use Rattle.plan.specs.declared.Kind.the-variants.{Sort}
 use Rattle.plan_codec.specs.Decode.{decode}
 use Rattle.semantics.specs.Properties.{rebuilt}
 use Rattle.asked_facts.specs.Asked.{told}
-use Rattle.node_properties.specs.Kinds.{op-of, code-kind}
+use Rattle.record_fields.specs.Kinds.{op-of, code-kind}
 use Rattle.sort_pushdown.specs.Decisions.{visitOf}
 use Rattle.sort_pushdown.specs.Merging.{seen-again, helper-touched, helper-node, helper-sort, sort-one, limit-again}
 use Rattle.semantics.specs.Facts as sem

@@ -10,7 +10,7 @@ use Rattle.semantics.specs.Properties.{singles}
 use Rattle.arena.specs.Arena.{index, slot}
 use Rattle.walks.specs.Marks.{sizeT}
 use Rattle.plan_context.specs.View.{treeOf}
-use Rattle.sort_removal.specs.Standing.{view, slot-room, own-proper, is-code, not-code}
+use Rattle.sort_connection.specs.Standing.{view, slot-room, own-proper, is-code, not-code}
 use Rattle.plan_updates.specs.ChildLoop.{same-slot, node-room, few-kids}
 use Rattle.sort_removal.specs.Recursion.{Going, standing, unmarked, going-none, going-next, going-more, going-rems, end-asks, going-end}
 use borrow.Fn.Kinds.{In}
@@ -26,7 +26,7 @@ use Rattle.sort_removal.proofs.remove_corresponding_sort_from_sub_plan.
 use Rattle.sort_removal.proofs.remove_corresponding_sort_from_sub_plan.remove_by.Reads as remove-by-reads
 use Rattle.sort_removal.proofs.remove_corresponding_sort_from_sub_plan.remove_sort.Reads as remove-sort-reads
 use Rattle.node_properties.proofs.is_sort.Reads as is-sort-reads
-use Rattle.node_properties.proofs.wants_single.Reads as wants-single-reads
+use Rattle.wanted_inputs.proofs.wants_single.Reads as wants-single-reads
 use Rattle.plan_context.proofs.handles.is_marked.Reads as is-marked-reads
 use Rattle.sort_removal.proofs.remove_corresponding_sort_from_sub_plan.+remove_corresponding_sort_from_sub_plan.{statement}
 use Rattle.sort_removal.proofs.remove_corresponding_sort_from_sub_plan.+remove_corresponding_sort_from_sub_plan.Tie.{close}

@@ -1,4 +1,4 @@
-use Rattle.sort_removal.specs.Standing.{is-here}
+use Rattle.sort_connection.specs.Standing.{is-here}
 use Rattle.sort_removal.specs.SingleStream.{fetch-none, fetch-some}
 use Rattle.sort_removal.proofs.remove_corresponding_sort_from_sub_plan.plan_fetch.Statement.{statement}
 use Rattle.sort_removal.proofs.remove_corresponding_sort_from_sub_plan.plan_fetch.Tie as tie

@@ -2,7 +2,7 @@ use borrow.Author.Needs.{needs}
 use mathlib.Core.Path.{refl, sym, ap, _∙_}
 use Rattle.plan.specs.Numbers.{code}
 use Rattle.plan_codec.specs.Decode.{decode}
-use Rattle.sort_removal.specs.Standing.{own-proper, is-code, not-code}
+use Rattle.sort_connection.specs.Standing.{own-proper, is-code, not-code}
 use Rattle.sort_removal.specs.Removing.{overs-at, overs-puts, other-grown, merge-some, merge-small, merge-grown, part-puts, part-grown}
 use Rattle.sort_removal.proofs.remove_corresponding_sort_from_sub_plan.remove_over.Statement.{statement}
 use Rattle.sort_removal.proofs.remove_corresponding_sort_from_sub_plan.remove_over.Tie as tie

@@ -3,7 +3,7 @@ use mathlib.Core.Path.{sym, ap, _∙_}
 use Rattle.plan.specs.Numbers.{code}
 use Rattle.plan.specs.WellFormed.{someFetch}
 use Rattle.plan_codec.specs.Decode.{decode, fromBytes}
-use Rattle.sort_removal.specs.Standing.{own-proper, kid-asks}
+use Rattle.sort_connection.specs.Standing.{own-proper, kid-asks}
 use Rattle.sort_removal.specs.Recursion.{standing, stays-asks, stays-grown, sort-some, goes-asks, goes-grown}
 use Rattle.sort_removal.proofs.remove_corresponding_sort_from_sub_plan.remove_sort.Statement.{statement}
 use Rattle.sort_removal.proofs.remove_corresponding_sort_from_sub_plan.remove_sort.Tie as tie

@@ -1,6 +1,6 @@
 use borrow.Author.Needs.{needs}
 use borrow.Author.Tests.{not-true, not-false}
-use Rattle.sort_removal.specs.Standing.{is-here}
+use Rattle.sort_connection.specs.Standing.{is-here}
 use Rattle.sort_removal.specs.SingleStream.{whole, mark-small, not-asked, one-stream, with-single-stream-puts, with-single-stream-grown}
 use Rattle.sort_removal.proofs.remove_corresponding_sort_from_sub_plan.with_single_stream.Statement.{statement}
 use Rattle.sort_removal.proofs.remove_corresponding_sort_from_sub_plan.with_single_stream.Tie as tie

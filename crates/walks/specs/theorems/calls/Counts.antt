@@ -79,8 +79,13 @@ count-up step a (tree o c r) n e =
     rest : Forest Marked → ℕ → Counted (Forest Marked)
     rest x i = stepped step o x i (λ u j. bind (countUp step j r) (λ s l. counted (plant u s) l))
 
+-- ---- the size of one of two trees
+pub cond-le : (n : ℕ) (x : Bool) (t u : Tree) → sizeT t ≤ n → sizeT u ≤ n → sizeT (cond x t u) ≤ n
+cond-le n true t u h k = h
+cond-le n false t u h k = k
+
 -- ---- the size of what a decision makes
-cover-size : (ts : List Op) (t : Tree) → sizeT (cover ts t) ≡ length ts + sizeT t
+pub cover-size : (ts : List Op) (t : Tree) → sizeT (cover ts t) ≡ length ts + sizeT t
 cover-size [] t = omega arith
 cover-size (o ∷ os) t = omega (arith, cover-size os t)
 

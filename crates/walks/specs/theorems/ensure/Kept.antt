@@ -209,7 +209,7 @@ output-all o e = go (eqb (code o) 13)
     go true = op-fetch o e
     go false = refl
 
-output-ok : (o : Op) (ws : List ℕ) → nodeOk o ws ≡ true → fetchOk (outputFetch o) ≡ true
+pub output-ok : (o : Op) (ws : List ℕ) → nodeOk o ws ≡ true → fetchOk (outputFetch o) ≡ true
 output-ok o ws e = go (eqb (code o) 13)
   where
     go : (x : Bool) → fetchOk (cond x (cuts o .fetch) Unlimited) ≡ true

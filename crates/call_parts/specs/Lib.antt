@@ -1,0 +1,3 @@
+pub mod PartialSorts
+pub mod Filing
+pub mod Calls

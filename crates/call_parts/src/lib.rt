@@ -1,0 +1,62 @@
+// What the calls on a plan share: what is answered, 21's test, the plan written to the output; and the order check.
+use arena::child;
+use arena::child_count;
+use arena::record_at;
+use plan_context::kept;
+use plan_context::settling::settle_all;
+ghost use mathlib.Core.Path.{_≡_};
+ghost use mathlib.Core.List.{List};
+ghost use Prim.Native.Nat.{ℕ, _*_, _≤_, _<_};
+ghost use lib.ListN.{length};
+ghost use Rattle.semantics.specs.Check.{check};
+ghost use Rattle.walks.specs.Marks.{sizeT};
+ghost use Rattle.plan_context.specs.View.{treeIn, treeOf};
+ghost use Rattle.plan_context.specs.Records.{planT};
+ghost use Rattle.plan_context.specs.Reading.{Loaded};
+ghost use Rattle.call_answers.specs.Answers.{checks, gives};
+ghost use Rattle.call_parts.specs.PartialSorts.{partialT};
+ghost use Rattle.call_parts.specs.Calls.{CalledAs};
+
+// What a call answers: the number of its refusal or 0, and whether the plan passes, where that was asked; or that the arena is too small.
+pub enum Called {
+    Done(u32, bool),
+    NoRoom,
+}
+
+// Whether the tree in slot i has a partial sort.
+pub fn has_partial_sort(m: &[u8], u: usize, i: usize) -> bool
+    requires { ⌜ Loaded (now m) u × (i < u) ⌝ }
+    ensures { λ b. ⌜ b ≡ partialT (treeIn (now (m .entry)) i) ⌝ }
+{
+    if record_at(m, i)[0] == 14 {
+        return true;
+    }
+    let n = child_count(m, i);
+    let mut j = 0;
+    while j < n {
+        let h = child(m, i, j);
+        if has_partial_sort(m, u, h / 2) {
+            return true;
+        }
+        j += 1;
+    }
+    false
+}
+
+// The tree at h, written to the output.
+pub fn write_out(m: &[u8], u: usize, h: usize, out: &mut [u8]) -> Called
+    requires { ⌜ Loaded (now m) u × (h < 2 * u) × (sizeT (treeOf (now m) h) ≤ 126) ⌝ }
+    ensures { λ r. ⌜ ((room : ℕ) → CalledAs r (gives (planT (treeOf (now (m .entry)) h))) (now (out .entry)) (now (out .exit)) room) ⌝ }
+{
+    let x = plan_arena::write(m, u, h, out);
+    Called::Done(plan::number(x), false)
+}
+
+// The order check of the tree at h.
+pub fn check_in(m: &mut [u8], u: usize, h: usize) -> Called
+    requires { ⌜ Loaded (now m) u × (h < 2 * u) ⌝ }
+    ensures { λ r. ⌜ ((out : List ℕ) → CalledAs r (checks (check (planT (treeOf (now (m .entry)) h)))) out out (length (now (m .entry)))) ⌝ }
+{
+    settle_all(m, u);
+    Called::Done(0, kept::passes(m, h))
+}

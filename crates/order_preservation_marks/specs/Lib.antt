@@ -1,0 +1,5 @@
+pub mod Nodes
+pub mod Kinds
+pub mod Marking
+pub mod Replacing
+pub mod Entering

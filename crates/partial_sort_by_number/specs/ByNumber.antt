@@ -1,0 +1,598 @@
+-- Partial sorting of a node by its number, in node order.
+use mathlib.Core.Path.{_≡_, refl, sym, ap, ap₂, _∙_, subst}
+use mathlib.Core.Bool.{Bool, false, cond}
+use mathlib.Core.List.{List, [], _∷_, _++_}
+use Prim.Native.Nat.{ℕ, zero, suc, _+_, _*_, _-_, _%_, _≤_, _<_}
+use native.Mathlib.Omega.{arith}
+use native.Mathlib.Numerals.{add-one}
+use borrow.Author.Tests.{lt-ltb, le-ltb}
+use lib.ListN.{length, getD, take, set, replicate, length-set}
+use lib.Seq.{take-suc, take-suc-set}
+use Rattle.plan.specs.Forest.{none, tree, size}
+use Rattle.plan.specs.Op.{Op, sortOp, partialSort, Plan}
+use Rattle.plan.specs.Numbers.{code}
+use Rattle.plan.specs.declared.Refusal.the-variants as refusals
+use Rattle.plan_format.specs.Record.{children}
+use Rattle.plan_codec.specs.NodeRecord.{NodeRecord}
+use Rattle.plan_codec.specs.Decode.{fromBytes, decode}
+use Rattle.plan_codec.specs.Encode.{encode}
+use Rattle.plan_codec.specs.OneRecord.{decode-encode}
+use Rattle.semantics.specs.Facts.{facts}
+use Rattle.key_lists.specs.Keys.{keysOf, Keyed}
+use Rattle.key_lists.specs.declared.Keys.{Keys}
+use Rattle.plan.specs.declared.Fetch.{Fetch}
+use Rattle.arena.specs.Arena.{slotSize, index, slot, Below}
+use Rattle.arena.specs.declared.At.{At}
+use Rattle.arena.specs.Laws.{below-at, below-more, below-set}
+use Rattle.walks.specs.Marks.{Tree, strip, node, opT, sizeT}
+use Rattle.walks.specs.theorems.common.Trees.{Ok, OkT}
+use Rattle.walks.specs.PartialSort.{Replaced, pastTheEnd, becomes, replaceWithPartialSort, fromNode, setNode}
+use Rattle.walks.specs.Counted.{Answer, answered, refused, partialAnswer, partialAt, partiallySorted}
+use Rattle.walks.specs.theorems.partial_sort.Kept.{SetKept, partial-kept}
+use Rattle.plan_context.specs.View.{treeOf, forest, mostSlots, Arena, Same, Grown, Puts}
+use Rattle.plan_context.specs.Laws.{slot-same, tree-same, forest-same, same-trans}
+use Rattle.plan_context.specs.Facts.{size-strip}
+use Rattle.plan_context.specs.Nodes.{counts-of}
+use Rattle.plan_context.specs.Records.{planT}
+use Rattle.plan_updates.specs.Covering.{ok-of}
+use Rattle.sort_connection.specs.Standing.{Standing, view, tree-is, own-over, own-proper, sort-op, one-kid}
+use Rattle.replace_with_partial_sort.specs.Replacing.{partial, becoming, Fitting}
+use Rattle.replace_with_partial_sort.specs.declared.Replaced.{Replaced as Told}
+use Rattle.replace_with_partial_sort.specs.declared.Replaced.the-variants.{AllKeysMet as Past, Same as Stays, Partial}
+use Rattle.partial_sort_by_number.specs.declared.Sorted.{Sorted}
+use Rattle.partial_sort_by_number.specs.declared.Sorted.the-variants.{NoSuchNode, AllKeysMet, Becomes}
+use Rattle.partial_sort_by_number.specs.declared.Place.{Place}
+
+-- ---- what is found at a number
+
+pub data Outcome : Type 0 where
+  missing : Outcome
+  found : Replaced → Outcome
+
+abbrev pub outcome : Plan → Outcome
+outcome none = missing
+outcome (tree o c r) = found (replaceWithPartialSort o c)
+
+abbrev answerBy : ℕ → Plan → Outcome → Answer
+answerBy n f missing = refused refusals.NoSuchNode
+answerBy n f (found x) = partialAnswer n f x
+
+answer-is : (n : ℕ) (f g : Plan) → partialAt n f g ≡ answerBy n f (outcome g)
+answer-is n f none = refl
+answer-is n f (tree o c r) = refl
+
+-- the call's answer, by what is found
+by-outcome : (n : ℕ) (f : Plan) (x : Outcome) → outcome (fromNode n f) ≡ x → partiallySorted n f ≡ answerBy n f x
+by-outcome n f x e = answer-is n f (fromNode n f) ∙ ap (answerBy n f) e
+
+-- ---- the code's answer
+
+pub record Became (m : List ℕ) (u : ℕ) (m' : List ℕ) (h n : ℕ) (a : At) : Type 0 where
+  pub op : Op
+  pub here : outcome (fromNode n (planT (treeOf m h))) ≡ found (becomes op)
+  pub plan : planT (treeOf m' (a .root)) ≡ setNode n op (planT (treeOf m h))
+  pub is : partiallySorted n (planT (treeOf m h)) ≡ answered (planT (treeOf m' (a .root)))
+  pub arena : Arena m' (a .used)
+  pub old : Same u m m'
+  pub more : u ≤ a .used
+  pub low : a .root < 2 * a .used
+  pub room : a .used ≤ u + sizeT (treeOf m h)
+
+-- It is that of node number n of the tree at h
+abbrev pub AnswersPartial : List ℕ → ℕ → List ℕ → ℕ → ℕ → Sorted → Type 0
+AnswersPartial m u m' h n NoSuchNode = (partiallySorted n (planT (treeOf m h)) ≡ refused refusals.NoSuchNode)
+    × (outcome (fromNode n (planT (treeOf m h))) ≡ missing)
+AnswersPartial m u m' h n AllKeysMet = (partiallySorted n (planT (treeOf m h)) ≡ refused refusals.AllKeysMet)
+    × (outcome (fromNode n (planT (treeOf m h))) ≡ found pastTheEnd)
+AnswersPartial m u m' h n (Becomes a) = Became m u m' h n a
+
+pub answers-none : (m : List ℕ) (u : ℕ) (m' : List ℕ) (h n : ℕ) → outcome (fromNode n (planT (treeOf m h))) ≡ missing → AnswersPartial m u m' h n NoSuchNode
+answers-none m u m' h n e = (by-outcome n (planT (treeOf m h)) missing e, e)
+
+pub answers-met : (m : List ℕ) (u : ℕ) (m' : List ℕ) (h n : ℕ) → outcome (fromNode n (planT (treeOf m h))) ≡ found pastTheEnd
+    → AnswersPartial m u m' h n AllKeysMet
+answers-met m u m' h n e = (by-outcome n (planT (treeOf m h)) (found pastTheEnd) e, e)
+
+answered-is : (n : ℕ) (f g : Plan) (p : Op) → outcome (fromNode n f) ≡ found (becomes p) → g ≡ setNode n p f → partiallySorted n f ≡ answered g
+answered-is n f g p e q = by-outcome n f (found (becomes p)) e ∙ ap answered (sym q)
+
+-- ---- a number among children
+
+pub record Located (m : List ℕ) (h n : ℕ) (p : Place) : Type 0 where
+  pub low : p .child ≤ length (slot m (index h) .kids)
+  pub is : n ≡ size (forest m (take (p .child) (slot m (index h) .kids))) + p .left
+  pub inside : p .child < length (slot m (index h) .kids) → p .left < sizeT (treeOf m (getD (slot m (index h) .kids) (p .child) 0))
+
+-- the first tree with another right neighbour
+abbrev ontoR : Plan → Plan → Plan
+ontoR none R = R
+ontoR (tree o c r) R = tree o c R
+
+-- a node's tree in front of others: numbers within it
+set-first : (l : ℕ) (p o : Op) (c R : Plan) → l < suc (size c) → setNode l p (tree o c R) ≡ ontoR (setNode l p (tree o c none)) R
+set-first zero p o c R h = refl
+set-first (suc l) p o c R h =
+    ap (λ b. cond b (tree o (setNode l p c) R) (tree o c (setNode (l - size c) p R))) (lt-ltb l (size c) (omega arith))
+    ∙ sym (ap (λ b. ontoR (cond b (tree o (setNode l p c) none) (tree o c (setNode (l - size c) p none))) R) (lt-ltb l (size c) (omega arith)))
+
+out-first : (l : ℕ) (o : Op) (c R : Plan) → l < suc (size c) → outcome (fromNode l (tree o c R)) ≡ outcome (fromNode l (tree o c none))
+out-first zero o c R h = refl
+out-first (suc l) o c R h =
+    ap (λ b. outcome (cond b (fromNode l c) (fromNode (l - size c) R))) (lt-ltb l (size c) (omega arith))
+    ∙ sym (ap (λ b. outcome (cond b (fromNode l c) (fromNode (l - size c) none))) (lt-ltb l (size c) (omega arith)))
+
+-- and behind it
+set-skip : (d : ℕ) (p o : Op) (c R : Plan) → setNode (suc (size c + d)) p (tree o c R) ≡ tree o c (setNode d p R)
+set-skip d p o c R =
+    let e : size c + d - size c ≡ d = omega arith in
+    ap₂ (λ b i. cond b (tree o (setNode (size c + d) p c) R) (tree o c (setNode i p R))) (le-ltb (size c + d) (size c) (omega arith)) e
+
+out-skip : (d : ℕ) (o : Op) (c R : Plan) → outcome (fromNode (suc (size c + d)) (tree o c R)) ≡ outcome (fromNode d R)
+out-skip d o c R =
+    let e : size c + d - size c ≡ d = omega arith in
+    ap₂ (λ b i. outcome (cond b (fromNode (size c + d) c) (fromNode i R))) (le-ltb (size c + d) (size c) (omega arith)) e
+
+module _ (m : List ℕ) where
+  behind : (k : ℕ) (ks : List ℕ) (l : ℕ) → size (forest m (k ∷ ks)) + l ≡ suc (size (strip (treeOf m k .kids)) + (size (forest m ks) + l))
+  unfolding forest
+  behind k ks l = let z = size-strip (treeOf m k .kids) in omega arith
+
+  -- the j-th of some trees, and l in it
+  pub out-at : (ks : List ℕ) (j l : ℕ) → j < length ks → l < sizeT (treeOf m (getD ks j 0))
+      → outcome (fromNode (size (forest m (take j ks)) + l) (strip (forest m ks))) ≡ outcome (fromNode l (planT (treeOf m (getD ks j 0))))
+  unfolding forest
+  out-at [] j l h i = absurd (omega arith)
+  out-at (k ∷ ks) zero l h i =
+      let z = size-strip (treeOf m k .kids) in let e : 0 + l ≡ l = omega arith in
+      ap (λ n. outcome (fromNode n (tree (opT (treeOf m k)) (strip (treeOf m k .kids)) (strip (forest m ks))))) e
+      ∙ out-first l (opT (treeOf m k)) (strip (treeOf m k .kids)) (strip (forest m ks)) (omega arith)
+  out-at (k ∷ ks) (suc j) l h i =
+      ap (λ n. outcome (fromNode n (tree (opT (treeOf m k)) (strip (treeOf m k .kids)) (strip (forest m ks))))) (behind k (take j ks) l)
+      ∙ out-skip (size (forest m (take j ks)) + l) (opT (treeOf m k)) (strip (treeOf m k .kids)) (strip (forest m ks)) ∙ out-at ks j l (omega arith) i
+
+  pub set-at : (p : Op) (ks : List ℕ) (j l x : ℕ) → j < length ks → l < sizeT (treeOf m (getD ks j 0)) → planT (treeOf m x) ≡ setNode l p
+      (planT (treeOf m (getD ks j 0))) → strip (forest m (set ks j x)) ≡ setNode (size (forest m (take j ks)) + l) p (strip (forest m ks))
+  unfolding forest
+  set-at p [] j l x h i e = absurd (omega arith)
+  set-at p (k ∷ ks) zero l x h i e =
+      let z = size-strip (treeOf m k .kids) in
+      let q : 0 + l ≡ l = omega arith in
+      ap (λ g. ontoR g (strip (forest m ks))) e ∙ sym (ap (λ n. setNode n p (tree (opT (treeOf m k)) (strip (treeOf m k .kids)) (strip (forest m ks)))) q
+      ∙ set-first l p (opT (treeOf m k)) (strip (treeOf m k .kids)) (strip (forest m ks)) (omega arith))
+  set-at p (k ∷ ks) (suc j) l x h i e =
+      ap (tree (opT (treeOf m k)) (strip (treeOf m k .kids))) (set-at p ks j l x (omega arith) i e)
+      ∙ sym (ap (λ n. setNode n p (tree (opT (treeOf m k)) (strip (treeOf m k .kids)) (strip (forest m ks)))) (behind k (take j ks) l)
+      ∙ set-skip (size (forest m (take j ks)) + l) p (opT (treeOf m k)) (strip (treeOf m k .kids)) (strip (forest m ks)))
+
+-- under a root
+out-root : (n : ℕ) (o : Op) (c : Plan) → n < size c → outcome (fromNode (suc n) (tree o c none)) ≡ outcome (fromNode n c)
+out-root n o c h = ap (λ b. outcome (cond b (fromNode n c) (fromNode (n - size c) none))) (lt-ltb n (size c) h)
+
+out-past : (n : ℕ) (o : Op) (c : Plan) → size c ≤ n → outcome (fromNode (suc n) (tree o c none)) ≡ missing
+out-past n o c h = ap (λ b. outcome (cond b (fromNode n c) (fromNode (n - size c) none))) (le-ltb n (size c) h)
+
+set-root : (n : ℕ) (p o : Op) (c : Plan) → n < size c → setNode (suc n) p (tree o c none) ≡ tree o (setNode n p c) none
+set-root n p o c h = ap (λ b. cond b (tree o (setNode n p c) none) (tree o c (setNode (n - size c) p none))) (lt-ltb n (size c) h)
+
+-- ---- the search among the children
+
+at-size : (m ks : List ℕ) (j : ℕ) → j < length ks → size (forest m (take (suc j) ks)) ≡ size (forest m (take j ks)) + sizeT (treeOf m (getD ks j 0))
+unfolding forest
+at-size m [] j h = absurd (omega arith)
+at-size m (k ∷ ks) zero h = omega arith
+at-size m (k ∷ ks) (suc j) h = let x = at-size m ks j (omega arith) in omega arith
+
+take-size : (m ks : List ℕ) (j : ℕ) → size (forest m (take j ks)) ≤ size (forest m ks)
+unfolding forest
+take-size m ks zero = omega arith
+take-size m [] (suc j) = omega arith
+take-size m (k ∷ ks) (suc j) = let x = take-size m ks j in omega arith
+
+take-all : (l : List ℕ) → take (length l) l ≡ l
+take-all [] = refl
+take-all (x ∷ l) = ap (λ r. x ∷ r) (take-all l)
+
+-- The numbers before child j are passed
+pub record Passing (m : List ℕ) (h n j left : ℕ) : Type 0 where
+  pub low : j ≤ length (slot m (index h) .kids)
+  pub is : n ≡ size (forest m (take j (slot m (index h) .kids))) + left
+
+pub passing-none : (m : List ℕ) (h n : ℕ) → Passing m h n 0 n
+unfolding forest
+passing-none m h n = record { low = omega arith; is = omega arith }
+
+module _ (m : List ℕ) (h n j left : ℕ) (p : Passing m h n j left) (l : j < length (slot m (index h) .kids)) (s : ℕ)
+    (hs : s ≡ sizeT (treeOf m (getD (slot m (index h) .kids) j 0))) where
+  pub passing-more : s ≤ left → Passing m h n (j + 1) (left - s)
+  passing-more z = let e = p .is in let x = at-size m (slot m (index h) .kids) j l in rw (add-one j) (record { low = omega arith; is = omega arith })
+
+  pub passing-found : left < s → Located m h n (record { child = j; left = left })
+  passing-found z = record { low = p .low; is = p .is; inside = λ i. omega arith }
+
+pub passing-end : (m : List ℕ) (h n j left c : ℕ) → Passing m h n j left → c ≡ length (slot m (index h) .kids) → c ≤ j
+    → Located m h n (record { child = c; left = left })
+passing-end m h n j left c p e l =
+    let x = p .low in let q : j ≡ c = omega arith in
+    record {
+      low = omega arith;
+      is = subst (λ i. n ≡ size (forest m (take i (slot m (index h) .kids))) + left) q (p .is);
+      inside = λ i. absurd (omega arith);
+    }
+
+-- ---- the children's handles with another in one place
+
+pub record Copying (ks : List ℕ) (j : ℕ) (out : List ℕ) : Type 0 where
+  pub wide : length out ≡ 8
+  pub low : j ≤ length ks
+  pub is : take j out ≡ take j ks
+
+pub copying-none : (ks : List ℕ) → Copying ks 0 (replicate 8 0)
+copying-none ks = record { wide = refl; low = omega arith; is = refl }
+
+pub copying-more : (ks : List ℕ) (j : ℕ) (out : List ℕ) → Copying ks j out → length ks ≤ 8 → j < length ks → (k : ℕ) → k ≡ getD ks j 0
+    → Copying ks (j + 1) (set out j k)
+copying-more ks j out c h l k e =
+    let w = c .wide in
+    rw (add-one j) (record {
+      wide = length-set out j k ∙ c .wide;
+      low = omega arith;
+      is = take-suc-set out j k (omega arith) ∙ ap₂ (λ x y. x ++ (y ∷ []))
+          (c .is) e ∙ sym (take-suc ks j 0 l);
+    })
+
+take-set : (n : ℕ) (out : List ℕ) (j k : ℕ) → take n (set out j k) ≡ set (take n out) j k
+take-set zero out j k = refl
+take-set (suc n) [] j k = refl
+take-set (suc n) (x ∷ out) zero k = refl
+take-set (suc n) (x ∷ out) (suc j) k = ap (λ r. x ∷ r) (take-set n out j k)
+
+pub copying-all : (ks : List ℕ) (i : ℕ) (out : List ℕ) → Copying ks i out → length ks ≤ i → (j k : ℕ) → (length (set out j k) ≡ 8)
+    × (take (length ks) (set out j k) ≡ set ks j k)
+copying-all ks i out c h j k =
+    let l = c .low in
+    let q : length ks ≡ i = omega arith in
+    let e : take (length ks) out ≡ ks = ap (λ n. take n out) q ∙ c .is ∙ ap (λ n. take n ks) (sym q) ∙ take-all ks in
+    (length-set out j k ∙ c .wide, take-set (length ks) out j k ∙ ap (λ r. set r j k) e)
+
+-- ---- the node itself
+
+-- Room for one node at each level
+pub record Sorting (m : List ℕ) (u h : ℕ) : Type 0 where
+  pub arena : Arena m u
+  pub here : h < 2 * u
+  pub room : (u + sizeT (treeOf m h)) * slotSize ≤ length m
+  pub small : u + sizeT (treeOf m h) ≤ mostSlots
+
+module _ (m : List ℕ) (u h : ℕ) (p : Sorting m u h) where
+  abbrev t : Tree
+  t = treeOf m h
+
+  abbrev f : Plan
+  f = planT t
+
+  pub standing : Standing m u h
+  standing = record { arena = p .arena; here = p .here }
+
+  ok : OkT (treeOf m h)
+  ok = ok-of m u h (p .arena) (p .here)
+
+  -- the plan that comes in its place is one that the rules accept, and as large
+  kept : (n : ℕ) (o : Op) → outcome (fromNode n (planT (treeOf m h))) ≡ found (becomes o) → SetKept (planT (treeOf m h)) (setNode n o (planT (treeOf m h)))
+  kept n o e = partial-kept n f (setNode n o f) (answered-is n f (setNode n o f) o e refl)
+
+  -- nothing changes
+  pub same-became : replaceWithPartialSort (opT (treeOf m h)) (strip (treeOf m h .kids)) ≡ becomes (opT (treeOf m h))
+      → Became m u m h 0 (record { used = u; root = h })
+  same-became e =
+      record {
+        op = opT t;
+        here = ap found e;
+        plan = refl;
+        is = answered-is 0 f f (opT t) (ap found e) refl;
+        arena = p .arena;
+        old = refl;
+        more = omega arith;
+        low = p .here;
+        room = omega arith;
+      }
+
+  -- as the code has it
+  module _ (r : Told) (e : replaceWithPartialSort (opT (treeOf m h)) (strip (treeOf m h .kids)) ≡ becoming (opT (treeOf m h)) r) where
+    pub met-node : r ≡ Past → (m' : List ℕ) → AnswersPartial m u m' h 0 AllKeysMet
+    met-node q m' = answers-met m u m' h 0 (ap found (e ∙ ap (becoming (opT t)) q))
+
+    pub same-node : r ≡ Stays → Became m u m h 0 (record { used = u; root = h })
+    same-node q = same-became (e ∙ ap (becoming (opT t)) q)
+
+    pub partial-node : Fitting (opT (treeOf m h)) r → (n : ℕ) → r ≡ Partial n
+        → (replaceWithPartialSort (opT (treeOf m h)) (strip (treeOf m h .kids)) ≡ becomes (partial n (opT (treeOf m h)))) × (n ≤ 8)
+        × (code (opT (treeOf m h)) ≡ 7)
+    partial-node f n q = let g = subst (Fitting (opT t)) q f in (e ∙ ap (becoming (opT t)) q, g .0, g .1)
+
+  -- a partial sort of n keys met
+  module _ (n : ℕ) (e : replaceWithPartialSort (opT (treeOf m h)) (strip (treeOf m h .kids)) ≡ becomes (partial n (opT (treeOf m h)))) (few : n ≤ 8)
+      (c : code (opT (treeOf m h)) ≡ 7) where
+    abbrev y : NodeRecord
+    y = fromBytes (slot m (index h) .rec)
+
+    sorts : decode (slot m (index h) .rec) ≡ sortOp (fromBytes (slot m (index h) .rec) .preserve) (fromBytes (slot m (index h) .rec) .keys)
+        (fromBytes (slot m (index h) .rec) .fetch)
+    sorts = sort-op (slot m (index h) .rec) (own-proper m u h standing (slot m (index h) .rec) refl) (ap code (sym (ap opT (tree-is m u h standing))) ∙ c)
+
+    only : length (slot m (index h) .kids) ≡ 1
+    only = one-kid m (slot m (index h) .rec) (slot m (index h) .kids) (own-over m u h standing) (sortOp (y .preserve) (y .keys) (y .fetch)) sorts
+        (λ n. refl)
+
+    pub partial-some : 0 < length (slot m (index h) .kids)
+    partial-some = let l = only in omega arith
+
+    op-is : partial n (opT (treeOf m h)) ≡ partialSort (fromBytes (slot m (index h) .rec) .preserve) (fromBytes (slot m (index h) .rec) .keys) n
+        (fromBytes (slot m (index h) .rec) .fetch)
+    op-is = ap (partial n) (ap opT (tree-is m u h standing) ∙ sorts)
+
+    ok-new : Ok (setNode 0 (partial n (opT (treeOf m h))) (planT (treeOf m h)))
+    ok-new = kept 0 (partial n (opT t)) (ap found e) .ok (ok .0, ok .1, tt)
+
+    only-is : (ks : List ℕ) → length ks ≡ 1 → getD ks 0 0 ∷ [] ≡ ks
+    only-is [] z = absurd (omega arith)
+    only-is (k ∷ []) z = refl
+    only-is (k ∷ l ∷ ks) z = absurd (omega arith)
+
+    module _ (r : List ℕ) (hr : r ≡ slot m (index h) .rec) (k : ℕ) (hk : k ≡ getD (slot m (index h) .kids) 0 0) (pr : Bool)
+        (hp : pr ≡ fromBytes r .preserve) (ks : Keys) (hks : Keyed (fromBytes r .keys) ks) (g : Fetch) (hg : g ≡ fromBytes r .fetch)
+        (x : List ℕ) (hy : x ≡ encode 1 (partialSort pr (keysOf ks) (n % 256) g)) where
+      hx : x ≡ encode 1 (partialSort pr (keysOf ks) n g)
+      hx = let q : n % 256 ≡ n = omega arith in hy ∙ ap (λ i. encode 1 (partialSort pr (keysOf ks) i g)) q
+
+      same-op : partialSort pr (keysOf ks) n g ≡ partial n (opT (treeOf m h))
+      same-op =
+          ap₂ (λ a b. partialSort a b n g) (hp ∙ ap (λ z. fromBytes z .preserve) hr) (hks .is ∙ ap (λ z. fromBytes z .keys) hr)
+          ∙ ap (λ b. partialSort (y .preserve) (y .keys) n b) (hg ∙ ap (λ z. fromBytes z .fetch) hr) ∙ sym op-is
+
+      kids-are : forest m (k ∷ []) ≡ treeOf m h .kids
+      kids-are = ap (forest m) (ap (λ i. i ∷ []) hk ∙ only-is (slot m (index h) .kids) only) ∙ ap (λ z. z .kids) (sym (tree-is m u h standing))
+
+      decoded : decode x ≡ partial n (opT (treeOf m h))
+      decoded = ap decode (hx ∙ ap (encode 1) same-op) ∙ decode-encode 1 (partial n (opT t))
+          (counts-of (partial n (opT t)) (facts (strip (t .kids))) (ok-new .0) .fields)
+
+      pub partial-puts : Puts m u x (k ∷ [])
+      partial-puts =
+          let l = view m u h standing in let b = below-at (2 * index h) (slot m (index h) .kids) 0 (l .below) partial-some in let q = p .here in
+          let z = p .room in let v = p .small in
+          let w = ap size kids-are in let i = ap (λ z. size (z .kids)) (tree-is m u h standing) in let s = l .small in
+          record {
+            arena = p .arena;
+            room = omega arith;
+            small = omega arith;
+            below = (omega arith, tt);
+            canon = hx ∙ ap (encode 1) (same-op ∙ sym decoded);
+            ok = subst (λ o. OkT (node o false (forest m (k ∷ [])))) (sym decoded)
+                (subst (λ d. OkT (node (partial n (opT t)) false d)) (sym kids-are) (ok-new .0, ok-new .1));
+            few = omega arith;
+          }
+
+      pub partial-became : (m' : List ℕ) (a : At) → Grown m u m' a (node (decode x) false (forest m (k ∷ []))) (u + 1) → Became m u m' h 0 a
+      partial-became m' a d =
+          let q : planT (treeOf m' (a .root)) ≡ setNode 0 (partial n (opT (treeOf m h))) (planT (treeOf m h)) = ap planT (d .tree)
+          ∙ ap₂ (λ o b. tree o (strip b) none) decoded kids-are in
+          let w = d .room in
+          record {
+            op = partial n (opT t);
+            here = ap found e;
+            plan = q;
+            is = answered-is 0 f _ (partial n (opT t)) (ap found e) q;
+            arena = d .arena;
+            old = d .old;
+            more = d .more;
+            low = d .here;
+            room = omega arith;
+          }
+
+-- ---- below a node
+
+below-take : (n j : ℕ) (ks : List ℕ) → Below n ks → Below n (take j ks)
+below-take n zero ks b = tt
+below-take n (suc j) [] b = tt
+below-take n (suc j) (k ∷ ks) b = (b .0, below-take n j ks (b .1))
+
+module _ (m : List ℕ) (u h : ℕ) (p : Sorting m u h) (n : ℕ) (q : Place) (w : Located m h n q) where
+  abbrev hs : List ℕ
+  hs = slot m (index h) .kids
+
+  stripped : planT (treeOf m h) ≡ tree (decode (slot m (index h) .rec)) (strip (forest m (slot m (index h) .kids))) none
+  stripped = ap planT (tree-is m u h (standing m u h p))
+
+  -- behind the last child
+  pub past-none : q .child ≡ length (slot m (index h) .kids) → outcome (fromNode (suc n) (planT (treeOf m h))) ≡ missing
+  past-none e =
+      let i = w .is in let x = ap (λ j. size (forest m (take j hs))) e ∙ ap (λ l. size (forest m l)) (take-all hs) in let z = size-strip (forest m hs) in
+      ap (λ g. outcome (fromNode (suc n) g)) stripped ∙ out-past n (decode (slot m (index h) .rec)) (strip (forest m hs)) (omega arith)
+
+  module _ (l : q .child < length (slot m (index h) .kids)) (k : ℕ) (hk : k ≡ getD (slot m (index h) .kids) (q .child) 0) where
+    whole : sizeT (treeOf m h) ≡ suc (size (forest m (slot m (index h) .kids)))
+    whole = ap sizeT (view m u h (standing m u h p) .tree)
+
+    in-child : q .left < sizeT (treeOf m k)
+    in-child = subst (λ i. q .left < sizeT (treeOf m i)) (sym hk) (w .inside l)
+
+    sizes : size (forest m (take (q .child) (slot m (index h) .kids))) + sizeT (treeOf m k) ≤ size (forest m (slot m (index h) .kids))
+    sizes = let x = at-size m hs (q .child) l in let y = take-size m hs (suc (q .child)) in let z = ap (λ i. sizeT (treeOf m i)) hk in omega arith
+
+    pub below-sorting : (sizeT (treeOf m k) < sizeT (treeOf m h)) × Sorting m u k
+    below-sorting =
+        let a = sizes in let b = whole in let r = p .room in let s = p .small in let v = view m u h (standing m u h p) .below in
+        let c = below-at (2 * index h) hs (q .child) v l in let d = p .here in
+        (omega arith, record { arena = p .arena; here = omega arith; room = omega arith; small = omega arith })
+
+    below-low : n < size (strip (forest m (slot m (index h) .kids)))
+    below-low = let a = sizes in let b = in-child in let c = w .is in let d = size-strip (forest m hs) in omega arith
+
+    -- what is found there
+    pub found-below : outcome (fromNode (suc n) (planT (treeOf m h))) ≡ outcome (fromNode (q .left) (planT (treeOf m k)))
+    found-below =
+        ap (λ g. outcome (fromNode (suc n) g)) stripped ∙ out-root n (decode (slot m (index h) .rec)) (strip (forest m hs)) below-low
+        ∙ ap (λ i. outcome (fromNode i (strip (forest m hs)))) (w .is) ∙ out-at m hs (q .child) (q .left) l (w .inside l)
+        ∙ ap (λ i. outcome (fromNode (q .left) (planT (treeOf m i)))) (sym hk)
+
+    pub none-below : (m' : List ℕ) → AnswersPartial m u m' k (q .left) NoSuchNode → AnswersPartial m u m' h (suc n) NoSuchNode
+    none-below m' a = answers-none m u m' h (suc n) (found-below ∙ a .1)
+
+    pub met-below : (m' : List ℕ) → AnswersPartial m u m' k (q .left) AllKeysMet → AnswersPartial m u m' h (suc n) AllKeysMet
+    met-below m' a = answers-met m u m' h (suc n) (found-below ∙ a .1)
+
+    module _ (m' : List ℕ) (lm : length m' ≡ length m) (a : At) (b : Became m u m' k (q .left) a) where
+      abbrev ks : List ℕ
+      ks = set hs (q .child) (a .root)
+
+      old-forest : forest m' (slot m (index h) .kids) ≡ forest m (slot m (index h) .kids)
+      old-forest = let d = p .here in forest-same u m m' (b .old) hs (below-more hs (omega arith) (view m u h (standing m u h p) .below))
+
+      pub same-slot : slot m' (index h) ≡ slot m (index h)
+      same-slot = let d = p .here in slot-same u m m' (b .old) (index h) (omega arith)
+
+      below-kid : k < 2 * u
+      below-kid = below-sorting .1 .here
+
+      child-plan : planT (treeOf m' (a .root)) ≡ setNode (q .left) (b .op) (planT (treeOf m' (getD (slot m (index h) .kids) (q .child) 0)))
+      child-plan = b .plan ∙ ap (λ z. setNode (q .left) (b .op) (planT z)) (sym (tree-same u m m' (b .old) k below-kid) ∙ ap (treeOf m') hk)
+
+      inside-new : q .left < sizeT (treeOf m' (getD (slot m (index h) .kids) (q .child) 0))
+      inside-new = subst (λ z. q .left < sizeT z) (sym (tree-same u m m' (b .old) k below-kid) ∙ ap (treeOf m') hk) in-child
+
+      kids-new : strip (forest m' (set (slot m (index h) .kids) (q .child) (a .root))) ≡ setNode n (b .op) (strip (forest m (slot m (index h) .kids)))
+      kids-new =
+          set-at m' (b .op) hs (q .child) (q .left) (a .root) l inside-new child-plan
+          ∙ ap₂ (λ i g. setNode (i + q .left) (b .op) (strip g)) (take-old (q .child)) old-forest ∙ ap (λ i. setNode i (b .op) (strip (forest m hs)))
+          (sym (w .is))
+        where
+          take-old : (j : ℕ) → size (forest m' (take j (slot m (index h) .kids))) ≡ size (forest m (take j (slot m (index h) .kids)))
+          take-old j = let d = p .here in
+              ap size (forest-same u m m' (b .old) (take j hs)
+              (below-take (2 * u) j hs (below-more hs (omega arith) (view m u h (standing m u h p) .below))))
+
+      here-is : outcome (fromNode (suc n) (planT (treeOf m h))) ≡ found (becomes (b .op))
+      here-is = found-below ∙ b .here
+
+      plan-is : tree (decode (slot m (index h) .rec)) (strip (forest m' (set (slot m (index h) .kids) (q .child) (a .root)))) none ≡ setNode (suc n) (b .op)
+          (planT (treeOf m h))
+      plan-is =
+          ap (λ c. tree (decode (slot m (index h) .rec)) c none) kids-new
+          ∙ sym (ap (setNode (suc n) (b .op)) stripped ∙ set-root n (b .op) (decode (slot m (index h) .rec)) (strip (forest m hs)) below-low)
+
+      new-kept : SetKept (planT (treeOf m h)) (setNode (suc n) (b .op) (planT (treeOf m h)))
+      new-kept = kept m u h p (suc n) (b .op) here-is
+
+      new-ok : Ok (tree (decode (slot m (index h) .rec)) (strip (forest m' (set (slot m (index h) .kids) (q .child) (a .root)))) none)
+      new-ok = let o = ok m u h p in subst Ok (sym plan-is) (new-kept .ok (o .0, o .1, tt))
+
+      pub child-puts : (r : List ℕ) → r ≡ slot m (index h) .rec → Puts m' (a .used) r (set (slot m (index h) .kids) (q .child) (a .root))
+          × (index h < a .used)
+      child-puts r hr =
+          let v = view m u h (standing m u h p) in let d = p .here in let e = b .more in let f = b .room in let g = below-sorting .0 in let i = p .room in
+          let j = p .small in
+          let z = ap size plan-is ∙ new-kept .long in let y = size-strip (forest m' (set (slot m (index h) .kids) (q .child) (a .root))) in
+          let x = size-strip (treeOf m h .kids) in let s = v .small in let t = whole in (
+            subst (λ c. Puts m' (a .used) c (set (slot m (index h) .kids) (q .child) (a .root))) (sym hr) (record {
+              arena = b .arena;
+              room = omega arith;
+              small = omega arith;
+              below = below-set (2 * a .used) hs (q .child) (a .root) (below-more hs (omega arith) (v .below)) (b .low);
+              canon = v .canon ∙ ap (λ c. encode c (decode (slot m (index h) .rec))) (sym (length-set hs (q .child) (a .root)));
+              ok = (new-ok .0, new-ok .1);
+              few = omega arith;
+            }),
+            omega arith,
+          )
+
+      pub child-became : (r : List ℕ) → r ≡ slot m (index h) .rec → (m'' : List ℕ) (c : At)
+          → Grown m' (a .used) m'' c (node (decode r) false (forest m' (set (slot m (index h) .kids) (q .child) (a .root)))) (a .used + 1)
+          → Became m u m'' h (suc n) c
+      child-became r hr m'' c g =
+          let e : planT (treeOf m'' (c .root)) ≡ setNode (suc n) (b .op) (planT (treeOf m h)) = ap planT (g .tree)
+          ∙ ap (λ x. tree (decode x) (strip (forest m' (set (slot m (index h) .kids) (q .child) (a .root)))) none) hr ∙ plan-is in
+          let x = b .more in let y = g .more in let z = g .room in let v = b .room in let s = below-sorting .0 in
+          record {
+            op = b .op;
+            here = here-is;
+            plan = e;
+            is = answered-is (suc n) (planT (treeOf m h)) (planT (treeOf m'' (c .root))) (b .op) here-is e;
+            arena = g .arena;
+            old = same-trans u (a .used) m m' m'' x (b .old) (g .old);
+            more = omega arith;
+            low = g .here;
+            room = omega arith;
+          }
+
+-- ---- the handles as the code has them
+
+module _ (m : List ℕ) (u h : ℕ) (a : Standing m u h) (j k : ℕ) (p : Puts m u (slot m (index h) .rec) (set (slot m (index h) .kids) j k)) (c : ℕ)
+    (hc : c ≡ length (slot m (index h) .kids))
+    (x : List ℕ) (w : length x ≡ 8) (e : take (length (slot m (index h) .kids)) x ≡ set (slot m (index h) .kids) j k) where
+  pub taken : take c x ≡ set (slot m (index h) .kids) j k
+  taken = ap (λ n. take n x) hc ∙ e
+
+  pub taken-long : c ≡ length (take c x)
+  taken-long = hc ∙ sym (ap length taken ∙ length-set (slot m (index h) .kids) j k)
+
+  pub taken-puts : (r : List ℕ) → r ≡ slot m (index h) .rec → Puts m u r (take c x) × (index h < u)
+  taken-puts r hr = let l = a .here in (subst (λ z. Puts m u z (take c x)) (sym hr) (subst (Puts m u (slot m (index h) .rec)) (sym taken) p), omega arith)
+
+  pub taken-grown : (r : List ℕ) → r ≡ slot m (index h) .rec → (m' : List ℕ) (b : At) → Grown m u m' b (node (decode r) false (forest m (take c x))) (u + 1)
+      → Grown m u m' b (node (decode (slot m (index h) .rec)) false (forest m (set (slot m (index h) .kids) j k))) (u + 1)
+  taken-grown r hr m' b g = subst (λ t. Grown m u m' b t (u + 1)) (ap₂ (λ z l. node (decode z) false (forest m l)) hr taken) g
+
+-- ---- the recursion, as the code has it
+
+module _ (m : List ℕ) (u h : ℕ) (p : Sorting m u h) (n : ℕ) (z : n ≡ 0 → ⊥) (q : Place) (w : Located m h (n - 1) q) (c : ℕ)
+    (hc : c ≡ children (slot m (index h) .rec)) where
+  back : suc (n - 1) ≡ n
+  back = omega arith
+
+  count-is : c ≡ length (slot m (index h) .kids)
+  count-is = hc ∙ view m u h (standing m u h p) .count
+
+  pub step-past : q .child ≡ c → (m' : List ℕ) → AnswersPartial m u m' h n NoSuchNode
+  step-past e m' = subst (λ i. AnswersPartial m u m' h i NoSuchNode) back (answers-none m u m' h (suc (n - 1)) (past-none m u h p (n - 1) q w (e ∙ count-is)))
+
+  module _ (e : q .child ≡ c → ⊥) where
+    pub step-low : q .child < length (slot m (index h) .kids)
+    step-low = let a = w .low in let b = count-is in omega arith
+
+    module _ (k : ℕ) (hk : k ≡ getD (slot m (index h) .kids) (q .child) 0) where
+      pub step-asks : (sizeT (treeOf m k) < sizeT (treeOf m h)) × Sorting m u k
+      step-asks = below-sorting m u h p (n - 1) q w step-low k hk
+
+      module _ (m' : List ℕ) (r : Sorted) (g : AnswersPartial m u m' k (q .left) r) where
+        pub step-missing : r ≡ NoSuchNode → AnswersPartial m u m' h n NoSuchNode
+        step-missing x = subst (λ i. AnswersPartial m u m' h i NoSuchNode) back
+            (none-below m u h p (n - 1) q w step-low k hk m' (subst (AnswersPartial m u m' k (q .left)) x g))
+
+        pub step-met : r ≡ AllKeysMet → AnswersPartial m u m' h n AllKeysMet
+        step-met x = subst (λ i. AnswersPartial m u m' h i AllKeysMet) back
+            (met-below m u h p (n - 1) q w step-low k hk m' (subst (AnswersPartial m u m' k (q .left)) x g))
+
+        module _ (lm : length m' ≡ length m) (a : At) (x : r ≡ Becomes a) where
+          below-became : Became m u m' k (q .left) a
+          below-became = subst (AnswersPartial m u m' k (q .left)) x g
+
+          slots : slot m' (index h) ≡ slot m (index h)
+          slots = same-slot m u h p (n - 1) q w step-low k hk m' lm a below-became
+
+          pub step-puts : Standing m' (a .used) h × (q .child < length (slot m' (index h) .kids)) × Puts m' (a .used) (slot m' (index h) .rec)
+              (set (slot m' (index h) .kids) (q .child) (a .root))
+          step-puts =
+              let d = p .here in let v = below-became .more in (
+                record { arena = below-became .arena; here = omega arith },
+                subst (λ y. q .child < length (y .kids)) (sym slots) step-low,
+                subst (λ y. Puts m' (a .used) (y .rec) (set (y .kids) (q .child) (a .root))) (sym slots)
+                    (child-puts m u h p (n - 1) q w step-low k hk m' lm a below-became (slot m (index h) .rec) refl .0),
+              )
+
+          pub step-became : (m'' : List ℕ) (b : At)
+              → Grown m' (a .used) m'' b (node (decode (slot m' (index h) .rec)) false (forest m' (set (slot m' (index h) .kids) (q .child) (a .root))))
+              (a .used + 1) → AnswersPartial m u m'' h n (Becomes b)
+          step-became m'' b t =
+              subst (λ i. AnswersPartial m u m'' h i (Becomes b)) back
+              (child-became m u h p (n - 1) q w step-low k hk m' lm a below-became (slot m (index h) .rec) refl m'' b
+              (subst (λ y. Grown m' (a .used) m'' b (node (decode (y .rec)) false (forest m' (set (y .kids) (q .child) (a .root)))) (a .used + 1)) slots t))
