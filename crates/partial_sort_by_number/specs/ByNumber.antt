@@ -1,17 +1,15 @@
 -- Partial sorting of a node by its number, in node order.
 use mathlib.Core.Path.{_≡_, refl, sym, ap, ap₂, _∙_, subst}
-use mathlib.Core.Bool.{Bool, false, cond}
+use mathlib.Core.Bool.{Bool, false}
 use mathlib.Core.List.{List, [], _∷_, _++_}
 use Prim.Native.Nat.{ℕ, zero, suc, _+_, _*_, _-_, _%_, _≤_, _<_}
 use native.Mathlib.Omega.{arith}
 use native.Mathlib.Numerals.{add-one}
-use borrow.Author.Tests.{lt-ltb, le-ltb}
 use lib.ListN.{length, getD, take, set, replicate, length-set}
 use lib.Seq.{take-suc, take-suc-set}
 use Rattle.plan.specs.Forest.{none, tree, size}
 use Rattle.plan.specs.Op.{Op, sortOp, partialSort, Plan}
 use Rattle.plan.specs.Numbers.{code}
-use Rattle.plan.specs.declared.Refusal.the-variants as refusals
 use Rattle.plan_format.specs.Record.{children}
 use Rattle.plan_codec.specs.NodeRecord.{NodeRecord}
 use Rattle.plan_codec.specs.Decode.{fromBytes, decode}
@@ -26,10 +24,9 @@ use Rattle.arena.specs.declared.At.{At}
 use Rattle.arena.specs.Laws.{below-at, below-more, below-set}
 use Rattle.walks.specs.Marks.{Tree, strip, node, opT, sizeT}
 use Rattle.walks.specs.theorems.common.Trees.{Ok, OkT}
-use Rattle.walks.specs.PartialSort.{Replaced, pastTheEnd, becomes, replaceWithPartialSort, fromNode, setNode}
-use Rattle.walks.specs.Counted.{Answer, answered, refused, partialAnswer, partialAt, partiallySorted}
+use Rattle.walks.specs.PartialSort.{becomes, replaceWithPartialSort, fromNode, setNode}
 use Rattle.walks.specs.theorems.partial_sort.Kept.{SetKept, partial-kept}
-use Rattle.plan_context.specs.View.{treeOf, forest, mostSlots, Arena, Same, Grown, Puts}
+use Rattle.plan_context.specs.View.{treeOf, forest, mostSlots, Arena, Grown, Puts}
 use Rattle.plan_context.specs.Laws.{slot-same, tree-same, forest-same, same-trans}
 use Rattle.plan_context.specs.Facts.{size-strip}
 use Rattle.plan_context.specs.Nodes.{counts-of}
@@ -42,182 +39,7 @@ use Rattle.replace_with_partial_sort.specs.declared.Replaced.the-variants.{AllK
 use Rattle.partial_sort_by_number.specs.declared.Sorted.{Sorted}
 use Rattle.partial_sort_by_number.specs.declared.Sorted.the-variants.{NoSuchNode, AllKeysMet, Becomes}
 use Rattle.partial_sort_by_number.specs.declared.Place.{Place}
-
--- ---- what is found at a number
-
-pub data Outcome : Type 0 where
-  missing : Outcome
-  found : Replaced → Outcome
-
-abbrev pub outcome : Plan → Outcome
-outcome none = missing
-outcome (tree o c r) = found (replaceWithPartialSort o c)
-
-abbrev answerBy : ℕ → Plan → Outcome → Answer
-answerBy n f missing = refused refusals.NoSuchNode
-answerBy n f (found x) = partialAnswer n f x
-
-answer-is : (n : ℕ) (f g : Plan) → partialAt n f g ≡ answerBy n f (outcome g)
-answer-is n f none = refl
-answer-is n f (tree o c r) = refl
-
--- the call's answer, by what is found
-by-outcome : (n : ℕ) (f : Plan) (x : Outcome) → outcome (fromNode n f) ≡ x → partiallySorted n f ≡ answerBy n f x
-by-outcome n f x e = answer-is n f (fromNode n f) ∙ ap (answerBy n f) e
-
--- ---- the code's answer
-
-pub record Became (m : List ℕ) (u : ℕ) (m' : List ℕ) (h n : ℕ) (a : At) : Type 0 where
-  pub op : Op
-  pub here : outcome (fromNode n (planT (treeOf m h))) ≡ found (becomes op)
-  pub plan : planT (treeOf m' (a .root)) ≡ setNode n op (planT (treeOf m h))
-  pub is : partiallySorted n (planT (treeOf m h)) ≡ answered (planT (treeOf m' (a .root)))
-  pub arena : Arena m' (a .used)
-  pub old : Same u m m'
-  pub more : u ≤ a .used
-  pub low : a .root < 2 * a .used
-  pub room : a .used ≤ u + sizeT (treeOf m h)
-
--- It is that of node number n of the tree at h
-abbrev pub AnswersPartial : List ℕ → ℕ → List ℕ → ℕ → ℕ → Sorted → Type 0
-AnswersPartial m u m' h n NoSuchNode = (partiallySorted n (planT (treeOf m h)) ≡ refused refusals.NoSuchNode)
-    × (outcome (fromNode n (planT (treeOf m h))) ≡ missing)
-AnswersPartial m u m' h n AllKeysMet = (partiallySorted n (planT (treeOf m h)) ≡ refused refusals.AllKeysMet)
-    × (outcome (fromNode n (planT (treeOf m h))) ≡ found pastTheEnd)
-AnswersPartial m u m' h n (Becomes a) = Became m u m' h n a
-
-pub answers-none : (m : List ℕ) (u : ℕ) (m' : List ℕ) (h n : ℕ) → outcome (fromNode n (planT (treeOf m h))) ≡ missing → AnswersPartial m u m' h n NoSuchNode
-answers-none m u m' h n e = (by-outcome n (planT (treeOf m h)) missing e, e)
-
-pub answers-met : (m : List ℕ) (u : ℕ) (m' : List ℕ) (h n : ℕ) → outcome (fromNode n (planT (treeOf m h))) ≡ found pastTheEnd
-    → AnswersPartial m u m' h n AllKeysMet
-answers-met m u m' h n e = (by-outcome n (planT (treeOf m h)) (found pastTheEnd) e, e)
-
-answered-is : (n : ℕ) (f g : Plan) (p : Op) → outcome (fromNode n f) ≡ found (becomes p) → g ≡ setNode n p f → partiallySorted n f ≡ answered g
-answered-is n f g p e q = by-outcome n f (found (becomes p)) e ∙ ap answered (sym q)
-
--- ---- a number among children
-
-pub record Located (m : List ℕ) (h n : ℕ) (p : Place) : Type 0 where
-  pub low : p .child ≤ length (slot m (index h) .kids)
-  pub is : n ≡ size (forest m (take (p .child) (slot m (index h) .kids))) + p .left
-  pub inside : p .child < length (slot m (index h) .kids) → p .left < sizeT (treeOf m (getD (slot m (index h) .kids) (p .child) 0))
-
--- the first tree with another right neighbour
-abbrev ontoR : Plan → Plan → Plan
-ontoR none R = R
-ontoR (tree o c r) R = tree o c R
-
--- a node's tree in front of others: numbers within it
-set-first : (l : ℕ) (p o : Op) (c R : Plan) → l < suc (size c) → setNode l p (tree o c R) ≡ ontoR (setNode l p (tree o c none)) R
-set-first zero p o c R h = refl
-set-first (suc l) p o c R h =
-    ap (λ b. cond b (tree o (setNode l p c) R) (tree o c (setNode (l - size c) p R))) (lt-ltb l (size c) (omega arith))
-    ∙ sym (ap (λ b. ontoR (cond b (tree o (setNode l p c) none) (tree o c (setNode (l - size c) p none))) R) (lt-ltb l (size c) (omega arith)))
-
-out-first : (l : ℕ) (o : Op) (c R : Plan) → l < suc (size c) → outcome (fromNode l (tree o c R)) ≡ outcome (fromNode l (tree o c none))
-out-first zero o c R h = refl
-out-first (suc l) o c R h =
-    ap (λ b. outcome (cond b (fromNode l c) (fromNode (l - size c) R))) (lt-ltb l (size c) (omega arith))
-    ∙ sym (ap (λ b. outcome (cond b (fromNode l c) (fromNode (l - size c) none))) (lt-ltb l (size c) (omega arith)))
-
--- and behind it
-set-skip : (d : ℕ) (p o : Op) (c R : Plan) → setNode (suc (size c + d)) p (tree o c R) ≡ tree o c (setNode d p R)
-set-skip d p o c R =
-    let e : size c + d - size c ≡ d = omega arith in
-    ap₂ (λ b i. cond b (tree o (setNode (size c + d) p c) R) (tree o c (setNode i p R))) (le-ltb (size c + d) (size c) (omega arith)) e
-
-out-skip : (d : ℕ) (o : Op) (c R : Plan) → outcome (fromNode (suc (size c + d)) (tree o c R)) ≡ outcome (fromNode d R)
-out-skip d o c R =
-    let e : size c + d - size c ≡ d = omega arith in
-    ap₂ (λ b i. outcome (cond b (fromNode (size c + d) c) (fromNode i R))) (le-ltb (size c + d) (size c) (omega arith)) e
-
-module _ (m : List ℕ) where
-  behind : (k : ℕ) (ks : List ℕ) (l : ℕ) → size (forest m (k ∷ ks)) + l ≡ suc (size (strip (treeOf m k .kids)) + (size (forest m ks) + l))
-  unfolding forest
-  behind k ks l = let z = size-strip (treeOf m k .kids) in omega arith
-
-  -- the j-th of some trees, and l in it
-  pub out-at : (ks : List ℕ) (j l : ℕ) → j < length ks → l < sizeT (treeOf m (getD ks j 0))
-      → outcome (fromNode (size (forest m (take j ks)) + l) (strip (forest m ks))) ≡ outcome (fromNode l (planT (treeOf m (getD ks j 0))))
-  unfolding forest
-  out-at [] j l h i = absurd (omega arith)
-  out-at (k ∷ ks) zero l h i =
-      let z = size-strip (treeOf m k .kids) in let e : 0 + l ≡ l = omega arith in
-      ap (λ n. outcome (fromNode n (tree (opT (treeOf m k)) (strip (treeOf m k .kids)) (strip (forest m ks))))) e
-      ∙ out-first l (opT (treeOf m k)) (strip (treeOf m k .kids)) (strip (forest m ks)) (omega arith)
-  out-at (k ∷ ks) (suc j) l h i =
-      ap (λ n. outcome (fromNode n (tree (opT (treeOf m k)) (strip (treeOf m k .kids)) (strip (forest m ks))))) (behind k (take j ks) l)
-      ∙ out-skip (size (forest m (take j ks)) + l) (opT (treeOf m k)) (strip (treeOf m k .kids)) (strip (forest m ks)) ∙ out-at ks j l (omega arith) i
-
-  pub set-at : (p : Op) (ks : List ℕ) (j l x : ℕ) → j < length ks → l < sizeT (treeOf m (getD ks j 0)) → planT (treeOf m x) ≡ setNode l p
-      (planT (treeOf m (getD ks j 0))) → strip (forest m (set ks j x)) ≡ setNode (size (forest m (take j ks)) + l) p (strip (forest m ks))
-  unfolding forest
-  set-at p [] j l x h i e = absurd (omega arith)
-  set-at p (k ∷ ks) zero l x h i e =
-      let z = size-strip (treeOf m k .kids) in
-      let q : 0 + l ≡ l = omega arith in
-      ap (λ g. ontoR g (strip (forest m ks))) e ∙ sym (ap (λ n. setNode n p (tree (opT (treeOf m k)) (strip (treeOf m k .kids)) (strip (forest m ks)))) q
-      ∙ set-first l p (opT (treeOf m k)) (strip (treeOf m k .kids)) (strip (forest m ks)) (omega arith))
-  set-at p (k ∷ ks) (suc j) l x h i e =
-      ap (tree (opT (treeOf m k)) (strip (treeOf m k .kids))) (set-at p ks j l x (omega arith) i e)
-      ∙ sym (ap (λ n. setNode n p (tree (opT (treeOf m k)) (strip (treeOf m k .kids)) (strip (forest m ks)))) (behind k (take j ks) l)
-      ∙ set-skip (size (forest m (take j ks)) + l) p (opT (treeOf m k)) (strip (treeOf m k .kids)) (strip (forest m ks)))
-
--- under a root
-out-root : (n : ℕ) (o : Op) (c : Plan) → n < size c → outcome (fromNode (suc n) (tree o c none)) ≡ outcome (fromNode n c)
-out-root n o c h = ap (λ b. outcome (cond b (fromNode n c) (fromNode (n - size c) none))) (lt-ltb n (size c) h)
-
-out-past : (n : ℕ) (o : Op) (c : Plan) → size c ≤ n → outcome (fromNode (suc n) (tree o c none)) ≡ missing
-out-past n o c h = ap (λ b. outcome (cond b (fromNode n c) (fromNode (n - size c) none))) (le-ltb n (size c) h)
-
-set-root : (n : ℕ) (p o : Op) (c : Plan) → n < size c → setNode (suc n) p (tree o c none) ≡ tree o (setNode n p c) none
-set-root n p o c h = ap (λ b. cond b (tree o (setNode n p c) none) (tree o c (setNode (n - size c) p none))) (lt-ltb n (size c) h)
-
--- ---- the search among the children
-
-at-size : (m ks : List ℕ) (j : ℕ) → j < length ks → size (forest m (take (suc j) ks)) ≡ size (forest m (take j ks)) + sizeT (treeOf m (getD ks j 0))
-unfolding forest
-at-size m [] j h = absurd (omega arith)
-at-size m (k ∷ ks) zero h = omega arith
-at-size m (k ∷ ks) (suc j) h = let x = at-size m ks j (omega arith) in omega arith
-
-take-size : (m ks : List ℕ) (j : ℕ) → size (forest m (take j ks)) ≤ size (forest m ks)
-unfolding forest
-take-size m ks zero = omega arith
-take-size m [] (suc j) = omega arith
-take-size m (k ∷ ks) (suc j) = let x = take-size m ks j in omega arith
-
-take-all : (l : List ℕ) → take (length l) l ≡ l
-take-all [] = refl
-take-all (x ∷ l) = ap (λ r. x ∷ r) (take-all l)
-
--- The numbers before child j are passed
-pub record Passing (m : List ℕ) (h n j left : ℕ) : Type 0 where
-  pub low : j ≤ length (slot m (index h) .kids)
-  pub is : n ≡ size (forest m (take j (slot m (index h) .kids))) + left
-
-pub passing-none : (m : List ℕ) (h n : ℕ) → Passing m h n 0 n
-unfolding forest
-passing-none m h n = record { low = omega arith; is = omega arith }
-
-module _ (m : List ℕ) (h n j left : ℕ) (p : Passing m h n j left) (l : j < length (slot m (index h) .kids)) (s : ℕ)
-    (hs : s ≡ sizeT (treeOf m (getD (slot m (index h) .kids) j 0))) where
-  pub passing-more : s ≤ left → Passing m h n (j + 1) (left - s)
-  passing-more z = let e = p .is in let x = at-size m (slot m (index h) .kids) j l in rw (add-one j) (record { low = omega arith; is = omega arith })
-
-  pub passing-found : left < s → Located m h n (record { child = j; left = left })
-  passing-found z = record { low = p .low; is = p .is; inside = λ i. omega arith }
-
-pub passing-end : (m : List ℕ) (h n j left c : ℕ) → Passing m h n j left → c ≡ length (slot m (index h) .kids) → c ≤ j
-    → Located m h n (record { child = c; left = left })
-passing-end m h n j left c p e l =
-    let x = p .low in let q : j ≡ c = omega arith in
-    record {
-      low = omega arith;
-      is = subst (λ i. n ≡ size (forest m (take i (slot m (index h) .kids))) + left) q (p .is);
-      inside = λ i. absurd (omega arith);
-    }
+use Rattle.partial_sort_by_number.specs.AtNumber.{AnswersPartial, answered-is, answers-met, answers-none, at-size, Became, found, Located, missing, out-at, out-past, out-root, outcome, set-at, set-root, take-all, take-size}
 
 -- ---- the children's handles with another in one place
 

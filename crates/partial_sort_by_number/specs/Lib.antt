@@ -1,1 +1,2 @@
+pub mod AtNumber
 pub mod ByNumber

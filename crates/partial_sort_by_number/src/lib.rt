@@ -25,7 +25,8 @@ ghost use Rattle.walks.specs.PartialSort.{becomes, replaceWithPartialSort as re
 ghost use Rattle.plan_context.specs.View.{treeOf, forest, Grown, Puts};
 ghost use Rattle.sort_connection.specs.Standing.{Standing};
 ghost use Rattle.replace_with_partial_sort.specs.Replacing.{partial};
-ghost use Rattle.partial_sort_by_number.specs.ByNumber.{Located, Sorting, Became, AnswersPartial};
+ghost use Rattle.partial_sort_by_number.specs.AtNumber.{Located, Became, AnswersPartial};
+ghost use Rattle.partial_sort_by_number.specs.ByNumber.{Sorting};
 
 // Refusal 20, refusal 22, or the tree that it becomes.
 pub enum Sorted {

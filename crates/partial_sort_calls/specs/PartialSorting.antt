@@ -16,7 +16,8 @@ use Rattle.walks.specs.Counted.{partiallySorted, refused}
 use Rattle.arena.specs.Arena.{slotSize, held}
 use Rattle.plan_context.specs.View.{treeOf, Arena}
 use Rattle.plan_context.specs.Records.{planT, tree-held}
-use Rattle.partial_sort_by_number.specs.ByNumber.{Became, Sorting}
+use Rattle.partial_sort_by_number.specs.AtNumber.{Became}
+use Rattle.partial_sort_by_number.specs.ByNumber.{Sorting}
 use Rattle.arena.specs.declared.At.{At}
 use Rattle.call_parts.specs.declared.Called.{Called}
 use Rattle.call_parts.specs.declared.Called.the-variants.{Done, NoRoom}

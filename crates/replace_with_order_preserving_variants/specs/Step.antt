@@ -37,16 +37,13 @@ use Rattle.plan_updates.specs.Opening.{grown-then}
 use Rattle.plan_context.specs.Facts.{Tells}
 use Rattle.plan_context.specs.Nodes.{counts-of, few-any}
 use Rattle.plan_updates.specs.Covering.{one}
-use Rattle.replace_with_order_preserving_variants.specs.declared.Settings.{Settings}
+use Rattle.walk_settings.specs.declared.Settings.{Settings}
 use Rattle.plan_updates.specs.ProperRecords.{record-proper}
 use Rattle.order_preservation_marks.specs.Kinds.{op-ind, one-kid, treated-7}
 use Rattle.order_preservation_marks.specs.Marking.{Carrying, Updating, Updated, marks-ok, carry-size}
 use Rattle.order_preserving_plans.specs.Preserving.{Preserves}
 use Rattle.order_preservation_marks.specs.Replacing.{grown-as, made-then}
-
--- The settings as the walks have them
-abbrev pub settingsOf : Settings → walk.Settings
-settingsOf s = record { spr = s .spr; spm = s .spm; prefer = s .prefer }
+use Rattle.walk_settings.specs.Settings.{settingsOf}
 
 -- "for child in alternate_plan.children.iter_mut() { child.data = false; }"
 abbrev pub acceptOne : Tree → Tree

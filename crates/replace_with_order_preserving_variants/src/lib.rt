@@ -16,6 +16,7 @@ use plan_context::handles::set_mark;
 use plan_context::kept::row;
 use plan_context::kept::summary;
 use plan_updates::putting::put_again;
+use walk_settings::Settings;
 ghost use mathlib.Core.Path.{_≡_};
 ghost use mathlib.Core.Bool.{false};
 ghost use mathlib.Core.List.{[], _∷_};
@@ -27,14 +28,8 @@ ghost use Rattle.walks.specs.OrderPreserving as walk;
 ghost use Rattle.plan_context.specs.View.{treeOf, forest, Arena, Grown};
 ghost use Rattle.plan_updates.specs.Opened.{stepRoom, Opened};
 ghost use Rattle.order_preservation_marks.specs.Marking.{Cut, Carrying};
-ghost use Rattle.replace_with_order_preserving_variants.specs.Step.{settingsOf, Sorts, Sorting, acceptOne};
-
-// 01, 'The four walks': "settings: spr better, spm better, prefer existing".
-pub struct Settings {
-    pub spr: bool,
-    pub spm: bool,
-    pub prefer: bool,
-}
+ghost use Rattle.replace_with_order_preserving_variants.specs.Step.{Sorts, Sorting, acceptOne};
+ghost use Rattle.walk_settings.specs.Settings.{settingsOf};
 
 // Whether a sort with the record r over the tree at h takes the variants that preserve order in any case: where existing sorts are
 // preferred, or where it is final over unbounded rows.

@@ -2,8 +2,8 @@
 // that is written stay.
 use call_memory::call;
 use plan_calls::Call;
-use replace_with_order_preserving_variants::Settings;
 use transform_up::Walk;
+use walk_settings::settings_in;
 ghost use mathlib.Core.Path.{_≡_};
 ghost use Rattle.plan.specs.Numbers.{numberOf};
 ghost use Rattle.plan_format.specs.Reading.{refusalOf};
@@ -65,11 +65,7 @@ pub extern "C" fn replace_with_order_preserving_variants(
         (now (out .entry)))) × (now (out .exit) ≡ outputIn (rewrites (preserved (settingsIn «spr_better» «spm_better» «prefer_existing»))
         (now (plan .entry))) (now (out .entry))) ⌝ }
 {
-    let s = Settings {
-        spr: spr_better != 0,
-        spm: spm_better != 0,
-        prefer: prefer_existing != 0,
-    };
+    let s = settings_in(spr_better, spm_better, prefer_existing);
     call(Call::TransformUp(Walk::Preserve(s)), plan, out).number
 }
 

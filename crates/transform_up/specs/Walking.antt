@@ -9,7 +9,7 @@ use Rattle.walks.specs.ParallelizeSorts.{parallelizeSorts}
 use Rattle.walks.specs.theorems.parallelize.Kept.{parallelizeSorts-kept}
 use Rattle.walks.specs.OrderPreserving.{replaceWithOrderPreservingVariants}
 use Rattle.walks.specs.theorems.preserve.Kept as preserving
-use Rattle.replace_with_order_preserving_variants.specs.Step.{settingsOf}
+use Rattle.walk_settings.specs.Settings.{settingsOf}
 use Rattle.transform_up.specs.declared.Walk.{Walk}
 use Rattle.transform_up.specs.declared.Walk.the-variants.{Ensure, Parallelize, Preserve}
 

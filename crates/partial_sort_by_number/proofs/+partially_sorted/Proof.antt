@@ -4,7 +4,8 @@ use mathlib.Core.Path.{refl, sym, subst, _∙_}
 use Rattle.walks.specs.Marks.{sizeT}
 use Rattle.plan_context.specs.View.{treeOf}
 use Rattle.sort_connection.specs.Standing.{slot-room, kid-asks}
-use Rattle.partial_sort_by_number.specs.ByNumber.{AnswersPartial, standing, step-past, step-low, step-asks, step-missing, step-met, step-puts, step-became}
+use Rattle.partial_sort_by_number.specs.AtNumber.{AnswersPartial}
+use Rattle.partial_sort_by_number.specs.ByNumber.{standing, step-past, step-low, step-asks, step-missing, step-met, step-puts, step-became}
 use Prim.Native.Nat.{ℕ, _<_}
 use borrow.Fn.Kinds.{In}
 use borrow.Fn.PlainCycle.{Measures, is, falls, and}

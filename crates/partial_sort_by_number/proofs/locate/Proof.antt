@@ -6,7 +6,7 @@ use Rattle.arena.specs.Arena.{index, slot}
 use Rattle.walks.specs.Marks.{sizeT}
 use Rattle.plan_context.specs.View.{treeOf}
 use Rattle.sort_connection.specs.Standing.{view, slot-room, is-here, kid-asks, kid-standing}
-use Rattle.partial_sort_by_number.specs.ByNumber.{Passing, passing-none, passing-more, passing-found, passing-end}
+use Rattle.partial_sort_by_number.specs.AtNumber.{Passing, passing-none, passing-more, passing-found, passing-end}
 use Rattle.partial_sort_by_number.proofs.locate.Statement.{statement}
 use Rattle.partial_sort_by_number.proofs.locate.Tie as tie
 

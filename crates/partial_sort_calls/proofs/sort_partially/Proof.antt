@@ -4,7 +4,7 @@ use mathlib.Core.Path.{subst}
 use Prim.Native.Nat.{_/_}
 use Rattle.plan.specs.declared.Refusal.the-variants as refusals
 use Rattle.plan_context.specs.Laws.{here}
-use Rattle.partial_sort_by_number.specs.ByNumber.{AnswersPartial}
+use Rattle.partial_sort_by_number.specs.AtNumber.{AnswersPartial}
 use Rattle.call_parts.specs.Filing.{arena-loaded}
 use Rattle.partial_sort_calls.specs.PartialSorting.{partial-no-room, partial-asks, partial-refuses, partial-small, partial-wrote}
 use Rattle.partial_sort_calls.proofs.sort_partially.Statement.{statement}
