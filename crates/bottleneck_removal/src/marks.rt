@@ -1,7 +1,7 @@
 // A node's mark says that it is connected with a coalesce below it that can be taken out.
-use node_properties::fetch;
+use node_fetches::fetch;
+use node_fetches::some_fetch;
 use node_properties::is_coalesce_partitions;
-use node_properties::some_fetch;
 use plan_context::handles::is_marked;
 use wanted_inputs::wants_single;
 ghost use mathlib.Core.Path.{_≡_};

@@ -6,21 +6,30 @@ use Prim.Native.Nat.{ℕ, _*_, _≤_, _<_}
 use native.Mathlib.Omega.{arith}
 use borrow.Author.Tests.{eqb-true, eqb-false, ltb-true, ltb-false}
 use lib.Dec.{eqb, ltb}
+use lib.ListN.{length, replicate, length-replicate}
 use Rattle.plan.specs.Numbers.{numberOf}
 use Rattle.plan_format.specs.Blocks.{blockCount}
 use Rattle.plan_format.specs.Reading.{refusalOf}
 use Rattle.plan_codec.specs.Reading.{reading}
 use Rattle.arena.specs.Arena.{slotSize}
-use Rattle.plan_arena.specs.ReadFile.{few-blocks, is-accepted}
+use Rattle.plan_arena.specs.ReadFile.{blockSlots, few-blocks, is-accepted}
 use Rattle.step_ends.specs.Tidying.{fullSlots}
 use Rattle.plan_calls.specs.declared.Call.{Call}
 use Rattle.call_parts.specs.declared.Called.{Called}
 use Rattle.call_parts.specs.declared.Called.the-variants.{Done, NoRoom}
 use Rattle.call_answers.specs.Answers.{Result, afterReading}
-use Rattle.call_parts.specs.Calls.{CalledAs}
+use Rattle.call_parts.specs.Calls.{CalledAs, Memory}
 use Rattle.plan_calls.specs.Results.{resultOf}
 use Rattle.call_memory.specs.Replies.{Answered}
 use Rattle.plan_calls.specs.Calling.{file-refused}
+
+-- Memory of a and b zeros. The law tells its length: to count it, byte by byte, takes seconds
+pub zeros-are-memory : (s : List ℕ) (a b : ℕ) → blockSlots * blockCount s ≤ a → (fullSlots * slotSize ≤ a → 126 * slotSize ≤ b)
+    → Memory s (replicate a 0) (replicate b 0)
+zeros-are-memory s a b h k = record {
+  room = subst (λ n. blockSlots * blockCount s ≤ n) (sym (length-replicate a 0)) h;
+  scratch = λ f. subst (λ n. 126 * slotSize ≤ n) (sym (length-replicate b 0)) (k (subst (λ n. fullSlots * slotSize ≤ n) (length-replicate a 0) f));
+}
 
 module _ (r : Called) (R : Result) (out out' : List ℕ) where
   -- an arena that is not full
@@ -37,9 +46,12 @@ module _ (r : Called) (R : Result) (out out' : List ℕ) where
   pub no-room-same : (a : ℕ) → r ≡ NoRoom → CalledAs r R out out' a → out' ≡ out
   no-room-same a e x = (subst (λ y. CalledAs y R out out' a) e x) .0
 
-  -- a full one has room
-  pub full-done : (a : ℕ) → fullSlots * slotSize ≤ a → r ≡ NoRoom → CalledAs r R out out' a → ⊥
-  full-done a h e x = let y = (subst (λ y. CalledAs y R out out' a) e x) .1 in omega arith
+  -- a full one, of a zeros, has room
+  pub full-done : (a : ℕ) → fullSlots * slotSize ≤ a → r ≡ NoRoom → CalledAs r R out out' (length (replicate {A = ℕ} a 0)) → ⊥
+  full-done a h e x =
+      let y = (subst (λ y. CalledAs y R out out' (length (replicate {A = ℕ} a 0))) e x) .1 in
+      let z = length-replicate {A = ℕ} a 0 in
+      omega arith
 
 -- a file of no block, or of more than eighteen, is refused
 or-so : (a b : Bool) → (a || b) ≡ true → (a ≡ false → b ≡ true)

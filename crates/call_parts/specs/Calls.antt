@@ -14,7 +14,7 @@ use Rattle.arena.specs.Arena.{slotSize}
 use Rattle.plan_arena.specs.ReadFile.{blockSlots}
 use Rattle.plan_context.specs.View.{treeOf, Arena}
 use Rattle.plan_context.specs.Records.{planT}
-use Rattle.plan_context.specs.Reading.{Loaded}
+use Rattle.settling.specs.Reading.{Loaded}
 use Rattle.step_ends.specs.declared.Stop.{Stop}
 use Rattle.step_ends.specs.declared.Stop.the-variants as stop
 use Rattle.step_ends.specs.Tidying.{fullSlots}

@@ -25,11 +25,11 @@ use Rattle.arena.specs.Arena as records
 use Rattle.arena.specs.Arena.{index, slot, held, at, treeAt, Below, Good}
 use Rattle.arena.specs.Laws.{at-new, at-old, length-trees}
 use Rattle.arena.specs.Held.{length-held}
-use Rattle.plan_arena.specs.Flat.{Flattens}
+use Rattle.arena_writer.specs.Flat.{Flattens}
 use Rattle.plan_context.specs.View.{treeIn, treeOf, forest, ProperSlot, Arena}
 use Rattle.plan_context.specs.Nodes.{counts-of, seen}
 use Rattle.plan_context.specs.Records.{planT}
-use Rattle.plan_context.specs.Reading.{Loaded}
+use Rattle.settling.specs.Reading.{Loaded}
 use Rattle.plan_context.specs.Facts.{size-strip}
 use Rattle.call_answers.specs.Answers.{gives, refusalIn, outputIn}
 

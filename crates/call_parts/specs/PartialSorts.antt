@@ -16,7 +16,7 @@ use Rattle.arena.specs.Arena.{index, slot}
 use Rattle.arena.specs.Laws.{below-at}
 use Rattle.plan_context.specs.View.{treeIn, treeOf, forest}
 use Rattle.plan_context.specs.Nodes.{Seen, seen}
-use Rattle.plan_context.specs.Reading.{Loaded}
+use Rattle.settling.specs.Reading.{Loaded}
 use Rattle.record_fields.specs.Encoded.{code-byte}
 use Rattle.plan.specs.Forest.{size}
 use Rattle.plan_context.specs.Facts.{size-strip}

@@ -2,8 +2,10 @@
 use arena::child;
 use arena::child_count;
 use arena::record_at;
+use plan::Refusal;
 use plan_context::kept;
-use plan_context::settling::settle_all;
+use settling::settle_all;
+use step_ends::Stop;
 ghost use mathlib.Core.Path.{_≡_};
 ghost use mathlib.Core.List.{List};
 ghost use Prim.Native.Nat.{ℕ, _*_, _≤_, _<_};
@@ -12,10 +14,10 @@ ghost use Rattle.semantics.specs.Check.{check};
 ghost use Rattle.walks.specs.Marks.{sizeT};
 ghost use Rattle.plan_context.specs.View.{treeIn, treeOf};
 ghost use Rattle.plan_context.specs.Records.{planT};
-ghost use Rattle.plan_context.specs.Reading.{Loaded};
+ghost use Rattle.settling.specs.Reading.{Loaded};
 ghost use Rattle.call_answers.specs.Answers.{checks, gives};
 ghost use Rattle.call_parts.specs.PartialSorts.{partialT};
-ghost use Rattle.call_parts.specs.Calls.{CalledAs};
+ghost use Rattle.call_parts.specs.Calls.{stoppedAs, CalledAs};
 
 // What a call answers: the number of its refusal or 0, and whether the plan passes, where that was asked; or that the arena is too small.
 pub enum Called {
@@ -48,8 +50,18 @@ pub fn write_out(m: &[u8], u: usize, h: usize, out: &mut [u8]) -> Called
     requires { ⌜ Loaded (now m) u × (h < 2 * u) × (sizeT (treeOf (now m) h) ≤ 126) ⌝ }
     ensures { λ r. ⌜ ((room : ℕ) → CalledAs r (gives (planT (treeOf (now (m .entry)) h))) (now (out .entry)) (now (out .exit)) room) ⌝ }
 {
-    let x = plan_arena::write(m, u, h, out);
+    let x = arena_writer::write(m, u, h, out);
     Called::Done(plan::number(x), false)
+}
+
+// A walk that stopped has written nothing.
+pub fn stopped(s: Stop) -> Called
+    ensures { λ r. ⌜ r ≡ stoppedAs s ⌝ }
+{
+    match s {
+        Stop::TooManyNodes => Called::Done(plan::number(Refusal::TooManyNodes), false),
+        Stop::NoRoom => Called::NoRoom,
+    }
 }
 
 // The order check of the tree at h.

@@ -5,24 +5,12 @@ use mathlib.Core.List.{List, [], _∷_}
 use Prim.Native.Nat.{ℕ, _+_, _≤_, _<_}
 use lib.ListN.{length}
 use Rattle.row_order.specs.Packed.{keyOf}
-use Rattle.row_order.specs.Lists.{All}
 use Rattle.plan.specs.Op.{On}
 use Rattle.plan.specs.WellFormed.{joinWidth, onFit}
 use Rattle.plan.specs.declared.JoinType.{JoinType}
-use Rattle.semantics.specs.Facts.{Kept, kLeft, kRight, kNone}
 use Rattle.semantics.specs.theorems.facts.Fits.{Fits}
-use Rattle.key_lists.specs.declared.Keys.{Keys}
-use Rattle.key_lists.specs.Keys.{keysOf}
 use Rattle.facts.specs.declared.Facts.{Facts as Coded}
 use Rattle.facts.specs.Known.{known, Coherent}
-use Rattle.join_facts.specs.declared.KeptSide.{KeptSide}
-use Rattle.join_facts.specs.declared.KeptSide.the-variants.{Left, Right, Neither}
-
--- The semantics' name for each case
-abbrev pub keptOf : KeptSide → Kept
-keptOf Left = kLeft
-keptOf Right = kRight
-keptOf Neither = kNone
 
 -- The key pairs: left keys beside right columns
 abbrev pub onOf : List ℕ → List ℕ → List On
@@ -42,14 +30,6 @@ pub record Sides (t : JoinType) (a b : Coded) : Type 0 where
   pub leftFits : Fits (known a)
   pub rightFits : Fits (known b)
   pub wide : joinWidth t (a .width) (b .width) ≤ 32
-
--- Orders of the two sides, of which the left one is w wide, have a place in the join
-pub record Placeable (t : JoinType) (w : ℕ) (left right : Keys) : Type 0 where
-  pub wide : w ≤ 32
-  pub few : left .len ≤ 8
-  pub fewer : right .len ≤ 8
-  pub lefts : All (λ k. k .col < w) (keysOf left)
-  pub rights : All (λ k. joinWidth t w (k .col + 1) ≤ 32) (keysOf right)
 
 -- with the key pairs of a well-formed join
 pub record Joinable (t : JoinType) (a b : Coded) (lefts rights : List ℕ) : Type 0 where

@@ -1,4 +1,3 @@
 pub mod Joining
 pub mod Placing
 pub mod Linking
-pub mod Orders

@@ -11,6 +11,7 @@ use borrow.Author.Tests.{eqb-true, ltb-true, ltb-false}
 use Rattle.row_order.specs.Packed.{bit, keyOf}
 use Rattle.row_order.specs.Lists.{All, all-nil, all-cons, all-head, all-tail}
 use Rattle.plan.specs.Op.{On}
+use Rattle.plan.specs.declared.JoinType.{JoinType}
 use Rattle.plan.specs.WellFormed.{onFit, below as columnsBelow, distinct}
 use Rattle.semantics.specs.Facts.{cl, isC, inClass, linked, linkAll}
 use Rattle.semantics.specs.theorems.facts.Fits.{linkAll-fits}
@@ -21,7 +22,9 @@ use Rattle.facts.specs.declared.Facts.{Facts as Coded}
 use Rattle.facts.specs.Known.{known, Coherent, Says}
 use Rattle.facts.specs.Reading.{classes, cl-is, isC-is, own-order}
 use Rattle.facts.specs.Saying.{says}
-use Rattle.join_facts.specs.Joining.{onOf, Linkable}
+use Rattle.join_orders.specs.KeptSides.{Placeable}
+use Rattle.join_orders.specs.Orders.{placeable}
+use Rattle.join_facts.specs.Joining.{onOf, Linkable, Sides}
 
 -- ---- one pair
 module _ (f : Coded) (h : Coherent f) (a b : ℕ) where
@@ -113,3 +116,8 @@ linkable w v on e l =
           right = let m = ltb-true (k .other) v (and-left (ltb (k .other) v) _ q) in omega arith;
         })
         (go on (and-right (ltb (k .key .col) w) _ p) (and-right (ltb (k .other) v) _ q))
+
+-- orders of a plan's sides have a place
+pub sides-placeable : (t : JoinType) (a b : Coded) → Sides t a b → Placeable t (a .width) (a .order) (b .order)
+sides-placeable t a b s = placeable t (a .width) (b .width) (a .order) (b .order) (s .left .wide) (s .right .wide) (s .wide) (s .left .few) (s .right .few)
+    (s .leftFits) (s .rightFits)

@@ -1,5 +1,5 @@
-// A join's facts: constants and classes by its type, and the kept side's order, moved to its place (01, 'Facts of a node'). The
-// key pairs are lent as two lists, the left keys and the right columns.
+// A join's facts: constants and classes by its type, and the kept side's order (01, 'Facts of a node'). The key pairs are lent as two lists, the left keys
+// and the right columns.
 use class_tables::alone;
 use class_tables::beside_table;
 use class_tables::linked_set;
@@ -10,78 +10,22 @@ use column_sets::moved_up;
 use facts::Facts;
 use facts::sorted_facts;
 use facts::unknown;
-use key_lists::Keys;
-use key_lists::move_keys;
-use key_lists::no_keys;
+use join_orders::KeptSide;
+use join_orders::by_right;
+use join_orders::hash_kept;
+use join_orders::join_order;
+use join_orders::sort_merge_kept;
 use plan::JoinType;
 use row_order::column;
 ghost use mathlib.Core.Path.{_≡_};
 ghost use mathlib.Core.Bool.{cond};
-ghost use mathlib.Core.List.{map};
-ghost use Prim.Native.Nat.{ℕ, _+_, _<_, _≤_};
+ghost use Prim.Native.Nat.{_+_, _<_, _≤_};
 ghost use lib.ListN.{length};
-ghost use lib.IntN.{pos};
 ghost use Rattle.row_order.specs.Lists.{All};
-ghost use Rattle.plan.specs.WellFormed.{joinWidth};
 ghost use Rattle.semantics.specs.Facts as sem;
-ghost use Rattle.key_lists.specs.Keys.{keysOf, Keyed};
 ghost use Rattle.facts.specs.Known.{known, Coherent, Says};
-ghost use Rattle.join_facts.specs.Joining.{keptOf, onOf, Linkable, Placeable, Joinable};
-
-// The side whose order a join keeps.
-pub enum KeptSide {
-    Left,
-    Right,
-    Neither,
-}
-
-// Sort-merge keeps left, for Right types right, for Full none.
-pub fn sort_merge_kept(t: JoinType) -> KeptSide
-    ensures { λ r. ⌜ keptOf r ≡ sem.smjKept t ⌝ }
-{
-    match t {
-        JoinType::Inner => KeptSide::Left,
-        JoinType::Left => KeptSide::Left,
-        JoinType::Right => KeptSide::Right,
-        JoinType::Full => KeptSide::Neither,
-        JoinType::LeftSemi => KeptSide::Left,
-        JoinType::LeftAnti => KeptSide::Left,
-        JoinType::RightSemi => KeptSide::Right,
-        JoinType::RightAnti => KeptSide::Right,
-    }
-}
-
-// Hash keeps right for Inner, Right, RightSemi, RightAnti.
-pub fn hash_kept(t: JoinType) -> KeptSide
-    ensures { λ r. ⌜ keptOf r ≡ sem.hashKept t ⌝ }
-{
-    match t {
-        JoinType::Inner => KeptSide::Right,
-        JoinType::Left => KeptSide::Neither,
-        JoinType::Right => KeptSide::Right,
-        JoinType::Full => KeptSide::Neither,
-        JoinType::LeftSemi => KeptSide::Neither,
-        JoinType::LeftAnti => KeptSide::Neither,
-        JoinType::RightSemi => KeptSide::Right,
-        JoinType::RightAnti => KeptSide::Right,
-    }
-}
-
-// Right types have the right side's streams.
-pub fn by_right(t: JoinType) -> bool
-    ensures { λ r. ⌜ r ≡ sem.byRight t ⌝ }
-{
-    match t {
-        JoinType::Inner => false,
-        JoinType::Left => false,
-        JoinType::Right => true,
-        JoinType::Full => false,
-        JoinType::LeftSemi => false,
-        JoinType::LeftAnti => false,
-        JoinType::RightSemi => true,
-        JoinType::RightAnti => true,
-    }
-}
+ghost use Rattle.join_orders.specs.KeptSides.{keptOf};
+ghost use Rattle.join_facts.specs.Joining.{onOf, Linkable, Joinable};
 
 // The left side's facts, before n columns of which nothing is known.
 fn placed(f: Facts, n: usize) -> Facts
@@ -189,68 +133,6 @@ fn join_base(t: JoinType, a: Facts, b: Facts, lefts: &[usize], rights: &[usize])
         JoinType::LeftAnti => a,
         JoinType::RightSemi => b,
         JoinType::RightAnti => b,
-    }
-}
-
-// The left side's order, in its place.
-fn left_order(t: JoinType, keys: Keys) -> Keys
-    requires { ⌜ keys .len ≤ 8 ⌝ }
-    ensures { λ r. ⌜ ((w : ℕ) → All (λ k. k .col < w) (keysOf keys) → Keyed (sem.leftOrder t w (keysOf keys)) r) ⌝ }
-{
-    match t {
-        JoinType::Inner => keys,
-        JoinType::Left => keys,
-        JoinType::Right => no_keys(),
-        JoinType::Full => no_keys(),
-        JoinType::LeftSemi => keys,
-        JoinType::LeftAnti => keys,
-        JoinType::RightSemi => no_keys(),
-        JoinType::RightAnti => no_keys(),
-    }
-}
-
-// A width as an offset.
-fn offset(w: usize) -> isize
-    requires { ⌜ w ≤ 32 ⌝ }
-    ensures { λ r. ⌜ r ≡ pos w ⌝ }
-{
-    w as isize
-}
-
-// The order behind w columns.
-fn moved_order(w: usize, keys: Keys) -> Keys
-    requires { ⌜ (w ≤ 32) × All (λ k. w + k .col < 32) (keysOf keys) × (keys .len ≤ 8) ⌝ }
-    ensures { λ r. ⌜ Keyed (map (sem.moved w) (keysOf keys)) r ⌝ }
-{
-    move_keys(keys, offset(w))
-}
-
-// The right side's order, moved to its place.
-fn right_order(t: JoinType, w: usize, keys: Keys) -> Keys
-    requires { ⌜ (w ≤ 32) × All (λ k. joinWidth t w (k .col + 1) ≤ 32) (keysOf keys) × (keys .len ≤ 8) ⌝ }
-    ensures { λ r. ⌜ Keyed (sem.rightOrder t w (keysOf keys)) r ⌝ }
-{
-    match t {
-        JoinType::Inner => moved_order(w, keys),
-        JoinType::Left => no_keys(),
-        JoinType::Right => moved_order(w, keys),
-        JoinType::Full => no_keys(),
-        JoinType::LeftSemi => no_keys(),
-        JoinType::LeftAnti => no_keys(),
-        JoinType::RightSemi => keys,
-        JoinType::RightAnti => keys,
-    }
-}
-
-// The kept side's order, moved to its place; w: the left columns.
-pub fn join_order(t: JoinType, kept: KeptSide, w: usize, left: Keys, right: Keys) -> Keys
-    requires { ⌜ Placeable t w left right ⌝ }
-    ensures { λ r. ⌜ ((F G : sem.Facts) → F .width ≡ w → keysOf left ≡ F .order → keysOf right ≡ G .order → Keyed (sem.joinOrder t (keptOf kept) F G) r) ⌝ }
-{
-    match kept {
-        KeptSide::Left => left_order(t, left),
-        KeptSide::Right => right_order(t, w, right),
-        KeptSide::Neither => no_keys(),
     }
 }
 

@@ -1,4 +1,3 @@
 pub mod Sides
 pub mod Searching
 pub mod Room
-pub mod Moving

@@ -1,37 +1,19 @@
-// expr_source_side: on which side of a join the columns of an order stand; and orders moved back to a join's right side or through a
-// projection, and compared key by key (sort_pushdown.rs).
-use asked_facts::asked::lowest_equal;
-use asked_facts::asked::width;
+// expr_source_side: on which side of a join the columns of an order stand (sort_pushdown.rs).
+use asked_facts::lowest_equal;
+use asked_facts::width;
 use key_lists::Keys;
 use key_lists::appended;
-use key_lists::drop_repeats;
-use key_lists::move_keys;
 use key_lists::no_keys;
-use key_lists::same_key;
 use key_lists::with_column;
-use node_properties::child_column;
 use plan::JoinType;
 use row_order::column;
 ghost use mathlib.Core.Path.{_≡_};
-ghost use mathlib.Core.List.{List, map};
-ghost use Prim.Native.Nat.{ℕ, _+_, _<_, _≤_};
-ghost use lib.Dec.{leb};
-ghost use lib.IntN.{negℤ, pos};
-ghost use lib.ListN.{getD};
-ghost use Rattle.row_order.specs.Lists.{All};
-ghost use Rattle.plan.specs.Op.{projection};
-ghost use Rattle.plan.specs.Numbers.{kindOf};
-ghost use Rattle.plan.specs.WellFormed.{every};
-ghost use Rattle.plan.specs.declared.Kind.the-variants as kinds;
-ghost use Rattle.plan_codec.specs.Decode.{decode};
+ghost use Prim.Native.Nat.{_+_, _<_, _≤_};
 ghost use Rattle.semantics.specs.Facts as sem;
-ghost use Rattle.key_lists.specs.Keys.{keysOf, Keyed};
-ghost use Rattle.record_fields.specs.Proper.{Proper};
+ghost use Rattle.key_lists.specs.Keys.{keysOf};
 ghost use Rattle.asked_facts.specs.Asked.{told, FactRow};
-ghost use Rattle.walks.specs.SortPushdown.{atColumn, onSide, eitherSide, exprSourceSide, noneEqual, addOffsetToPhysicalSortExprs, remapRequirementThroughProjection};
+ghost use Rattle.walks.specs.SortPushdown.{onSide, eitherSide, exprSourceSide};
 ghost use Rattle.join_sides.specs.Sides.{sideColumn, lowestFrom, Valids, SideIs, Roomy};
-
-// ---- expr_source_side
 
 // A column of the side, or that there is none.
 pub enum SideColumn {
@@ -130,91 +112,4 @@ pub fn expr_source_side(own: &[u8], keys: Keys, t: JoinType, left: usize) -> Joi
         JoinType::RightSemi => JoinSide::Right(keys),
         JoinType::RightAnti => JoinSide::Right(keys),
     }
-}
-
-// ---- columns of a join's right side
-
-// Whether every column stands at the offset or above.
-pub fn all_from(off: usize, keys: Keys) -> bool
-    ensures { λ r. ⌜ r ≡ every (λ k. leb off (k .col)) (keysOf keys) ⌝ }
-{
-    let mut rest = keys.word;
-    let mut left = keys.len;
-    while 0 < left {
-        if column(rest) < off {
-            return false;
-        }
-        rest = rest >> 8;
-        left -= 1;
-    }
-    true
-}
-
-// An offset to the left.
-fn back(off: usize) -> isize
-    requires { ⌜ off ≤ 32 ⌝ }
-    ensures { λ r. ⌜ r ≡ negℤ (pos off) ⌝ }
-{
-    0 - (off as isize)
-}
-
-// Each column moved back by the offset.
-pub fn moved_back(off: usize, keys: Keys) -> Keys
-    requires { ⌜ (off ≤ 32) × All (λ k. off ≤ k .col) (keysOf keys) × (keys .len ≤ 8) ⌝ }
-    ensures { λ r. ⌜ Keyed (addOffsetToPhysicalSortExprs off (keysOf keys)) r ⌝ }
-{
-    move_keys(keys, back(off))
-}
-
-// ---- through a projection
-
-// Each key at the child column of its column.
-fn at_child_columns(r: &[u8], keys: Keys) -> Keys
-    requires { ⌜ Proper (now r) × (kindOf (getD (now r) 0 0) ≡ kinds.Projection) × (keys .len ≤ 8) ⌝ }
-    ensures { λ k. ⌜ ((cols : List ℕ) → decode (now (r .entry)) ≡ projection cols → Keyed (map (atColumn (λ c. getD cols c 0)) (keysOf keys)) k) ⌝ }
-{
-    let mut out = no_keys();
-    let mut rest = keys.word;
-    let mut left = keys.len;
-    while 0 < left {
-        let c = child_column(r, column(rest));
-        out = appended(out, with_column(rest, c));
-        rest = rest >> 8;
-        left -= 1;
-    }
-    out
-}
-
-// remap_requirement_through_projection
-pub fn remap_requirement_through_projection(r: &[u8], keys: Keys) -> Keys
-    requires { ⌜ Proper (now r) × (kindOf (getD (now r) 0 0) ≡ kinds.Projection) × (keys .len ≤ 8) ⌝ }
-    ensures { λ k. ⌜ ((cols : List ℕ) → decode (now (r .entry)) ≡ projection cols → Keyed (remapRequirementThroughProjection cols (keysOf keys)) k) ⌝ }
-{
-    let moved = at_child_columns(r, keys);
-    drop_repeats(moved)
-}
-
-// ---- keys compared
-
-// Whether no key equals its counterpart.
-pub fn none_equal(p: Keys, q: Keys) -> bool
-    ensures { λ r. ⌜ r ≡ noneEqual (keysOf p) (keysOf q) ⌝ }
-{
-    let mut a = p.word;
-    let mut b = q.word;
-    let mut left = p.len;
-    let mut more = q.len;
-    while 0 < left {
-        if more == 0 {
-            return true;
-        }
-        if same_key(a, b) {
-            return false;
-        }
-        a = a >> 8;
-        b = b >> 8;
-        left -= 1;
-        more -= 1;
-    }
-    true
 }

@@ -1,3 +1,2 @@
-pub mod Nodes
 pub mod Fields
-pub mod Maintaining
+pub mod Partitionings

@@ -6,8 +6,8 @@ use arena::child;
 use arena::child_count;
 use arena::read64;
 use arena::record_at;
-use asked_facts::asked::meets;
 use key_lists::Order;
+use met_orders::meets;
 use new_records::coalesce_record;
 use new_records::with_mark;
 use node_properties::is_repartition;
@@ -15,8 +15,8 @@ use node_properties::is_sort_preserving_merge;
 use order_preservation_marks::marking::maintains_input_order;
 use plan_context::handles::set_mark;
 use plan_context::kept::row;
-use plan_updates::putting::put_over;
-use plan_updates::putting::update_plan_from_children;
+use plan_updates::put_over;
+use plan_updates::update_plan_from_children;
 use wanted_inputs::wanted_order;
 ghost use mathlib.Core.Path.{_≡_};
 ghost use mathlib.Core.Bool.{true};
@@ -73,7 +73,7 @@ fn break_merge(m: &mut [u8], w: usize, r: &[u8], ks: &[usize]) -> At
     ensures { λ a. ⌜ Grown (now (m .entry)) w (now (m .exit)) a (brokenMerge (decode (now (r .entry))) (forest (now (m .entry)) (now (ks .entry))))
         (w + 1) ⌝ }
 {
-    let x = coalesce_record(node_properties::fetch(r));
+    let x = coalesce_record(node_fetches::fetch(r));
     put_over(m, w, &x, set_mark(ks[0], false))
 }
 

@@ -10,7 +10,7 @@ use Rattle.plan_codec.specs.Decode.{decode}
 use Rattle.semantics.specs.Facts.{nothing}
 use Rattle.record_fields.specs.Proper.{Proper}
 use Rattle.asked_facts.specs.Asked.{told}
-use Rattle.node_properties.specs.Nodes.{Among}
+use Rattle.maintained_orders.specs.Nodes.{Among}
 use Rattle.walks.specs.Marks.{known, node, fact}
 use Rattle.arena.specs.Arena.{slotSize, slot}
 use Rattle.arena.specs.Laws.{below-at, index-even}

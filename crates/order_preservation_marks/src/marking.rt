@@ -5,15 +5,15 @@ use arena::child;
 use arena::child_count;
 use arena::read64;
 use arena::record_at;
-use asked_facts::asked::is_ordered;
+use asked_facts::is_ordered;
+use maintained_orders::maintains;
+use node_fetches::some_fetch;
 use node_properties::is_coalesce_partitions;
 use node_properties::is_repartition;
-use node_properties::maintains;
-use node_properties::some_fetch;
 use plan_context::handles::is_marked;
 use plan_context::handles::set_mark;
 use plan_context::kept::row;
-use plan_updates::putting::put_again;
+use plan_updates::put_again;
 ghost use mathlib.Core.Path.{_≡_};
 ghost use Prim.Native.Nat.{_+_, _<_};
 ghost use lib.ListN.{length};
@@ -46,7 +46,7 @@ pub fn is_fetched_coalesce(r: &[u8]) -> bool
     requires { ⌜ Proper (now r) ⌝ }
     ensures { λ b. ⌜ b ≡ isFetchedCoalesce (decode (now (r .entry))) ⌝ }
 {
-    is_coalesce_partitions(r) & some_fetch(node_properties::fetch(r))
+    is_coalesce_partitions(r) & some_fetch(node_fetches::fetch(r))
 }
 
 // Whether a path goes on from node i to its child j.

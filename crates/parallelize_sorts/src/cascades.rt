@@ -1,18 +1,18 @@
 // A coalesce and a sort over it give their place to a sort of each stream and a merge over it.
 use crate::SortExprs;
 use arena::At;
-use asked_facts::asked::several_streams;
+use asked_facts::several_streams;
 use bottleneck_removal::bottlenecks::remove_bottleneck_in_subplan;
 use new_records::coalesce_record;
 use new_records::merge_record;
-use node_properties::fetch;
+use node_fetches::fetch;
 use node_properties::fetch_field;
 use node_properties::is_sort;
 use node_properties::is_sort_preserving_merge;
 use node_properties::keys;
 use node_properties::preserve_mark;
 use plan_context::kept::row;
-use plan_updates::putting::put_over;
+use plan_updates::put_over;
 use utils::add_sort_above_with_check;
 ghost use mathlib.Core.Path.{_≡_};
 ghost use mathlib.Core.Bool.{true, false};

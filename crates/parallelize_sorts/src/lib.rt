@@ -12,7 +12,7 @@ use key_lists::Keys;
 use node_properties::is_coalesce_partitions;
 use plan::Fetch;
 use plan_context::handles::set_mark;
-use plan_updates::putting::put_again;
+use plan_updates::put_again;
 ghost use mathlib.Core.Bool.{false};
 ghost use Prim.Native.Nat.{suc, _+_, _<_};
 ghost use Rattle.plan.specs.Forest.{size};

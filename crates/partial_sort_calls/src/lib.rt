@@ -6,7 +6,7 @@ use partial_sort_by_number::Sorted;
 use partial_sort_by_number::partially_sorted;
 use plan::Refusal;
 use plan_context::kept;
-use plan_context::settling::settle_all;
+use settling::settle_all;
 ghost use Prim.Native.Nat.{_≤_, _<_};
 ghost use lib.ListN.{length};
 ghost use Rattle.plan_context.specs.View.{treeOf};

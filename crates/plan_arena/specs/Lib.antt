@@ -1,5 +1,4 @@
 pub mod Parts
 pub mod Fill
-pub mod Flat
 pub mod ReadFile
-pub mod Back
+pub mod Sizes

@@ -18,10 +18,10 @@ use Rattle.plan_codec.specs.Reading.{planOf, reading}
 use Rattle.plan_codec.specs.RoundTrip.{read-well-formed}
 use Rattle.plan_arena.specs.Fill.{HoldsTree}
 use Rattle.plan_arena.specs.ReadFile.{fillable}
-use Rattle.plan_arena.specs.Back.{size-tree}
+use Rattle.plan_arena.specs.Sizes.{size-tree}
 use Rattle.plan_context.specs.View.{treeOf}
 use Rattle.plan_context.specs.Records.{planT}
-use Rattle.plan_context.specs.Reading.{is-plan, loaded-all, plan-is}
+use Rattle.settling.specs.Reading.{is-plan, loaded-all, plan-is}
 use Rattle.plan_calls.specs.declared.Call.{Call}
 use Rattle.call_parts.specs.declared.Called.{Called}
 use Rattle.call_parts.specs.declared.Called.the-variants.{Done}

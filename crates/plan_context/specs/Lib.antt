@@ -4,7 +4,5 @@ pub mod Facts
 pub mod Nodes
 pub mod Handles
 pub mod Summaries
-pub mod Settling
 pub mod Storing
 pub mod Records
-pub mod Reading

@@ -10,7 +10,7 @@ use lib.Seq.{length-take-le, getD-append-add, take-append-le, take-take}
 use Rattle.scan.specs.Bytes.{le16, le32, oneIf}
 use Rattle.scan.specs.Words.{four-again}
 use Rattle.fact_slots.specs.Slots.{loaded}
-use Rattle.row_facts.specs.Rows.{loaded-kept}
+use Rattle.fact_slots.specs.Copies.{loaded-kept}
 use Rattle.arena.specs.Arena.{keptSize}
 use Rattle.tree_summary.specs.declared.Summary.{Summary}
 use Rattle.plan_context.specs.View.{summaryFrom, summaryIn}

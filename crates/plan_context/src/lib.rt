@@ -2,4 +2,3 @@
 // node: its facts and a summary of its tree (crate tree_summary). A handle is the number of a slot, doubled, plus one where the node is marked.
 pub mod handles;
 pub mod kept;
-pub mod settling;

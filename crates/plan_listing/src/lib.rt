@@ -7,7 +7,7 @@ use arena::SLOT;
 use libc::STDOUT_FILENO;
 use plan::Fetch;
 use plan::Kind;
-use plan_context::settling::settle_all;
+use settling::settle_all;
 ghost use mathlib.Core.Path.{_≡_};
 ghost use Prim.Native.Nat.{_*_, _≤_, _<_};
 ghost use lib.ListN.{length};

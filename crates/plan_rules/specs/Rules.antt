@@ -12,7 +12,7 @@ use Rattle.scan.specs.Words.{Small}
 use Rattle.plan_format.specs.declared.Fields.{Fields}
 use Rattle.plan_format.specs.Fields.{fieldsOf}
 use Rattle.plan_format.specs.Record.{either, mark, hashed, keyCountOk, widthOk, headOk, bodyOk, keySlotsOk, tailOk, rulesOk}
-use Rattle.record_parts.specs.Slots.{no-keys}
+use Rattle.record_lists.specs.Slots.{no-keys}
 
 -- ---- a record
 

@@ -1,13 +1,13 @@
-// The rules of one record of 64 bytes: refusals 4 and 6. What refusal 6 asks stands for each kind apart, as the parts of its record (record_parts): so a
-// record is tested for the few fields that its kind has, and for zeros, eight bytes at once.
+// The rules of one record of 64 bytes: refusals 4 and 6. What refusal 6 asks stands for each kind apart, as the parts of its record (record_parts,
+// record_lists): so a record is tested for the few fields that its kind has, and for zeros, eight bytes at once.
 ghost use mathlib.Core.Path.{_≡_};
 ghost use lib.ListN.{length};
 ghost use Rattle.plan_format.specs.Fields.{fieldsOf};
 ghost use Rattle.plan_format.specs.Record.{childrenOk, kindOk, rulesOk, recordOk};
+use record_lists::keys;
+use record_lists::tails;
 use record_parts::bodies;
 use record_parts::heads;
-use record_parts::keys;
-use record_parts::tails;
 
 fn children_ok(k: u8, n: u8) -> bool
     ensures { λ b. ⌜ b ≡ childrenOk k n ⌝ }

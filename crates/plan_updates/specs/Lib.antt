@@ -7,6 +7,5 @@ pub mod Putting
 pub mod Rebuilt
 pub mod Covering
 pub mod Again
-pub mod Copy
 pub mod Opened
 pub mod Opening

@@ -21,7 +21,7 @@ use Rattle.arena.specs.Keeping.{length-with}
 use Rattle.plan_context.specs.View.{treeIn, forest, summaryIn, Sums, mostNodes, Grown, Over, Puts, Settles, Settled}
 use Rattle.plan_context.specs.Laws.{tree-in, forest-same, holds-same, same-trans, theres}
 use Rattle.plan_context.specs.Nodes.{proper, few-over}
-use Rattle.plan_context.specs.Settling.{settled-by, settled-front, settled-arena, settled-tree}
+use Rattle.settling.specs.Settling.{settled-by, settled-front, settled-arena, settled-tree}
 
 module _ (m : List ℕ) (u : ℕ) (r ks : List ℕ) (p : Puts m u r ks) where
   pub put-over : Over m r ks

@@ -17,9 +17,9 @@ use Rattle.key_lists.specs.declared.Keys.{Keys}
 use Rattle.key_lists.specs.declared.Order.{Order}
 use Rattle.key_lists.specs.Keys.{keysOf, keysIn, Keyed, Ordered}
 use Rattle.asked_facts.specs.Asked.{told}
-use Rattle.join_facts.specs.declared.KeptSide.{KeptSide}
-use Rattle.join_facts.specs.Joining.{Placeable, keptOf}
-use Rattle.join_facts.specs.Orders.{placeable}
+use Rattle.join_orders.specs.declared.KeptSide.{KeptSide}
+use Rattle.join_orders.specs.KeptSides.{Placeable, keptOf}
+use Rattle.join_orders.specs.Orders.{placeable}
 use Rattle.join_sides.specs.declared.JoinSide.{JoinSide}
 use Rattle.join_sides.specs.declared.JoinSide.the-variants as side
 use Rattle.join_sides.specs.Sides.{SideIs}

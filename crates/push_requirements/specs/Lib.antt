@@ -1,4 +1,3 @@
 pub mod Pushing
 pub mod Answers
 pub mod Joins
-pub mod Children

@@ -1,6 +1,5 @@
 // sort_pushdown.rs, first part: what is required of a node, and how a requirement goes past it to the node's children. A node is its record and the rows of
 // its facts.
-pub mod children;
 pub mod joins;
 pub mod requirements;
 

@@ -1,6 +1,6 @@
 // Fetches, distributions and orders of requirements.
-use asked_facts::asked::one_stream;
-use asked_facts::asked::several_streams;
+use asked_facts::one_stream;
+use asked_facts::several_streams;
 use key_lists::Keys;
 use key_lists::Order;
 use key_lists::no_keys;

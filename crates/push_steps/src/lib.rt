@@ -1,5 +1,5 @@
 // The step of pushing at a node: refusals 25 and 23, and the number of nodes after it.
-use asked_facts::asked::is_ordered;
+use asked_facts::is_ordered;
 use key_lists::Order;
 use node_properties::is_sort;
 use plan::Refusal;

@@ -5,8 +5,8 @@ use arena::child;
 use arena::child_count;
 use arena::read64;
 use arena::record_at;
-use asked_facts::asked::meets;
-use asked_facts::asked::normal_form;
+use met_orders::meets;
+use met_orders::normal_form;
 use node_properties::is_sort;
 use node_properties::keys;
 use order_preservation_marks::marking::update_order_preservation_ctx_children_data;
@@ -15,7 +15,7 @@ use plan_context::handles::is_marked;
 use plan_context::handles::set_mark;
 use plan_context::kept::row;
 use plan_context::kept::summary;
-use plan_updates::putting::put_again;
+use plan_updates::put_again;
 use walk_settings::Settings;
 ghost use mathlib.Core.Path.{_≡_};
 ghost use mathlib.Core.Bool.{false};
@@ -92,7 +92,7 @@ fn replace_sort(m: &mut [u8], u: usize, r: &[u8], h: usize, i: usize, s: Setting
         h,
         s.spr | better,
         s.spm | better,
-        node_properties::fetch(r),
+        node_fetches::fetch(r),
     );
     if meets(row(m, a.root), order) {
         return accept(m, a.used, a.root);

@@ -1,7 +1,7 @@
 // enforce_sorting/mod.rs: replace_with_partial_sort, which works on one node.
 use arena::child;
 use arena::record_at;
-use asked_facts::asked::met_keys;
+use met_orders::met_keys;
 use node_properties::is_sort;
 use node_properties::keys;
 use plan_context::kept::row;

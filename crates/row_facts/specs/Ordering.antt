@@ -1,24 +1,22 @@
 -- A copied row with another order in the known order's place. Assumes nothing.
-use mathlib.Core.Path.{_≡_, refl, sym, ap, ap₂, _∙_, subst}
+use mathlib.Core.Path.{_≡_, refl, sym, ap, _∙_, subst}
 use mathlib.Core.List.{List, [], _++_}
-use Prim.Native.Nat.{ℕ, _+_, _*_, _%_, _^_, _≤_, _<_}
+use Prim.Native.Nat.{ℕ, _+_, _*_, _^_, _≤_, _<_}
 use native.Mathlib.Omega.{arith}
 use lib.ListN.{length, getD, take, drop, set, length-append}
-use lib.Seq.{getD-take, getD-drop, getD-set-same, getD-set-other, drop-set-lt, take-take, take-at, drop-at, length-take-le, drop-drop}
-use Rattle.row_order.specs.Iso.{Key}
-use Rattle.scan.specs.Bytes.{part, le16, le32}
+use lib.Seq.{getD-take, getD-drop, getD-set-same, getD-set-other, drop-set-lt, take-at, drop-at, length-take-le, drop-drop}
+use Rattle.scan.specs.Bytes.{part, le32}
 use Rattle.scan.specs.Parts.{splice, splice-length}
 use Rattle.semantics.specs.Facts.{reorder, nf}
 use Rattle.byte_rows.specs.Rows.{lowBytes}
 use Rattle.key_lists.specs.declared.Keys.{Keys}
 use Rattle.key_lists.specs.Keys.{keysOf, Keyed}
-use Rattle.facts.specs.declared.Facts.{Facts as Coded}
 use Rattle.facts.specs.Known.{known, Says}
 use Rattle.facts.specs.Saying.{says-ordered}
 use Rattle.fact_slots.specs.Slots.{le64, loaded, wordBytes}
 use Rattle.fact_slots.specs.Storing.{word-again}
 use Rattle.asked_facts.specs.Asked.{told, FactRow}
-use Rattle.row_facts.specs.Rows.{loaded-kept}
+use Rattle.fact_slots.specs.Copies.{loaded-kept}
 
 module _ (o W : List ℕ) (h : 48 ≤ length o) (l : length W ≡ 8) where
   -- the row with the word's bytes in their place

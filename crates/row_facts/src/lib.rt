@@ -1,9 +1,8 @@
 // The facts of a node from its record and its children's stored facts, over the bytes that its own slot keeps. Kinds that keep
 // constants and classes copy the child's bytes and change streams and order; no facts are taken apart for them.
 
-use asked_facts::asked::keeps_order;
-use asked_facts::asked::normal_form;
-use asked_facts::asked::one_stream;
+use asked_facts::keeps_order;
+use asked_facts::one_stream;
 use fact_slots::CLASSES;
 use fact_slots::ORDER;
 use fact_slots::ORDER_LEN;
@@ -14,14 +13,15 @@ use fact_slots::load_row;
 use fact_slots::store;
 use fact_slots::word_row;
 use key_lists::Keys;
+use met_orders::normal_form;
 use node_facts::hash_joined;
 use node_facts::projected;
 use node_facts::sort_merge_joined;
 use plan::Kind;
 use record_fields::KIND;
-use record_fields::key_list;
 use record_fields::kind_of;
 use record_fields::preserves;
+use record_keys::key_list;
 ghost use mathlib.Core.Path.{_≡_};
 ghost use mathlib.Core.Bool.{true, cond};
 ghost use mathlib.Core.List.{[], _++_, map};

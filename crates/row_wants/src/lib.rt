@@ -1,13 +1,13 @@
 // Whether the orders that a node wants are met, from its record and the stored facts of its children.
-use asked_facts::asked::meets;
 use byte_rows::wide;
 use key_lists::front;
+use met_orders::meets;
 use plan::Kind;
 use record_fields::KIND;
 use record_fields::ROLE;
-use record_fields::key_list;
 use record_fields::kind_of;
-use record_fields::right_key_list;
+use record_keys::key_list;
+use record_keys::right_key_list;
 ghost use mathlib.Core.Path.{_≡_};
 ghost use mathlib.Core.Bool.{true};
 ghost use Prim.Native.Nat.{_≤_};

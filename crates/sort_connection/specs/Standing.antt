@@ -18,7 +18,7 @@ use Rattle.semantics.specs.Facts.{Facts}
 use Rattle.semantics.specs.Properties.{maintains}
 use Rattle.record_fields.specs.Proper.{Proper}
 use Rattle.asked_facts.specs.Asked.{told}
-use Rattle.node_properties.specs.Nodes.{Among}
+use Rattle.maintained_orders.specs.Nodes.{Among}
 use Rattle.walks.specs.Marks.{fact, known, node, opT, setMark}
 use Rattle.arena.specs.Arena.{slotSize, index, marked, slot}
 use Rattle.arena.specs.Laws.{below-at, below-more}

@@ -1,10 +1,10 @@
 // New nodes over a node with the facts own.
 use crate::NewNodes;
-use asked_facts::asked::fresh_keys;
-use asked_facts::asked::several_streams;
+use asked_facts::several_streams;
 use key_lists::Keys;
 use key_lists::Order;
 use key_lists::order_of;
+use met_orders::fresh_keys;
 use plan::Distribution;
 use plan::Fetch;
 use push_requirements::requirements::needs_merge;

@@ -6,14 +6,14 @@ use crate::Visit;
 use crate::new_nodes::merge_and_sort;
 use crate::new_nodes::no_nodes;
 use crate::new_nodes::sort_above_with_distribution;
-use asked_facts::asked::compatible;
-use asked_facts::asked::fresh_keys;
-use asked_facts::asked::known_order;
-use asked_facts::asked::meets;
-use asked_facts::asked::normal_form;
+use asked_facts::known_order;
 use key_lists::Keys;
 use key_lists::Order;
 use key_lists::order_of;
+use met_orders::compatible;
+use met_orders::fresh_keys;
+use met_orders::meets;
+use met_orders::normal_form;
 use plan::Distribution;
 use push_requirements::ParentRequirements;
 use push_requirements::requirements::keys_in;
@@ -73,7 +73,7 @@ fn sort_unasked(v: Visit, r: &[u8], own: &[u8]) -> Decision
         (unaskedOn p ks f (visitOf v) (told (now (own .entry)))) d) ⌝ }
 {
     let req = v.req;
-    let f = node_properties::fetch(r);
+    let f = node_fetches::fetch(r);
     let g = req.fetch;
     let below = ParentRequirements {
         order: known_order(own),
@@ -101,7 +101,7 @@ fn sort_unnecessary(v: Visit, r: &[u8], own: &[u8], a: &[u8], parent: Keys) -> D
         (unnecessaryOn p ks f (visitOf v) (told (now (own .entry))) (told (now (a .entry)))) d) ⌝ }
 {
     let req = v.req;
-    let f = node_properties::fetch(r);
+    let f = node_fetches::fetch(r);
     let g = req.fetch;
     let below = ParentRequirements {
         order: stricter(a, known_order(own), parent),
@@ -120,7 +120,7 @@ fn sort_replaced(v: Visit, r: &[u8], own: &[u8], a: &[u8], parent: Keys) -> Deci
     let req = v.req;
     let below = ParentRequirements {
         order: known_order(own),
-        fetch: node_properties::fetch(r),
+        fetch: node_fetches::fetch(r),
         distribution: Distribution::Unspecified,
     };
     let g = req.fetch;
@@ -144,7 +144,7 @@ fn sort_replaced_twice(v: Visit, r: &[u8], own: &[u8], a: &[u8], parent: Keys) -
         distribution: Distribution::Unspecified,
     };
     let order = keys_in(known_order(own));
-    let tops = merge_and_sort(a, new, g, order, node_properties::fetch(r));
+    let tops = merge_and_sort(a, new, g, order, node_fetches::fetch(r));
     removed(tops, below, false)
 }
 

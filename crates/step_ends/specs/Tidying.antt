@@ -12,7 +12,7 @@ use Rattle.arena.specs.Arena.{slotSize}
 use Rattle.arena.specs.declared.At.{At}
 use Rattle.plan_context.specs.View.{treeOf, Arena, Same, Grown}
 use Rattle.plan_context.specs.Laws.{fewer}
-use Rattle.plan_updates.specs.Copy.{Copies}
+use Rattle.plan_copies.specs.Copy.{Copies}
 
 abbrev pub tidyFrom : ℕ
 tidyFrom = 382

@@ -1,7 +1,7 @@
 // The end of a step: the nodes of the whole plan are counted (refusal 23), and what only steps needed is given back. And how a walk ends or stops.
 use arena::At;
 use plan_context::kept::nodes;
-use plan_updates::copying::copy;
+use plan_copies::copy;
 ghost use mathlib.Core.Path.{_≡_};
 ghost use Prim.Native.Nat.{_+_};
 ghost use Rattle.plan_context.specs.View.{treeOf};

@@ -10,7 +10,7 @@ use arena::record_at;
 use ensure_sorting::ensure_sorting;
 use parallelize_sorts::parallelize_sorts;
 use plan_context::kept::nodes;
-use plan_updates::putting::rebuilt;
+use plan_updates::rebuilt;
 use replace_with_order_preserving_variants::replace_with_order_preserving_variants;
 use step_ends::Stop;
 use step_ends::Walked;

@@ -1,15 +1,15 @@
 // utils.rs: sorts put above a node. Its tests of kinds (is_sort and the others) are node_properties'.
 use arena::At;
-use asked_facts::asked::fresh_keys;
-use asked_facts::asked::meets;
-use asked_facts::asked::several_streams;
+use asked_facts::several_streams;
 use key_lists::Keys;
+use met_orders::fresh_keys;
+use met_orders::meets;
 use new_records::merge_record;
 use new_records::sort_record;
 use plan::Distribution;
 use plan::Fetch;
 use plan_context::kept::row;
-use plan_updates::putting::put_over;
+use plan_updates::put_over;
 use wanted_inputs::is_single;
 ghost use mathlib.Core.Bool.{false};
 ghost use Prim.Native.Nat.{_+_};

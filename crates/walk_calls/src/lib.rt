@@ -1,11 +1,11 @@
 // The walks from the leaves up as calls: on the plan that was read, and its answer to the output.
 use call_parts::Called;
 use call_parts::has_partial_sort;
+use call_parts::stopped;
 use call_parts::write_out;
 use plan::Refusal;
 use plan_context::kept;
-use plan_context::settling::settle_all;
-use step_ends::Stop;
+use settling::settle_all;
 use step_ends::Walked;
 use transform_up::Walk;
 use transform_up::transform_up;
@@ -13,18 +13,8 @@ ghost use mathlib.Core.Path.{_≡_};
 ghost use lib.ListN.{length};
 ghost use Rattle.plan_context.specs.View.{treeOf};
 ghost use Rattle.plan_context.specs.Records.{planT};
-ghost use Rattle.call_parts.specs.Calls.{stoppedAs, CalledAs, Loads};
+ghost use Rattle.call_parts.specs.Calls.{CalledAs, Loads};
 ghost use Rattle.walk_calls.specs.Walking.{walkResult};
-
-// A walk that stopped has written nothing.
-fn stopped(s: Stop) -> Called
-    ensures { λ r. ⌜ r ≡ stoppedAs s ⌝ }
-{
-    match s {
-        Stop::TooManyNodes => Called::Done(plan::number(Refusal::TooManyNodes), false),
-        Stop::NoRoom => Called::NoRoom,
-    }
-}
 
 // The walk of the tree at h, and its answer to the output.
 pub fn walk_in(w: Walk, m: &mut [u8], u: usize, h: usize, out: &mut [u8], c: &mut [u8]) -> Called

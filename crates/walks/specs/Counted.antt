@@ -52,7 +52,7 @@ countUp step n (tree o c r) =
     bind (countUp step n c) (λ d m. stepped step o d m (λ t k. bind (countUp step k r) (λ s l. counted (plant t s) l)))
 
 -- ---- parents before children: one call of the helper with its calls to itself is a step (reading 4). The decisions of PushdownSorts say how many
--- nodes a visit's steps reach; that these are the Rust's steps is proved: SameAnswers
+-- nodes a visit's steps reach; that these are the Rust's steps is proved in crate push_literal: SameAnswers
 
 abbrev pub one : Bool → ℕ
 one true = 1

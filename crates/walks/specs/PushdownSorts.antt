@@ -1,7 +1,7 @@
 -- sort_pushdown.rs, second part, as a structural recursion, parents first: assign_initial_requirements, pushdown_sorts_helper, pushdown_sorts
 -- (reading 8). The helper's decision at a node says which nodes come on top, whether the node (a sort) goes, and what is required of its
 -- children; the visits of the nodes that a step adds, two at most, are written out in it. These are definitions.
--- That this is the Rust's transform_down is proved: PushdownSortsLiteral has the Rust's own form, and `accepted-is-literal` (SameAnswers) says
+-- That this is the Rust's transform_down is proved: crate push_literal has the Rust's own form, and `accepted-is-literal` (SameAnswers) says
 -- that the two answer the same, 23 and 25 included. So `peak` and `quiet`, by which Counted counts a visit's steps, need not be believed.
 use mathlib.Core.Bool.{Bool, true, false, cond, _||_}
 use mathlib.Core.List.{List, [], _++_}

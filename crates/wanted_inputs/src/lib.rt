@@ -1,8 +1,8 @@
 // What a node wants of its children (semantics, Properties): the order and the distribution, by its record.
 use byte_rows::wide;
+use key_list_algebra::column_set;
 use key_lists::Keys;
 use key_lists::Order;
-use key_lists::column_set;
 use key_lists::front;
 use key_lists::order_of;
 use plan::Distribution;
@@ -10,10 +10,10 @@ use plan::Kind;
 use record_fields::KIND;
 use record_fields::ROLE;
 use record_fields::TAIL;
-use record_fields::key_list;
 use record_fields::kind_of;
 use record_fields::preserves;
-use record_fields::right_key_list;
+use record_keys::key_list;
+use record_keys::right_key_list;
 ghost use mathlib.Core.Path.{_≡_};
 ghost use mathlib.Core.List.{[], _∷_};
 ghost use Prim.Native.Nat.{_≤_};

@@ -3,7 +3,7 @@ use native.Mathlib.Omega.{arith}
 use Rattle.plan_codec.specs.Reading.{reading}
 use Rattle.call_answers.specs.Answers.{afterReading}
 use Rattle.plan_calls.specs.Results.{resultOf}
-use Rattle.call_memory.specs.Memory.{done-answered, full-done}
+use Rattle.call_memory.specs.Memory.{zeros-are-memory, done-answered, full-done}
 use Rattle.call_memory.proofs.call_in_largest.Statement.{statement}
 use Rattle.call_memory.proofs.call_in_largest.Tie as tie
 
@@ -14,7 +14,8 @@ slice-aggregate-call-in-2 : tie.Need-slice-aggregate-call-in-2
 slice-aggregate-call-in-2 c = search needs
 
 call-in-requires : tie.Need-call-in-requires
-call-in-requires c κs = let s = c .before .before .before .before .before in let a = s .pre in record { room = omega arith; scratch = λ f. omega arith }
+call-in-requires c κs = let s = c .before .before .before .before .before in let a = s .pre in
+    zeros-are-memory (s .args .plan .now) 148224 24192 (omega arith) (λ f. omega arith)
 
 enum-known-r : tie.Need-enum-known-r
 enum-known-r c = search needs
@@ -37,7 +38,7 @@ same-length-2 c = search needs
 returns-2 : tie.Need-returns-2
 returns-2 c = let s = c .before .before .before .before .before .before .before .before .before .before .before .before .before in
     let y = c .before .before .before .before .before .before .before .call-in in let g = c .before .r .given in
-    done-answered (y .result) (afterReading (resultOf (s .args .k)) (reading (s .args .plan .now))) (s .args .out .now) (y .last .1 .1 .0) 148224 (g .0 .0)
+    done-answered (y .result) (afterReading (resultOf (s .args .k)) (reading (s .args .plan .now))) (s .args .out .now) (y .last .1 .1 .0) _ (g .0 .0)
     (g .0 .1 .0) (g .1) (y .ensures)
 
 pub call-in-largest-spec : {M : Type 1} → statement M

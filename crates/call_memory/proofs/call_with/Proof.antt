@@ -3,7 +3,7 @@ use native.Mathlib.Omega.{arith}
 use Rattle.plan_codec.specs.Reading.{reading}
 use Rattle.call_answers.specs.Answers.{afterReading}
 use Rattle.plan_calls.specs.Results.{resultOf}
-use Rattle.call_memory.specs.Memory.{not-full}
+use Rattle.call_memory.specs.Memory.{zeros-are-memory, not-full}
 use Rattle.call_memory.proofs.call_with.Statement.{statement}
 use Rattle.call_memory.proofs.call_with.Tie as tie
 
@@ -15,7 +15,7 @@ slice-aggregate-call-in-2 c = search needs
 
 call-in-requires : tie.Need-call-in-requires
 call-in-requires c κs = let s = c .before .before .before .before .before .before in let a = s .pre .0 in
-    record { room = omega arith; scratch = λ f. absurd (omega arith) }
+    zeros-are-memory (s .args .plan .now) 1344 1 (omega arith) (λ f. absurd (omega arith))
 
 same-length : tie.Need-same-length
 same-length c = search needs
@@ -33,7 +33,7 @@ slice-aggregate-call-in-4 c = search needs
 
 call-in-requires-2 : tie.Need-call-in-requires-2
 call-in-requires-2 c κs = let s = c .before .before .before .before .before .before .before in let a = s .pre .0 in
-    record { room = omega arith; scratch = λ f. absurd (omega arith) }
+    zeros-are-memory (s .args .plan .now) 4032 1 (omega arith) (λ f. absurd (omega arith))
 
 same-length-2 : tie.Need-same-length-2
 same-length-2 c = search needs
@@ -51,7 +51,7 @@ slice-aggregate-call-in-6 c = search needs
 
 call-in-requires-3 : tie.Need-call-in-requires-3
 call-in-requires-3 c κs = let s = c .before .before .before .before .before .before .before .before in let a = s .pre .0 in
-    record { room = omega arith; scratch = λ f. absurd (omega arith) }
+    zeros-are-memory (s .args .plan .now) 12096 1 (omega arith) (λ f. absurd (omega arith))
 
 same-length-3 : tie.Need-same-length-3
 same-length-3 c = search needs
@@ -69,7 +69,7 @@ slice-aggregate-call-in-8 c = search needs
 
 call-in-requires-4 : tie.Need-call-in-requires-4
 call-in-requires-4 c κs = let s = c .before .before .before .before .before .before .before .before .before in let a = s .pre .0 in
-    record { room = omega arith; scratch = λ f. absurd (omega arith) }
+    zeros-are-memory (s .args .plan .now) 24192 1 (omega arith) (λ f. absurd (omega arith))
 
 same-length-4 : tie.Need-same-length-4
 same-length-4 c = search needs
@@ -87,7 +87,7 @@ slice-aggregate-call-in-10 c = search needs
 
 call-in-requires-5 : tie.Need-call-in-requires-5
 call-in-requires-5 c κs = let s = c .before .before .before .before .before .before .before .before .before .before in let a = s .pre .0 in
-    record { room = omega arith; scratch = λ f. absurd (omega arith) }
+    zeros-are-memory (s .args .plan .now) 46080 1 (omega arith) (λ f. absurd (omega arith))
 
 same-length-5 : tie.Need-same-length-5
 same-length-5 c = search needs
@@ -105,7 +105,7 @@ slice-aggregate-call-in-12 c = search needs
 
 call-in-requires-6 : tie.Need-call-in-requires-6
 call-in-requires-6 c κs = let s = c .before .before .before .before .before .before .before .before .before .before in let a = s .pre .0 in
-    record { room = omega arith; scratch = λ f. absurd (omega arith) }
+    zeros-are-memory (s .args .plan .now) 73344 1 (omega arith) (λ f. absurd (omega arith))
 
 same-length-6 : tie.Need-same-length-6
 same-length-6 c = search needs

@@ -5,7 +5,7 @@ use mathlib.Core.List.{List, []}
 use Rattle.row_order.specs.Iso.{Key}
 use Rattle.semantics.specs.Facts as sem
 use Rattle.facts.specs.Known.{known, Says}
-use Rattle.join_facts.specs.Orders.{sides-placeable}
+use Rattle.join_facts.specs.Linking.{sides-placeable}
 use Rattle.join_facts.proofs.join_facts.Statement.{statement}
 use Rattle.join_facts.proofs.join_facts.Tie as tie
 

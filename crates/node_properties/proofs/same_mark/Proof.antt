@@ -1,6 +1,6 @@
 -- `node_properties::same_mark` meets its contract. Assumes nothing.
 use borrow.Author.Needs.{needs}
-use Rattle.node_properties.specs.Maintaining.{same-true}
+use Rattle.node_properties.specs.Partitionings.{same-true}
 use Rattle.node_properties.proofs.same_mark.Statement.{statement}
 use Rattle.node_properties.proofs.same_mark.Tie as tie
 

@@ -4,7 +4,7 @@ use mathlib.Core.Path.{sym, ap₂, _∙_}
 use mathlib.Core.Bool.{Bool·beq}
 use borrow.Author.Tests.{not-true, not-false}
 use Rattle.walks.specs.ParallelizeSorts.{eqKeys}
-use Rattle.node_properties.specs.Maintaining.{first-unequal, second-unequal, streams-differ, streams-equal}
+use Rattle.node_properties.specs.Partitionings.{first-unequal, second-unequal, streams-differ, streams-equal}
 use Rattle.node_properties.proofs.same_partitioning.Statement.{statement}
 use Rattle.node_properties.proofs.same_partitioning.Tie as tie
 

@@ -2,7 +2,7 @@ use borrow.Author.Needs.{needs}
 use native.Mathlib.Omega.{arith}
 use mathlib.Core.Path.{sym, _∙_}
 use Rattle.plan_arena.specs.ReadFile.{is-accepted}
-use Rattle.plan_context.specs.Reading.{loaded-all}
+use Rattle.settling.specs.Reading.{loaded-all}
 use Rattle.plan_listing.proofs.show_in.Statement.{statement}
 use Rattle.plan_listing.proofs.show_in.Tie as tie
 use Rattle.plan.proofs.number.Reads as number-reads

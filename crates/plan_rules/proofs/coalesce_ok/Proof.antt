@@ -4,7 +4,7 @@ use mathlib.Core.Bool.{false}
 use mathlib.Core.Path.{refl, _∙_}
 use Rattle.plan_format.specs.Fields.{fieldsOf}
 use Rattle.plan_rules.specs.Rules.{rules, no-count}
-use Rattle.record_parts.specs.Slots.{no-keys}
+use Rattle.record_lists.specs.Slots.{no-keys}
 use Rattle.plan_rules.proofs.coalesce_ok.Statement.{statement}
 use Rattle.plan_rules.proofs.coalesce_ok.Tie as tie
 

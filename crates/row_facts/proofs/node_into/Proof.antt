@@ -14,7 +14,7 @@ use Rattle.node_facts.specs.Ready.{kidsOf}
 use Rattle.node_facts.specs.Rules.{few, small, unary}
 use Rattle.node_facts.specs.Joins.{joinable}
 use Rattle.node_facts.specs.Kinds.{projected-below, sorted-says, repartition-says, sort-merge-says, hash-says}
-use Rattle.row_facts.specs.Rows.{kept-says}
+use Rattle.fact_slots.specs.Copies.{kept-says}
 use Rattle.row_facts.proofs.node_into.Statement.{statement}
 use Rattle.row_facts.proofs.node_into.Tie as tie
 

@@ -5,7 +5,7 @@ use Rattle.step_ends.proofs.tidied.Statement.{statement}
 use Rattle.step_ends.proofs.tidied.Tie as tie
 use Rattle.step_ends.proofs.tidied.Reads as reads
 use Rattle.step_ends.proofs.tidied.Lts as lts
-use Rattle.plan_updates.proofs.copying.copy.Reads as copy-reads
+use Rattle.plan_copies.proofs.copy.Reads as copy-reads
 
 returns : tie.Need-returns
 returns c = let s = c .before .before .before .before in let m = s .args .m .now in let v = s .args .v in let a = s .args .s in let k = s .args .c .now in

@@ -11,7 +11,7 @@ use Rattle.transform_up.proofs.finish.Reads as reads
 use Rattle.transform_up.proofs.finish.Lts as lts
 use Rattle.arena.proofs.read64.Reads as read64-reads
 use Rattle.arena.proofs.record_at.Reads as record-at-reads
-use Rattle.plan_updates.proofs.putting.rebuilt.Reads as rebuilt-reads
+use Rattle.plan_updates.proofs.rebuilt.Reads as rebuilt-reads
 use Rattle.step_ends.proofs.has_room.Reads as has-room-reads
 use Rattle.transform_up.proofs.step.Reads as step-reads
 use Rattle.step_ends.proofs.end_step.Reads as end-step-reads

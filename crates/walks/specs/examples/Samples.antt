@@ -27,6 +27,13 @@ endlessSrc n ks = tree (sourceOf 3 n 0 ks true) none none
 abbrev pub pair : ℕ → List Key → ℕ → Plan
 pair n ks s = tree (sourceOf 2 n s ks false) none none
 
+-- column 1, descending, nulls first; a source that knows it descending, nulls last
+abbrev pub turned : Key
+turned = record { col = 1; desc = true; first = true }
+
+abbrev pub falling : Plan
+falling = pair 1 (record { col = 1; desc = true; first = false } ∷ []) 1
+
 abbrev pub on : Op → Plan → Plan
 on o c = tree o c none
 

@@ -8,7 +8,7 @@ use borrow.Author.Tests.{not-true, not-false}
 use Rattle.row_order.specs.Iso.{Key}
 use Rattle.semantics.specs.Properties.{keptSide}
 use Rattle.key_lists.specs.Keys.{keysOf, Ordered}
-use Rattle.join_sides.specs.Moving.{from-all}
+use Rattle.moved_requirements.specs.Moving.{from-all}
 use Rattle.push_requirements.specs.Answers.{go-stop, go-on, right-only, and-no, and-so, and-last}
 use Rattle.semantics.specs.Facts as sem
 use Rattle.push_requirements.proofs.joins.handle_hash_join.Statement.{statement}

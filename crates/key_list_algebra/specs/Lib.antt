@@ -1,0 +1,4 @@
+pub mod Offsets
+pub mod Comparing
+pub mod Normalising
+pub mod Sets

@@ -1,0 +1,3 @@
+pub mod OtherKinds
+pub mod Settling
+pub mod Reading
