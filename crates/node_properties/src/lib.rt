@@ -83,7 +83,8 @@ pub fn keys(r: &[u8]) -> Keys
     key_list(r)
 }
 
-fn fetch_from(n: u32) -> Fetch
+// 4294967295 stands for none.
+pub fn fetch_from(n: u32) -> Fetch
     ensures { λ f. ⌜ f ≡ fetchOf n ⌝ }
 {
     if n == 4294967295 {

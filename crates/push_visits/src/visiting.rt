@@ -3,6 +3,7 @@ use arena::child;
 use arena::child_count;
 use arena::kept_at;
 use arena::record_at;
+use node_properties::fetch_from;
 use plan::Fetch;
 use plan_context::kept::summary;
 use sort_pushdown::Decision;
@@ -12,7 +13,6 @@ use tree_summary::Summary;
 ghost use mathlib.Core.Path.{_≡_};
 ghost use Prim.Native.Nat.{ℕ, _*_, _<_, _≤_};
 ghost use Rattle.arena.specs.Arena.{index};
-ghost use Rattle.plan_codec.specs.Decode.{fetchOf};
 ghost use Rattle.walks.specs.Marks.{fetchT};
 ghost use Rattle.walks.specs.PushdownSorts.{pushdownSortsHelper};
 ghost use Rattle.plan_context.specs.View.{treeOf, Arena, Here};
@@ -29,17 +29,6 @@ pub fn child_row(a: &[u8], ua: usize, i: usize, j: usize) -> &[u8]
         return kept_at(a, k / 2);
     }
     kept_at(a, i)
-}
-
-// 4294967295 stands for none.
-fn fetch_from(n: u32) -> Fetch
-    ensures { λ f. ⌜ f ≡ fetchOf n ⌝ }
-{
-    if n == 4294967295 {
-        Fetch::Unlimited
-    } else {
-        Fetch::AtMost(n)
-    }
 }
 
 // The fetch of the tree at h: for a projection its input's.

@@ -5,8 +5,8 @@ use Rattle.plan_listing.proofs.list.Tie as tie
 use Rattle.plan_listing.proofs.list.Reads as reads
 use Rattle.plan_listing.proofs.list.Lts as lts
 use Rattle.plan_listing.proofs.next_depth.Reads as next-depth-reads
-use Rattle.plan_listing.proofs.put.Reads as put-reads
-use Rattle.plan_listing.proofs.put_node.Reads as put-node-reads
+use Rattle.node_lines.proofs.put.Reads as put-reads
+use Rattle.node_lines.proofs.put_node.Reads as put-node-reads
 
 abbrev Inv-loop : tie.InvT-loop
 Inv-loop m u left₀ depth₀ i₀ left depth i = Unit {0}

@@ -1,12 +1,12 @@
 use Prim.Native.Nat.{_-_}
 use native.Mathlib.Omega.{arith}
 use borrow.Author.Needs.{needs}
-use Rattle.plan_listing.proofs.put_keys.Statement.{statement}
-use Rattle.plan_listing.proofs.put_keys.Tie as tie
-use Rattle.plan_listing.proofs.put_keys.Reads as reads
-use Rattle.plan_listing.proofs.put_keys.Lts as lts
-use Rattle.plan_listing.proofs.put.Reads as put-reads
-use Rattle.plan_listing.proofs.put_key_at.Reads as put-key-at-reads
+use Rattle.node_lines.proofs.put_keys.Statement.{statement}
+use Rattle.node_lines.proofs.put_keys.Tie as tie
+use Rattle.node_lines.proofs.put_keys.Reads as reads
+use Rattle.node_lines.proofs.put_keys.Lts as lts
+use Rattle.node_lines.proofs.put.Reads as put-reads
+use Rattle.node_lines.proofs.put_key_at.Reads as put-key-at-reads
 
 abbrev Inv-loop : tie.InvT-loop
 Inv-loop r n i₀ i = Unit {0}
