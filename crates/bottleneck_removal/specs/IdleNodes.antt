@@ -41,6 +41,7 @@ use Rattle.plan_updates.specs.Putting.{put-over}
 use Rattle.bottleneck_removal.specs.Shown.{view, node-proper, tree-of, kid-asks, kid-low, kid-older}
 use Rattle.bottleneck_removal.specs.Skipping.{Skips}
 use Rattle.bottleneck_removal.specs.Sizes.{lift-size}
+use Rattle.scan.specs.Below.{and-true, and-false}
 
 -- ---- the first child
 
@@ -64,11 +65,7 @@ module _ (m : List ℕ) (i : ℕ) (a : Arena m (i + 1)) (o : Op) where
   no-first e = let n = view m i a .count in sym (ap (λ x. x && not (singles o 0)) (first-none bottleneck m hs (omega arith)))
 
   pub single-first : singles o 0 ≡ true → false ≡ firstIs bottleneck (forest m (slot m i .kids)) && not (singles o 0)
-  single-first e = sym (ap (λ x. firstIs bottleneck (forest m hs) && not x) e ∙ and-no (firstIs bottleneck (forest m hs)))
-    where
-      and-no : (b : Bool) → b && false ≡ false
-      and-no true = refl
-      and-no false = refl
+  single-first e = sym (ap (λ x. firstIs bottleneck (forest m hs) && not x) e ∙ and-false (firstIs bottleneck (forest m hs)) false refl)
 
   module _ (n : children (slot m i .rec) ≡ 0 → ⊥) where
     pub some-kid : 0 < length (slot m i .kids)
@@ -85,12 +82,8 @@ module _ (m : List ℕ) (i : ℕ) (a : Arena m (i + 1)) (o : Op) where
     pub looks-first : singles o 0 ≡ false → (k : ℕ) → k ≡ getD (slot m i .kids) 0 0 → (b : Bool) → b ≡ bottleneck (decode (slot m (index k) .rec))
         → b ≡ firstIs bottleneck (forest m (slot m i .kids)) && not (singles o 0)
     looks-first s k e b q =
-        q ∙ ap bottleneck (sym (first-op k e)) ∙ sym (first-is bottleneck m hs some-kid) ∙ and-yes (firstIs bottleneck (forest m hs))
+        q ∙ ap bottleneck (sym (first-op k e)) ∙ sym (first-is bottleneck m hs some-kid) ∙ sym (and-true (firstIs bottleneck (forest m hs)))
         ∙ ap (λ x. firstIs bottleneck (forest m hs) && not x) (sym s)
-      where
-        and-yes : (b : Bool) → b ≡ b && true
-        and-yes true = refl
-        and-yes false = refl
 
 -- ---- the children's handles
 

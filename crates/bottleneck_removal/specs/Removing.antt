@@ -23,7 +23,8 @@ use Rattle.walks.specs.ParallelizeSorts.{bottleneck, firstIs, withoutSelf, lift
 use Rattle.plan_context.specs.View.{treeOf, forest, mostSlots, Arena, Grown, Puts}
 use Rattle.plan_updates.specs.Kids.{Kids, kids-none, kids-more, kids-forest}
 use Rattle.plan_updates.specs.From.{from, from-first, from-next}
-use Rattle.plan_updates.specs.ChildLoop.{drop-size, half, up-to, view, whole, kid-below, split, counted, new-below, new-kids}
+use Rattle.plan_context.specs.Summaries.{drop-size}
+use Rattle.plan_updates.specs.ChildLoop.{half, up-to, view, whole, kid-below, split, counted, new-below, new-kids}
 use Rattle.plan_context.specs.Laws.{same-trans}
 use Rattle.plan_context.specs.Nodes.{Seen}
 use Rattle.plan_updates.specs.Opening.{grown-none, grown-more}

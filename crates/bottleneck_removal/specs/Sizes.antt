@@ -7,15 +7,12 @@ use Rattle.plan.specs.Op.{Op}
 use Rattle.semantics.specs.Properties.{singles}
 use Rattle.walks.specs.Marks.{Marked, Tree, at, sizeT, kid0, rebuild, shape}
 use Rattle.walks.specs.ParallelizeSorts.{bottleneck, firstIs, idle, liftFirst, removeBottleneckInSubplanImpl, firstBottleneckRemoved, samePartitioning, withoutIdle, skipSame}
-
-cond-few : (n : ℕ) (x : Bool) (t u : Tree) → sizeT t ≤ n → sizeT u ≤ n → sizeT (cond x t u) ≤ n
-cond-few n true t u h k = h
-cond-few n false t u h k = k
+use Rattle.walks.specs.theorems.calls.Counts.{cond-le}
 
 pub skip-size : (o : Op) (d : Tree) (c : Forest Marked) → size c ≤ size (d .kids) → sizeT (skipSame o d c) ≤ sizeT d
 skip-size o d none h = omega arith
 skip-size o d (tree m c r) h = let x = skip-size o (at m c) c (omega arith) in
-    cond-few (sizeT d) (samePartitioning o (m .op)) (skipSame o (at m c) c) (at m c) (omega arith) (omega arith)
+    cond-le (sizeT d) (samePartitioning o (m .op)) (skipSame o (at m c) c) (at m c) (omega arith) (omega arith)
 
 pub lift-size : (o : Op) (c : Forest Marked) → size (liftFirst o c) ≤ size c
 lift-size o none = omega arith
@@ -29,7 +26,7 @@ first-removed-size x o c d h = go (firstIs bottleneck c && x)
     go false = h
 
 idle-size : (m : Marked) (d : Forest Marked) → sizeT (withoutIdle m d) ≤ suc (size d)
-idle-size m d = cond-few (suc (size d)) (idle (shape (m .op)) (m .op) d) (kid0 (rebuild (m .op) (m .mark) d) d) (rebuild (m .op) (m .mark) d) (first d)
+idle-size m d = cond-le (suc (size d)) (idle (shape (m .op)) (m .op) d) (kid0 (rebuild (m .op) (m .mark) d) d) (rebuild (m .op) (m .mark) d) (first d)
     (omega arith)
   where
     first : (e : Forest Marked) → sizeT (kid0 (rebuild (m .op) (m .mark) e) e) ≤ suc (size e)
@@ -42,7 +39,7 @@ pub one-size : (q : Bool) (m : Marked) (c d : Forest Marked) → size d ≤ size
 one-size q m c d h =
     let x = idle-size m (firstBottleneckRemoved (not (singles (m .op) 0)) (m .op) c d) in
     let y = first-removed-size (not (singles (m .op) 0)) (m .op) c d h in
-    cond-few (suc (size c)) (m .mark && q) (withoutIdle m (firstBottleneckRemoved (not (singles (m .op) 0)) (m .op) c d)) (at m c) (omega arith)
+    cond-le (suc (size c)) (m .mark && q) (withoutIdle m (firstBottleneckRemoved (not (singles (m .op) 0)) (m .op) c d)) (at m c) (omega arith)
     (omega arith)
 
 pub each-size : (q : ℕ → Bool) (c : Forest Marked) → size (removeBottleneckInSubplanImpl q c) ≤ size c

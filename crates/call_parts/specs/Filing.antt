@@ -20,7 +20,7 @@ use Rattle.plan_codec.specs.Trees.{recorded, nodes-recorded}
 use Rattle.plan_codec.specs.Writing.{fileOfPlan, recordsOf}
 use Rattle.semantics.specs.Facts.{facts}
 use Rattle.walks.specs.Marks.{Tree, strip, opT, sizeT}
-use Rattle.walks.specs.theorems.common.Trees.{Ok}
+use Rattle.walks.specs.theorems.common.Trees.{Ok, strip-size}
 use Rattle.arena.specs.Arena as records
 use Rattle.arena.specs.Arena.{index, slot, held, at, treeAt, Below, Good}
 use Rattle.arena.specs.Laws.{at-new, at-old, length-trees}
@@ -30,7 +30,6 @@ use Rattle.plan_context.specs.View.{treeIn, treeOf, forest, ProperSlot, Arena}
 use Rattle.plan_context.specs.Nodes.{counts-of, seen}
 use Rattle.plan_context.specs.Records.{planT}
 use Rattle.settling.specs.Reading.{Loaded}
-use Rattle.plan_context.specs.Facts.{size-strip}
 use Rattle.call_answers.specs.Answers.{gives, refusalIn, outputIn}
 
 pub arena-loaded : (m : List ℕ) (u : ℕ) → Arena m u → Loaded m u
@@ -124,7 +123,7 @@ module _ (m : List ℕ) (u h : ℕ) (a : Loaded m u) (l : h < 2 * u) (out : List
   file-is = ap fileOfBytes rows-are
 
   tree-size : size (treeAt (held m u) h) ≡ sizeT (treeOf m h)
-  tree-size = let x = ap size tree-is in let y = size-recorded (planT (treeOf m h)) in let z = size-strip (treeOf m h .kids) in omega arith
+  tree-size = let x = ap size tree-is in let y = size-recorded (planT (treeOf m h)) in let z = strip-size (treeOf m h .kids) in omega arith
 
   pub flattens : sizeT (treeOf m h) ≤ 126 → Flattens m u h 8064
   flattens f = let z = tree-size in record { slots = a .slots; good = good m u (a .proper); here = l; few = omega arith; fits = omega arith }

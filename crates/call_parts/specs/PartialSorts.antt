@@ -19,8 +19,9 @@ use Rattle.plan_context.specs.Nodes.{Seen, seen}
 use Rattle.settling.specs.Reading.{Loaded}
 use Rattle.record_fields.specs.Encoded.{code-byte}
 use Rattle.plan.specs.Forest.{size}
-use Rattle.plan_context.specs.Facts.{size-strip}
 use Rattle.plan_context.specs.Records.{planT}
+use Rattle.scan.specs.Below.{or-false}
+use Rattle.walks.specs.theorems.common.Trees.{strip-size}
 
 abbrev pub partialT : Tree → Bool
 partialT t = eqb (code (opT t)) 14 || hasPartialSort (strip (t .kids))
@@ -92,11 +93,7 @@ module _ (m : List ℕ) (u i : ℕ) (a : Loaded m u) (h : i < u) where
 -- ---- of the plan
 
 pub plan-size : (t : Tree) → size (planT t) ≡ sizeT t
-plan-size t = let x = size-strip (t .kids) in omega arith
+plan-size t = let x = strip-size (t .kids) in omega arith
 
 pub partial-plan : (t : Tree) → hasPartialSort (planT t) ≡ partialT t
 partial-plan t = ap (λ b. eqb (code (opT t)) 14 || b) (or-false (hasPartialSort (strip (t .kids))))
-  where
-    or-false : (b : Bool) → b || false ≡ b
-    or-false true = refl
-    or-false false = refl

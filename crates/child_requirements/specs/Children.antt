@@ -30,21 +30,18 @@ use Rattle.walks.specs.theorems.common.Keeps.{remark-same}
 use Rattle.push_requirements.specs.declared.Pushed.{Pushed}
 use Rattle.push_requirements.specs.Pushing.{HandsOn, SeenNode}
 use Rattle.push_requirements.specs.Answers.{none-in, by-is, by-some}
+use Rattle.scan.specs.Below.{or-false}
 
 -- ---- pushdown_would_violate_requirements, of one child
 
-or-none : (b : Bool) → b || false ≡ b
-or-none true = refl
-or-none false = refl
-
 pub violates-none : (n : Op) (ps : List Key) (o : Order) → Ordered (wanted n 0) o → o ≡ Unordered → false ≡ walk.pushdownWouldViolateRequirements n 1 ps
-violates-none n ps o h e = sym (or-none _ ∙ ap (λ b. not b && walk.noneEqual (wanted n 0) ps) (none-in (wanted n 0) o h e))
+violates-none n ps o h e = sym (or-false _ ∙ ap (λ b. not b && walk.noneEqual (wanted n 0) ps) (none-in (wanted n 0) o h e))
 
 pub violates-some : (n : Op) (ps : List Key) (o : Order) (k : Keys) → Ordered (wanted n 0) o → o ≡ By k → (x : Bool) → x ≡ walk.noneEqual (keysOf k) ps
     → x ≡ walk.pushdownWouldViolateRequirements n 1 ps
 violates-some n ps o k h e x d =
     d ∙ ap (λ l. walk.noneEqual l ps) (by-is (wanted n 0) o k h e)
-    ∙ sym (or-none _ ∙ ap (λ b. not b && walk.noneEqual (wanted n 0) ps) (by-some (wanted n 0) o k h e))
+    ∙ sym (or-false _ ∙ ap (λ b. not b && walk.noneEqual (wanted n 0) ps) (by-some (wanted n 0) o k h e))
 
 -- ---- the branches by kind
 

@@ -1,4 +1,4 @@
--- Beyond the demand: what keeps the order check. Parallelizing and partial sorting do; order-preserving and push do not (walks: Examples).
+-- Beyond the demand: what keeps the order check. Parallelizing and partial sorting do; order-preserving and push do not (walks: examples/Worked).
 -- Definitions: Plan, wellFormed (plan); check (semantics); parallelized, partiallySorted (walks).
 use mathlib.Core.Path.{_≡_, sym, _∙_, subst}
 use mathlib.Core.Bool.{true}

@@ -5,7 +5,7 @@ use mathlib.Core.List.{List, [], _∷_, map}
 use Prim.Native.Nat.{ℕ, zero, suc, _+_, _*_, _≤_, _<_}
 use native.Mathlib.Omega.{arith}
 use native.Mathlib.Numerals.{add-one}
-use lib.Dec.{eqb, ltb}
+use lib.Dec.{ltb}
 use lib.ListN.{length, getD, take, drop, set}
 use lib.Seq.{drop-cons}
 use Rattle.row_order.specs.Iso.{Key}
@@ -13,13 +13,11 @@ use Rattle.row_order.specs.Lists.{All}
 use Rattle.scan.specs.Below.{and-left, and-right}
 use Rattle.plan.specs.Forest.{Forest, none, tree, roots, size}
 use Rattle.plan.specs.Op.{Op}
-use Rattle.plan.specs.Numbers.{code}
-use Rattle.plan.specs.WellFormed.{fetchOk, nodeOk}
+use Rattle.plan.specs.WellFormed.{nodeOk}
 use Rattle.plan.specs.declared.Fetch.{Fetch}
-use Rattle.plan.specs.declared.Fetch.the-variants.{Unlimited}
 use Rattle.plan_codec.specs.Decode.{decode}
 use Rattle.semantics.specs.Facts.{Facts, isNil, met, nothing, knownOrder}
-use Rattle.semantics.specs.Properties.{freshKeys, wanted, maintains, singles, cuts}
+use Rattle.semantics.specs.Properties.{freshKeys, wanted, maintains, singles}
 use Rattle.key_lists.specs.Keys.{orderOf, Ordered, Real}
 use Rattle.key_lists.specs.declared.Order.{Order}
 use Rattle.arena.specs.Arena.{slotSize, index, slot}
@@ -30,7 +28,7 @@ use Rattle.walks.specs.theorems.common.Base.{blank-widths}
 use Rattle.walks.specs.theorems.common.Trees.{OkT, ok-fit}
 use Rattle.walks.specs.Utils.{newSort, addSortAbove}
 use Rattle.walks.specs.theorems.common.Keys.{keysOk, keys-of}
-use Rattle.walks.specs.theorems.common.NewNodes.{wanted-fits, wantsFit, node-fetch}
+use Rattle.walks.specs.theorems.common.NewNodes.{wanted-fits, wantsFit}
 use Rattle.walks.specs.OutputRequirements.{outputFetch}
 use Rattle.walks.specs.EnsureSorting.{updateSortCtxChildrenData, updateChildToRemoveUnnecessarySort, ensureChild, ensureEach, ensuredKids, afterLoop, finish}
 use Rattle.walks.specs.theorems.ensure.Kept.{ensureEach-kept, output-ok}
@@ -39,7 +37,8 @@ use Rattle.plan_context.specs.Laws.{facts-at, length-facts, same-trans}
 use Rattle.plan_context.specs.Nodes.{Seen}
 use Rattle.plan_updates.specs.Kids.{Kids, kids-none, kids-more, kids-forest}
 use Rattle.plan_updates.specs.From.{from, from-first, from-next}
-use Rattle.plan_updates.specs.ChildLoop.{drop-size, half, view, same-slot, same-tree, kid-below, kid-same, split, counted, new-below, new-kids}
+use Rattle.plan_context.specs.Summaries.{drop-size}
+use Rattle.plan_updates.specs.ChildLoop.{half, view, same-slot, same-tree, kid-below, kid-same, split, counted, new-below, new-kids}
 use Rattle.utils.specs.Sorting.{Sortable}
 use Rattle.sort_connection.specs.Standing.{Standing, tree-is}
 use Rattle.sort_connection.specs.Connection.{count-roots}

@@ -8,7 +8,7 @@ use native.Mathlib.Numerals.{add-one}
 use borrow.Author.Tests.{eq-eqb, ne-eqb}
 use lib.Dec.{eqb}
 use lib.ListN.{length, getD, take, set, replicate, length-set}
-use lib.Seq.{take-suc, take-suc-set}
+use lib.Seq.{take-suc, take-suc-set, take-all}
 use Rattle.plan.specs.Forest.{none, tree, roots, size}
 use Rattle.plan.specs.Op.{Op, source, filter, projection, union, repartition, coalesce, sortOp, mergeOp, globalLimit, localLimit, sortMergeJoin, hashJoin, outputRequirement, partialSort}
 use Rattle.plan.specs.Numbers.{code}
@@ -238,12 +238,8 @@ copied-more ks j out c h l =
 pub copied-all : (ks : List ℕ) (j : ℕ) (out : List ℕ) → KeysCopied ks j out → length ks ≤ j → KeysCopied ks (length ks) out
 copied-all ks j out c h = let l = c .low in subst (λ i. KeysCopied ks i out) (omega arith) c
 
-take-all : (l : List ℕ) → take (length l) l ≡ l
-take-all [] = refl
-take-all (x ∷ l) = ap (λ r. x ∷ r) (take-all l)
-
 copied-is : (ks out : List ℕ) → KeysCopied ks (length ks) out → take (length ks) out ≡ ks
-copied-is ks out c = c .is ∙ take-all ks
+copied-is ks out c = c .is ∙ take-all (length ks) ks (omega arith)
 
 module _ (b : List ℕ) (u : ℕ) (r ks : List ℕ) (i : ℕ) (out : List ℕ) (c : KeysCopied ks (length ks) out) where
   pub copied-opened : Opened b u r ks i → Opened b u r (take (length ks) out) i

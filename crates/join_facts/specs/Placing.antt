@@ -15,10 +15,7 @@ use Rattle.facts.specs.declared.Facts.{Facts as Coded}
 use Rattle.facts.specs.Known.{known, Coherent, Says}
 use Rattle.facts.specs.Reading.{classes, constants, cl-is, own-order}
 use Rattle.facts.specs.Saying.{says}
-
-and-none : (a : Bool) → a && false ≡ false
-and-none true = refl
-and-none false = refl
+use Rattle.scan.specs.Below.{and-false, or-false}
 
 module _ (f : Coded) (h : Coherent f) where
   -- each class is no higher than its column
@@ -39,7 +36,7 @@ module _ (f : Coded) (h : Coherent f) where
       where
         go : (b : Bool) → ltb c (f .width) ≡ b → bit (f .consts) c ≡ ltb c (f .width + n) && (b && isC (known f) c)
         go true e = rw (lt-ltb c (f .width + n) (let m = ltb-true c (f .width) e in omega arith)) (sym (constants f h c))
-        go false e = h .none c (ltb-false c (f .width) e) ∙ sym (and-none (ltb c (f .width + n)))
+        go false e = h .none c (ltb-false c (f .width) e) ∙ sym (and-false (ltb c (f .width + n)) false refl)
 
     pub says-placed : Says (placed (known f) n) (record { width = f .width + n; streams = f .streams; consts = f .consts; low = f .low; order = f .order })
     says-placed =
@@ -60,7 +57,7 @@ module _ (f : Coded) (h : Coherent f) where
         go true x q y = rw (lt-ltb c 32 (let m = ltb-true c (w + f .width) x in omega arith))
         go false x q y =
             let m = ltb-false c (w + f .width) x in
-            rw (h .none (c - w) (omega arith), and-none (leb w c)) (and-none (ltb c 32))
+            rw (h .none (c - w) (omega arith), and-false (leb w c) false refl) (and-false (ltb c 32) false refl)
 
     pub says-shifted : (left t : List ℕ) (s : ℕ) → Filled 0 (λ c. c) left → Filled (w + f .width) (besideLow left (f .low) w) t
         → Holding (λ c. ltb c 32 && (leb w c && bit (f .consts) (c - w))) s
@@ -100,9 +97,5 @@ module _ (a b : Coded) (f : Coherent a) (g : Coherent b) (l : a .width + b .widt
           && cond x (isC (known a) c) (isC (known b) (c - a .width))
       held c true x =
           let k = ltb-true c (a .width) x in
-          rw (lt-leb (a .width) c k, lt-ltb c (a .width + b .width) (omega arith), constants a f c) (or-none (bit (a .consts) c))
-        where
-          or-none : (z : Bool) → z || false ≡ z
-          or-none true = refl
-          or-none false = refl
+          rw (lt-leb (a .width) c k, lt-ltb c (a .width + b .width) (omega arith), constants a f c) (or-false (bit (a .consts) c))
       held c false x = let k = ltb-false c (a .width) x in rw (f .none c k, le-leb (a .width) c k)

@@ -1,21 +1,20 @@
 -- Columns moved back by an offset, signed and with its range shown, or through a projection; keys compared. Assumes nothing.
 use mathlib.Core.Path.{_≡_, refl, ap, ap₂, _∙_, subst⁻¹}
-use mathlib.Core.Bool.{Bool, true, false, not, _&&_}
+use mathlib.Core.Bool.{Bool, true, false}
 use mathlib.Core.List.{List, [], _∷_, map}
 use Prim.Native.Nat.{ℕ, zero, suc, _+_, _-_, _/_, _≤_, _<_}
 use native.Mathlib.Omega.{arith}
 use lib.Dec.{leb, le→leb, lt→ltb}
-use lib.IntN.{ℤ, pos, negsuc, negℤ, natAbs, _+ℤ_, _-ℤ_, +ℤ-idl}
+use lib.IntN.{ℤ, pos, negℤ, natAbs, _+ℤ_, _-ℤ_, +ℤ-idl}
 use lib.ListN.{getD}
 use mir.Syntax.{w64}
 use mir.Val.{SFits, toZ}
 use mir.ValLaws.{toZ-ofZ}
-use borrow.Author.Tests.{le-ltb, leb-true}
+use borrow.Author.Tests.{le-ltb}
 use Rattle.row_order.specs.Iso.{Key}
 use Rattle.row_order.specs.Packed.{keyOf}
 use Rattle.row_order.specs.Lists.{All, all-nil, all-cons}
 use Rattle.plan.specs.WellFormed.{every}
-use Rattle.semantics.specs.theorems.common.Bools.{and-left, and-right}
 use Rattle.semantics.specs.Facts.{withColumn, eqKey}
 use Rattle.key_lists.specs.declared.Keys.{Keys}
 use Rattle.key_lists.specs.Keys.{keysIn, keysOf, InRange, Movable, movedBy, Longer}
@@ -58,12 +57,6 @@ module _ (off n w : ℕ) where
 
   pub from-more : 0 < n → leb off (keyOf w .col) ≡ true → allFrom off (n - 1) (w / 256) ≡ allFrom off n w
   from-more h e = rw (next n w h, e)
-
-pub from-all : (off : ℕ) (ks : List Key) → every (λ k. leb off (k .col)) ks ≡ true → All (λ k. off ≤ k .col) ks
-from-all off [] e = all-nil
-from-all off (k ∷ ks) e =
-    all-cons (leb-true off (k .col) (and-left (leb off (k .col)) (every (λ k. leb off (k .col)) ks) e))
-    (from-all off ks (and-right (leb off (k .col)) (every (λ k. leb off (k .col)) ks) e))
 
 -- ---- through a projection
 

@@ -1,19 +1,17 @@
 -- The bytes of new nodes are their operators' records. Assumes nothing.
-use mathlib.Core.Path.{_≡_, refl, sym, ap, ap₂, _∙_, subst}
+use mathlib.Core.Path.{_≡_, refl, sym, ap, ap₂, _∙_}
 use mathlib.Core.Bool.{Bool, true, false}
-use mathlib.Core.List.{List, [], _∷_, _++_, map, append-assoc}
-use Prim.Native.Nat.{ℕ, zero, suc, _+_, _-_, _*_, _/_, _%_, _^_, _≤_, _<_}
+use mathlib.Core.List.{List, [], _∷_, _++_, append-assoc}
+use Prim.Native.Nat.{ℕ, zero, suc, _+_, _-_, _*_, _/_, _%_, _≤_, _<_}
 use native.Mathlib.Omega.{arith}
-use native.Mathlib.Numerals.{add-one}
 use lib.Dec.{eqb}
-use lib.ListN.{length, getD, take, drop, set, replicate, length-append}
+use lib.ListN.{length, getD, drop, set, replicate, length-append}
 use lib.Seq.{take-at, drop-at}
 use Rattle.row_order.specs.Iso.{Key}
-use Rattle.row_order.specs.Order.{no-bool}
-use Rattle.row_order.specs.Packed.{bit, keyOf}
+use Rattle.row_order.specs.Packed.{keyOf}
 use Rattle.scan.specs.Parts.{splice, splice-length}
-use Rattle.plan.specs.Op.{Op, source, filter, projection, union, repartition, coalesce, sortOp, mergeOp, globalLimit, localLimit, sortMergeJoin, hashJoin, outputRequirement, partialSort, kind}
-use Rattle.plan.specs.Numbers.{kindNumber, code}
+use Rattle.plan.specs.Op.{Op, source, filter, projection, union, repartition, coalesce, sortOp, mergeOp, globalLimit, localLimit, sortMergeJoin, hashJoin, outputRequirement, partialSort}
+use Rattle.plan.specs.Numbers.{code}
 use Rattle.plan.specs.declared.Fetch.{Fetch}
 use Rattle.semantics.specs.Properties.{remark}
 use Rattle.scan.specs.Bytes.{oneIf}
@@ -21,11 +19,11 @@ use Rattle.plan_codec.specs.Encode.{fill, marksByte, keyBytes, optionsByte, fet
 use Rattle.plan_codec.specs.Decode.{decode}
 use Rattle.plan_codec.specs.Fill.{length-fill}
 use Rattle.plan_codec.specs.Keys.{length-bytes}
-use Rattle.plan_codec.specs.ToRecord.{kind-of}
 use Rattle.key_lists.specs.declared.Keys.{Keys}
 use Rattle.key_lists.specs.Keys.{keysIn, keysOf}
 use Rattle.key_lists.specs.Lists.{next, end, length-keys}
 use Rattle.new_records.specs.Bytes.{headOf, newBytes}
+use Rattle.record_fields.specs.Encoded.{code-byte}
 
 -- ---- the records are these
 
@@ -179,16 +177,12 @@ not-marked (hashJoin t on) g e = refl
 not-marked (outputRequirement ks d f) g e = refl
 not-marked (partialSort p ks k f) g e = refl
 
-code-of : (r : List ℕ) (n : ℕ) → r ≡ encode n (decode r) → getD r 0 0 ≡ code (decode r)
-unfolding encode
-code-of r n e = ap (λ x. getD x 0 0) e ∙ ap kindNumber (kind-of n (decode r))
-
 module _ (r x : List ℕ) (q : Bool) (c : x ≡ r) (n : ℕ) (e : r ≡ encode n (decode r)) where
   pub marked : (b : ℕ) → b ≡ oneIf q → getD r 0 0 ≡ 5 → set x 3 (getD r 3 0 / 2 * 2 + b) ≡ encode n (remark (λ p. q) (decode r))
   marked b d h =
       ap₂ (λ y z. set y 3 (getD z 3 0 / 2 * 2 + b)) (c ∙ e) e
       ∙ ap (λ z. set (encode n (decode r)) 3 (getD (encode n (decode r)) 3 0 / 2 * 2 + z)) d
-      ∙ set-marks n (decode r) q (sym (code-of r n e) ∙ h)
+      ∙ set-marks n (decode r) q (sym (code-byte r n e) ∙ h)
 
   pub unmarked : (getD r 0 0 ≡ 5 → ⊥) → x ≡ encode n (remark (λ p. q) (decode r))
-  unmarked h = c ∙ e ∙ ap (encode n) (not-marked (decode r) (λ p. q) (λ d. h (code-of r n e ∙ d)))
+  unmarked h = c ∙ e ∙ ap (encode n) (not-marked (decode r) (λ p. q) (λ d. h (code-byte r n e ∙ d)))

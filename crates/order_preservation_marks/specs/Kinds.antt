@@ -12,6 +12,7 @@ use Rattle.plan.specs.Numbers.{code}
 use Rattle.plan.specs.WellFormed.{childrenOk}
 use Rattle.plan.specs.declared.Fetch.{Fetch}
 use Rattle.walks.specs.Marks.{another, shape}
+use Rattle.semantics.specs.theorems.common.Bools.{or-right}
 
 -- None of the four that are treated apart
 abbrev Apart : Op → Type 0
@@ -51,18 +52,14 @@ module _ (o : Op) where
   pub treated-5 : eqb (code o) 5 ≡ true → treated o ≡ true
   treated-5 e = ap (λ x. (x || eqb (code o) 6) || (eqb (code o) 7 || eqb (code o) 8)) e
 
-  or-true : (a b : Bool) → b ≡ true → a || b ≡ true
-  or-true true b e = refl
-  or-true false b e = e
-
   or-left : (a b : Bool) → a ≡ true → a || b ≡ true
   or-left a b e = ap (λ x. x || b) e
 
   pub treated-6 : eqb (code o) 6 ≡ true → treated o ≡ true
-  treated-6 e = or-left (eqb (code o) 5 || eqb (code o) 6) _ (or-true (eqb (code o) 5) (eqb (code o) 6) e)
+  treated-6 e = or-left (eqb (code o) 5 || eqb (code o) 6) _ (or-right (eqb (code o) 5) (eqb (code o) 6) e)
 
   pub treated-7 : eqb (code o) 7 ≡ true → treated o ≡ true
-  treated-7 e = or-true (eqb (code o) 5 || eqb (code o) 6) _ (or-left (eqb (code o) 7) (eqb (code o) 8) e)
+  treated-7 e = or-right (eqb (code o) 5 || eqb (code o) 6) _ (or-left (eqb (code o) 7) (eqb (code o) 8) e)
 
   pub treated-8 : eqb (code o) 8 ≡ true → treated o ≡ true
-  treated-8 e = or-true (eqb (code o) 5 || eqb (code o) 6) _ (or-true (eqb (code o) 7) (eqb (code o) 8) e)
+  treated-8 e = or-right (eqb (code o) 5 || eqb (code o) 6) _ (or-right (eqb (code o) 7) (eqb (code o) 8) e)

@@ -16,11 +16,11 @@ use Rattle.walks.specs.Marks.{strip, opT, sizeT}
 use Rattle.walks.specs.PartialSort.{Replaced, pastTheEnd, becomes, replaceWithPartialSort, fromNode, setNode}
 use Rattle.walks.specs.Counted.{Answer, answered, refused, partialAnswer, partialAt, partiallySorted}
 use Rattle.plan_context.specs.View.{treeOf, forest, Arena, Same}
-use Rattle.plan_context.specs.Facts.{size-strip}
 use Rattle.plan_context.specs.Records.{planT}
 use Rattle.partial_sort_by_number.specs.declared.Sorted.{Sorted}
 use Rattle.partial_sort_by_number.specs.declared.Sorted.the-variants.{NoSuchNode, AllKeysMet, Becomes}
 use Rattle.partial_sort_by_number.specs.declared.Place.{Place}
+use Rattle.walks.specs.theorems.common.Trees.{strip-size}
 
 -- ---- what is found at a number
 
@@ -114,7 +114,7 @@ out-skip d o c R =
 module _ (m : List ℕ) where
   behind : (k : ℕ) (ks : List ℕ) (l : ℕ) → size (forest m (k ∷ ks)) + l ≡ suc (size (strip (treeOf m k .kids)) + (size (forest m ks) + l))
   unfolding forest
-  behind k ks l = let z = size-strip (treeOf m k .kids) in omega arith
+  behind k ks l = let z = strip-size (treeOf m k .kids) in omega arith
 
   -- the j-th of some trees, and l in it
   pub out-at : (ks : List ℕ) (j l : ℕ) → j < length ks → l < sizeT (treeOf m (getD ks j 0))
@@ -122,7 +122,7 @@ module _ (m : List ℕ) where
   unfolding forest
   out-at [] j l h i = absurd (omega arith)
   out-at (k ∷ ks) zero l h i =
-      let z = size-strip (treeOf m k .kids) in let e : 0 + l ≡ l = omega arith in
+      let z = strip-size (treeOf m k .kids) in let e : 0 + l ≡ l = omega arith in
       ap (λ n. outcome (fromNode n (tree (opT (treeOf m k)) (strip (treeOf m k .kids)) (strip (forest m ks))))) e
       ∙ out-first l (opT (treeOf m k)) (strip (treeOf m k .kids)) (strip (forest m ks)) (omega arith)
   out-at (k ∷ ks) (suc j) l h i =
@@ -134,7 +134,7 @@ module _ (m : List ℕ) where
   unfolding forest
   set-at p [] j l x h i e = absurd (omega arith)
   set-at p (k ∷ ks) zero l x h i e =
-      let z = size-strip (treeOf m k .kids) in
+      let z = strip-size (treeOf m k .kids) in
       let q : 0 + l ≡ l = omega arith in
       ap (λ g. ontoR g (strip (forest m ks))) e ∙ sym (ap (λ n. setNode n p (tree (opT (treeOf m k)) (strip (treeOf m k .kids)) (strip (forest m ks)))) q
       ∙ set-first l p (opT (treeOf m k)) (strip (treeOf m k .kids)) (strip (forest m ks)) (omega arith))
@@ -166,10 +166,6 @@ unfolding forest
 take-size m ks zero = omega arith
 take-size m [] (suc j) = omega arith
 take-size m (k ∷ ks) (suc j) = let x = take-size m ks j in omega arith
-
-pub take-all : (l : List ℕ) → take (length l) l ≡ l
-take-all [] = refl
-take-all (x ∷ l) = ap (λ r. x ∷ r) (take-all l)
 
 -- The numbers before child j are passed
 pub record Passing (m : List ℕ) (h n j left : ℕ) : Type 0 where

@@ -6,7 +6,7 @@ use Prim.Native.Nat.{ℕ, zero, suc, _+_, _*_, _-_, _%_, _≤_, _<_}
 use native.Mathlib.Omega.{arith}
 use native.Mathlib.Numerals.{add-one}
 use lib.ListN.{length, getD, take, set, replicate, length-set}
-use lib.Seq.{take-suc, take-suc-set}
+use lib.Seq.{take-suc, take-suc-set, take-all}
 use Rattle.plan.specs.Forest.{none, tree, size}
 use Rattle.plan.specs.Op.{Op, sortOp, partialSort, Plan}
 use Rattle.plan.specs.Numbers.{code}
@@ -23,12 +23,11 @@ use Rattle.arena.specs.Arena.{slotSize, index, slot, Below}
 use Rattle.arena.specs.declared.At.{At}
 use Rattle.arena.specs.Laws.{below-at, below-more, below-set}
 use Rattle.walks.specs.Marks.{Tree, strip, node, opT, sizeT}
-use Rattle.walks.specs.theorems.common.Trees.{Ok, OkT}
+use Rattle.walks.specs.theorems.common.Trees.{Ok, OkT, strip-size}
 use Rattle.walks.specs.PartialSort.{becomes, replaceWithPartialSort, fromNode, setNode}
 use Rattle.walks.specs.theorems.partial_sort.Kept.{SetKept, partial-kept}
 use Rattle.plan_context.specs.View.{treeOf, forest, mostSlots, Arena, Grown, Puts}
 use Rattle.plan_context.specs.Laws.{slot-same, tree-same, forest-same, same-trans}
-use Rattle.plan_context.specs.Facts.{size-strip}
 use Rattle.plan_context.specs.Nodes.{counts-of}
 use Rattle.plan_context.specs.Records.{planT}
 use Rattle.plan_updates.specs.Covering.{ok-of}
@@ -39,7 +38,7 @@ use Rattle.replace_with_partial_sort.specs.declared.Replaced.the-variants.{AllK
 use Rattle.partial_sort_by_number.specs.declared.Sorted.{Sorted}
 use Rattle.partial_sort_by_number.specs.declared.Sorted.the-variants.{NoSuchNode, AllKeysMet, Becomes}
 use Rattle.partial_sort_by_number.specs.declared.Place.{Place}
-use Rattle.partial_sort_by_number.specs.AtNumber.{AnswersPartial, answered-is, answers-met, answers-none, at-size, Became, found, Located, missing, out-at, out-past, out-root, outcome, set-at, set-root, take-all, take-size}
+use Rattle.partial_sort_by_number.specs.AtNumber.{AnswersPartial, answered-is, answers-met, answers-none, at-size, Became, found, Located, missing, out-at, out-past, out-root, outcome, set-at, set-root, take-size}
 
 -- ---- the children's handles with another in one place
 
@@ -73,7 +72,7 @@ pub copying-all : (ks : List ℕ) (i : ℕ) (out : List ℕ) → Copying ks i ou
 copying-all ks i out c h j k =
     let l = c .low in
     let q : length ks ≡ i = omega arith in
-    let e : take (length ks) out ≡ ks = ap (λ n. take n out) q ∙ c .is ∙ ap (λ n. take n ks) (sym q) ∙ take-all ks in
+    let e : take (length ks) out ≡ ks = ap (λ n. take n out) q ∙ c .is ∙ ap (λ n. take n ks) (sym q) ∙ take-all (length ks) ks (omega arith) in
     (length-set out j k ∙ c .wide, take-set (length ks) out j k ∙ ap (λ r. set r j k) e)
 
 -- ---- the node itself
@@ -228,7 +227,7 @@ module _ (m : List ℕ) (u h : ℕ) (p : Sorting m u h) (n : ℕ) (q : Place) (w
   -- behind the last child
   pub past-none : q .child ≡ length (slot m (index h) .kids) → outcome (fromNode (suc n) (planT (treeOf m h))) ≡ missing
   past-none e =
-      let i = w .is in let x = ap (λ j. size (forest m (take j hs))) e ∙ ap (λ l. size (forest m l)) (take-all hs) in let z = size-strip (forest m hs) in
+      let i = w .is in let x = ap (λ j. size (forest m (take j hs))) e ∙ ap (λ l. size (forest m l)) (take-all (length hs) hs (omega arith)) in let z = strip-size (forest m hs) in
       ap (λ g. outcome (fromNode (suc n) g)) stripped ∙ out-past n (decode (slot m (index h) .rec)) (strip (forest m hs)) (omega arith)
 
   module _ (l : q .child < length (slot m (index h) .kids)) (k : ℕ) (hk : k ≡ getD (slot m (index h) .kids) (q .child) 0) where
@@ -248,7 +247,7 @@ module _ (m : List ℕ) (u h : ℕ) (p : Sorting m u h) (n : ℕ) (q : Place) (w
         (omega arith, record { arena = p .arena; here = omega arith; room = omega arith; small = omega arith })
 
     below-low : n < size (strip (forest m (slot m (index h) .kids)))
-    below-low = let a = sizes in let b = in-child in let c = w .is in let d = size-strip (forest m hs) in omega arith
+    below-low = let a = sizes in let b = in-child in let c = w .is in let d = strip-size (forest m hs) in omega arith
 
     -- what is found there
     pub found-below : outcome (fromNode (suc n) (planT (treeOf m h))) ≡ outcome (fromNode (q .left) (planT (treeOf m k)))
@@ -313,8 +312,8 @@ module _ (m : List ℕ) (u h : ℕ) (p : Sorting m u h) (n : ℕ) (q : Place) (w
       child-puts r hr =
           let v = view m u h (standing m u h p) in let d = p .here in let e = b .more in let f = b .room in let g = below-sorting .0 in let i = p .room in
           let j = p .small in
-          let z = ap size plan-is ∙ new-kept .long in let y = size-strip (forest m' (set (slot m (index h) .kids) (q .child) (a .root))) in
-          let x = size-strip (treeOf m h .kids) in let s = v .small in let t = whole in (
+          let z = ap size plan-is ∙ new-kept .long in let y = strip-size (forest m' (set (slot m (index h) .kids) (q .child) (a .root))) in
+          let x = strip-size (treeOf m h .kids) in let s = v .small in let t = whole in (
             subst (λ c. Puts m' (a .used) c (set (slot m (index h) .kids) (q .child) (a .root))) (sym hr) (record {
               arena = b .arena;
               room = omega arith;

@@ -9,7 +9,7 @@ use lib.Count.{ones}
 use lib.Dec.{leb, ltb, eqb}
 use lib.ListN.{length, getD, take, length-map}
 use borrow.Author.Tests.{eq-eqb, leb-true}
-use Rattle.scan.specs.Below.{and-left, and-right, or-false}
+use Rattle.scan.specs.Below.{and-left, and-right, or-false, and-true}
 use Rattle.scan.specs.Bytes.{part, le32}
 use Rattle.plan.specs.Op.{On, Op, source, filter, projection, union, repartition, coalesce, sortOp, mergeOp, globalLimit, localLimit, sortMergeJoin, hashJoin, outputRequirement, partialSort, kind}
 use Rattle.plan.specs.Numbers.{kindNumber, joinNumber}
@@ -122,10 +122,6 @@ ones-only : (b : Bool) → b && true && true ≡ b
 ones-only true = refl
 ones-only false = refl
 
-and-one : (b : Bool) → b && true ≡ b
-and-one true = refl
-and-one false = refl
-
 empty-set : (w : ℕ) → setFits w 0 ≡ true
 empty-set w = eq-eqb (0 / 2 ^ w) 0 (zero-div (2 ^ w))
 
@@ -147,7 +143,7 @@ join-rule x w v on ek et h =
     let a = length-map on (λ k. k .key) in
     let b = length-map on (λ k. k .other) in
     let n : length (x .keys) ≡ length (map (λ k. k .other) on) = ap length ek ∙ a ∙ sym b in
-    ap₂ _&&_ (and-one (columnsBelow (take (length (x .keys)) (keyColumns (toBytes x))) w) ∙ keys-rule x w h ∙ ap (keysFit w) ek
+    ap₂ _&&_ (and-true (columnsBelow (take (length (x .keys)) (keyColumns (toBytes x))) w) ∙ keys-rule x w h ∙ ap (keysFit w) ek
     ∙ ap (columnsFit w) (on-columns on))
     (ap (λ (m : ℕ). columnsBelow (part 32 m (toBytes x)) v) n ∙ columns-list (part 32 (length (map (λ k. k .other) on)) (toBytes x)) v
     ∙ ap (columnsFit v) (tail-columns x (map (λ k. k .other) on) et (omega arith)))
@@ -158,7 +154,7 @@ unfolding encode
 columns-same k (source s) ws e =
     let x : NodeRecord = recordOf k (source s) in
     let b = and-right (between 1 32 (s .width) && between 1 64 (s .streams)) (ltb (s .constants) (2 ^ 32) && few (s .keys)) e in
-    and-one (columnsBelow (take (length (s .keys)) (keyColumns (toBytes x))) (s .width) && setBelow (le32 (toBytes x) 32) (s .width))
+    and-true (columnsBelow (take (length (s .keys)) (keyColumns (toBytes x))) (s .width) && setBelow (le32 (toBytes x) 32) (s .width))
     ∙ ap₂ _&&_ (keys-rule x (s .width) (few-of k (source s) e))
     (set-rule x (s .width) (s .constants) refl (and-left (ltb (s .constants) (2 ^ 32)) (few (s .keys)) b))
 columns-same k filter ws e = keys-alone (recordOf k filter) (getD ws 0 0) (few-of k filter e)
@@ -166,7 +162,7 @@ columns-same k (projection cols) ws e =
     let x : NodeRecord = recordOf k (projection cols) in
     ap₂ (λ (a b : Bool). a && true && (b && true)) (keys-rule x (getD ws 0 0) (omega arith)) (below-list (part 32 (length cols) (toBytes x)) (getD ws 0 0)
     ∙ ap (below (getD ws 0 0)) (tail-columns x cols refl (leb-true (length cols) 32 (and-right (leb 1 (length cols)) (leb (length cols) 32) e))))
-    ∙ and-one (below (getD ws 0 0) cols)
+    ∙ and-true (below (getD ws 0 0) cols)
 columns-same k union ws e = keys-alone (recordOf k union) (getD ws 0 0) (few-of k union e)
 columns-same k (repartition p n h ks) ws e = keys-alone (recordOf k (repartition p n h ks)) (getD ws 0 0) (few-of k (repartition p n h ks) e)
 columns-same k (coalesce f) ws e = keys-alone (recordOf k (coalesce f)) (getD ws 0 0) (few-of k (coalesce f) e)
@@ -179,7 +175,7 @@ columns-same k (sortMergeJoin t on) ws e = join-rule (recordOf k (sortMergeJoin 
 columns-same k (hashJoin t on) ws e = join-rule (recordOf k (hashJoin t on)) (getD ws 0 0) (getD ws 1 0) on refl refl (few-of k (hashJoin t on) e)
 columns-same k (outputRequirement ks d f) ws e =
     let x : NodeRecord = recordOf k (outputRequirement ks d f) in
-    and-one (columnsBelow (take (length ks) (keyColumns (toBytes x))) (getD ws 0 0) && setBelow (le32 (toBytes x) 32) (getD ws 0 0))
+    and-true (columnsBelow (take (length ks) (keyColumns (toBytes x))) (getD ws 0 0) && setBelow (le32 (toBytes x) 32) (getD ws 0 0))
     ∙ ap₂ _&&_ (keys-rule x (getD ws 0 0) (few-of k (outputRequirement ks d f) e))
     (distribution-rule x (getD ws 0 0) d refl (and-left (distributionOk d) (fetchOk f) (and-right (few ks) (distributionOk d && fetchOk f) e)))
 columns-same k (partialSort p ks n f) ws e = keys-alone (recordOf k (partialSort p ks n f)) (getD ws 0 0) (few-of k (partialSort p ks n f) e)

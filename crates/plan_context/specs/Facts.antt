@@ -7,14 +7,14 @@ use native.Mathlib.Omega.{arith}
 use lib.ListN.{length, getD, drop, length-drop, drop-of-length-le}
 use lib.Seq.{drop-cons}
 use Rattle.row_order.specs.Lists.{all-nil, all-head, tab}
-use Rattle.plan.specs.Forest.{Forest, none, tree, size}
+use Rattle.plan.specs.Forest.{none, tree}
 use Rattle.plan.specs.Op.{Plan}
 use Rattle.plan.specs.WellFormed.{nodesOk}
 use Rattle.semantics.specs.Facts.{Facts, nothing, both, unionFacts}
 use Rattle.semantics.specs.theorems.facts.Fits.{Fits, fits}
 use Rattle.semantics.specs.theorems.facts.StreamCounts.{streams-few}
-use Rattle.walks.specs.Marks.{Marked, Tree, strip, known, opT, fact, sizeT}
-use Rattle.walks.specs.theorems.common.Trees.{OkT, ok-to}
+use Rattle.walks.specs.Marks.{Tree, strip, known, opT, fact, sizeT}
+use Rattle.walks.specs.theorems.common.Trees.{OkT, ok-to, strip-size}
 use Rattle.class_tables.specs.Filling.{alone-filled}
 use Rattle.facts.specs.Saying.{says-unknown}
 use Rattle.facts.specs.declared.Facts.{Facts as Coded}
@@ -45,10 +45,6 @@ pub record Child (fs : List Facts) (j : ℕ) (f : Coded) : Type 0 where
   pub usable : Usable f
   pub is : j < length fs → told f ≡ getD fs j nothing
 
-pub size-strip : (c : Forest Marked) → size (strip c) ≡ size c
-size-strip none = refl
-size-strip (tree m c r) = let x = size-strip c in let y = size-strip r in omega arith
-
 abbrev planT : Tree → Plan
 planT t = tree (opT t) (strip (t .kids)) none
 
@@ -59,7 +55,7 @@ pub usable-of : (t : Tree) → OkT t → sizeT t ≤ mostNodes → (f : Coded) �
 usable-of t h l f s =
     let n = ok-plan t h in
     let few = streams-few (planT t) n in
-    let z = size-strip (t .kids) in
+    let z = strip-size (t .kids) in
     let e : f .streams ≡ fact t .streams = ap (λ F. F .streams) (s .is) in
     record { fine = s .fine; fits = subst Fits (sym (s .is)) (all-head (fits (planT t) n)); few = omega arith }
 

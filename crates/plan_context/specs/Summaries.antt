@@ -18,6 +18,7 @@ use Rattle.tree_summary.specs.declared.Summary.{Summary}
 use Rattle.plan_context.specs.View.{treeOf, forest, Sums}
 use Rattle.tree_summary.specs.Own.{fetchIn, fetch-is, endless-is, limit-is, own}
 use Rattle.record_fields.specs.Encoded.{code-byte}
+use Rattle.scan.specs.Below.{and-assoc}
 
 -- a mark does not change it
 pub sums-mark : (b : Bool) (t : Tree) (s : Summary) → Sums t s → Sums (setMark b t) s
@@ -40,10 +41,6 @@ sums-none = record { passes = refl; endless = refl; nodes = refl; fetch = refl }
 -- as the code adds a child before the others
 abbrev pub before : Summary → Summary → Summary
 before x s = record { passes = x .passes && s .passes; endless = x .endless || s .endless; nodes = x .nodes + s .nodes; fetch = x .fetch }
-
-and-assoc : (a b c : Bool) → (a && b) && c ≡ a && (b && c)
-and-assoc true b c = refl
-and-assoc false b c = refl
 
 sums-more : (t : Tree) (c : Forest Marked) (x s : Summary) → Sums t x → SumsEach c s → SumsEach (plant t c) (before x s)
 sums-more t c x s p q =
@@ -86,12 +83,12 @@ pub summing-all : (m ks : List ℕ) (j : ℕ) (s : Summary) → j ≤ 0 → Summ
 summing-all m ks j s h p = let e : j ≡ 0 = omega arith in subst (λ n. SumsEach (forest m (drop n ks)) s) e (p .sums)
 
 -- some of the children have no more nodes than all
-pub summing-few : (m ks : List ℕ) (j : ℕ) → size (forest m (drop j ks)) ≤ size (forest m ks)
+pub drop-size : (m ks : List ℕ) (j : ℕ) → size (forest m (drop j ks)) ≤ size (forest m ks)
 unfolding forest
-summing-few m [] zero = omega arith
-summing-few m [] (suc j) = omega arith
-summing-few m (k ∷ ks) zero = omega arith
-summing-few m (k ∷ ks) (suc j) = let h = summing-few m ks j in omega arith
+drop-size m [] zero = omega arith
+drop-size m [] (suc j) = omega arith
+drop-size m (k ∷ ks) zero = omega arith
+drop-size m (k ∷ ks) (suc j) = let h = drop-size m ks j in omega arith
 
 -- ---- the node itself
 

@@ -9,7 +9,7 @@ use borrow.Author.Tests.{eqb-true}
 use lib.Dec.{eqb}
 use lib.ListN.{length, getD, drop, drop-of-length-le}
 use lib.Seq.{drop-cons}
-use Rattle.scan.specs.Below.{and-left, and-right}
+use Rattle.scan.specs.Below.{and-left, and-right, and-true, and-assoc}
 use Rattle.plan_codec.specs.Decode.{decode}
 use Rattle.walks.specs.Marks.{node, setMark}
 use Rattle.arena.specs.Arena.{slotSize, recordSize, slot}
@@ -46,21 +46,13 @@ pub comparing-more : (l k : List ℕ) (j : ℕ) (b : Bool) → length l ≡ leng
 comparing-more l k j b e h p =
     record {
       low = omega arith;
-      is = rw (add-one j) (assoc b (eqb (getD l j 0) (getD k j 0)) (same (drop (suc j) l) (drop (suc j) k))
+      is = rw (add-one j) (and-assoc b (eqb (getD l j 0) (getD k j 0)) (same (drop (suc j) l) (drop (suc j) k))
           ∙ ap (λ x. b && x) (sym (ap₂ same (drop-cons l j 0 h) (drop-cons k j 0 (omega arith)))) ∙ p .is);
     }
-  where
-    assoc : (a b c : Bool) → (a && b) && c ≡ a && (b && c)
-    assoc true b c = refl
-    assoc false b c = refl
 
 pub comparing-all : (l k : List ℕ) (j : ℕ) (b : Bool) → length l ≡ length k → length l ≤ j → Comparing l k j b → b ≡ same l k
 comparing-all l k j b e h p =
-    true-right b ∙ sym (ap₂ (λ x y. b && same x y) (drop-of-length-le l {i = j} h) (drop-of-length-le k {i = j} (omega arith))) ∙ p .is
-  where
-    true-right : (b : Bool) → b ≡ b && true
-    true-right true = refl
-    true-right false = refl
+    sym (and-true b) ∙ sym (ap₂ (λ x y. b && same x y) (drop-of-length-le l {i = j} h) (drop-of-length-le k {i = j} (omega arith))) ∙ p .is
 
 -- ---- what the comparison asks, and what it gives
 

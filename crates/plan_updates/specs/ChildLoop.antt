@@ -1,8 +1,8 @@
 -- A loop over the children of the node at the handle h that makes them anew, one after the other (Kids): what it reads of the node stays while the
 -- arena grows. Nothing is said of what becomes of a child.
 use mathlib.Core.Path.{_≡_, sym, ap, _∙_, subst}
-use mathlib.Core.List.{List, [], _∷_}
-use Prim.Native.Nat.{ℕ, zero, suc, _+_, _*_, _≤_, _<_}
+use mathlib.Core.List.{List, []}
+use Prim.Native.Nat.{ℕ, suc, _+_, _*_, _≤_, _<_}
 use native.Mathlib.Omega.{arith}
 use lib.ListN.{length, getD, take, drop, drop-of-length-le}
 use lib.Seq.{drop-cons, length-take-le}
@@ -18,12 +18,6 @@ use Rattle.plan_context.specs.Nodes.{Seen, seen}
 use Rattle.plan_updates.specs.Kids.{Kids, plus-none}
 
 -- ---- the children from number j on
-
-pub drop-size : (m ks : List ℕ) (j : ℕ) → size (forest m (drop j ks)) ≤ size (forest m ks)
-unfolding forest
-drop-size m ks zero = omega arith
-drop-size m [] (suc j) = omega arith
-drop-size m (x ∷ ks) (suc j) = let y = drop-size m ks j in omega arith
 
 pub drop-next : (m ks : List ℕ) (j : ℕ) → j < length ks → forest m (drop j ks) ≡ plant (treeOf m (getD ks j 0)) (forest m (drop (suc j) ks))
 unfolding forest

@@ -70,10 +70,6 @@ and-no a b e = ap (λ x. x && b) e
 pub and-so : (a b : Bool) → a ≡ true → a && b ≡ b
 and-so a b e = ap (λ x. x && b) e
 
-pub and-last : (a b : Bool) → b ≡ false → a && b ≡ false
-and-last true b e = e
-and-last false b e = λ i. false
-
 -- ---- orders
 
 pub none-in : (ks : List Key) (o : Order) → Ordered ks o → o ≡ Unordered → isNil ks ≡ true

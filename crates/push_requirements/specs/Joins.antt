@@ -28,7 +28,8 @@ use Rattle.walks.specs.SortPushdown as walk
 use Rattle.push_requirements.specs.declared.Pushed.{Pushed}
 use Rattle.push_requirements.specs.declared.Pushed.the-variants.{Stop, Goes}
 use Rattle.push_requirements.specs.Pushing.{HandsOn, JoinRows}
-use Rattle.push_requirements.specs.Answers.{go-stop, go-on, and-no, and-so, and-last, to-left, to-right}
+use Rattle.push_requirements.specs.Answers.{go-stop, go-on, and-no, and-so, to-left, to-right}
+use Rattle.scan.specs.Below.{and-false}
 
 drop-keep : (P : Key → Type 0) (seen : List ℕ) (k : Key) (ks : List Key) (b : Bool) → P k → All P (dropRepeats seen ks)
     → All P (dropRepeats (k .col ∷ seen) ks)
@@ -98,11 +99,11 @@ module _ (t : JoinType) (r own a b : List ℕ) (j : JoinRows t r own a b) (paren
     module _ (n : Keys) (y : Bool) (hy : y ≡ met (walk.reorderTo (told own) (keysOf n)) (keysOf parent)) where
       pub left-lost : keysOf n ≡ walk.newOutputOrdering t (told a) (told b) (keysOf keys) 0 → y ≡ false → HandsOn 2 (tries 0) Stop
       left-lost e f = go-stop 2 _ _
-          (and-last (compatible (told a) ks (wanted (decode r) 0)) _ (sym (hy ∙ ap (λ l. met (walk.reorderTo (told own) l) (keysOf parent)) e) ∙ f))
+          (and-false (compatible (told a) ks (wanted (decode r) 0)) _ (sym (hy ∙ ap (λ l. met (walk.reorderTo (told own) l) (keysOf parent)) e) ∙ f))
 
       pub right-lost : keysOf n ≡ walk.newOutputOrdering t (told a) (told b) (keysOf keys) 1 → y ≡ false → HandsOn 2 (tries 1) Stop
       right-lost e f = go-stop 2 _ _
-          (and-last (compatible (told b) ks (wanted (decode r) 1)) _ (sym (hy ∙ ap (λ l. met (walk.reorderTo (told own) l) (keysOf parent)) e) ∙ f))
+          (and-false (compatible (told b) ks (wanted (decode r) 1)) _ (sym (hy ∙ ap (λ l. met (walk.reorderTo (told own) l) (keysOf parent)) e) ∙ f))
 
       module _ (d : Keys) (kd : Keyed (dropRepeats [] (keysOf keys)) d) (p q : Order) where
         pub left-goes : ws ≡ wanted (decode r) 0 → x ≡ compatible (told a) (keysOf keys) ws → x ≡ true → keysOf n ≡ walk.newOutputOrdering t (told a)

@@ -24,7 +24,7 @@ use Rattle.arena.specs.Laws.{below-at}
 use Rattle.arena.specs.declared.At.{At}
 use Rattle.walks.specs.Marks.{Marked, Tree, strip, known, fact, fetchT, sizeT, node, plant, kid0, rebuild, cover}
 use Rattle.walks.specs.Utils.{isSort, newMerge, newSort}
-use Rattle.walks.specs.theorems.common.Trees.{OkT, ok-fit}
+use Rattle.walks.specs.theorems.common.Trees.{OkT, ok-fit, strip-size}
 use Rattle.walks.specs.PushdownSorts as walk
 use Rattle.walks.specs.theorems.push.WellFormed.{VisitFits, EachFits, helper-fitted, push-ok}
 use Rattle.walks.specs.theorems.common.Keys.{no-keys}
@@ -32,9 +32,8 @@ use Rattle.walks.specs.Counted.{answered, answerOf, stopped, counted, bind, con
 use Rattle.walks.specs.theorems.calls.Counts.{one-le, one-visited, cover-size}
 use Rattle.plan_context.specs.View.{treeIn, treeOf, forest, Grown}
 use Rattle.plan_context.specs.Laws.{facts-at, length-facts, same-trans}
-use Rattle.plan_context.specs.Facts.{size-strip}
 use Rattle.plan_context.specs.Records.{planT}
-use Rattle.plan_updates.specs.ChildLoop.{drop-size}
+use Rattle.plan_context.specs.Summaries.{drop-size}
 use Rattle.sort_pushdown.specs.declared.Visit.{Visit}
 use Rattle.sort_pushdown.specs.declared.Decision.{Decision}
 use Rattle.sort_pushdown.specs.declared.NewNodes.{NewNodes}
@@ -340,7 +339,7 @@ module _ (a : List ℕ) (ua h : ℕ) (b : List ℕ) (p : Rooted a ua h b) (visit
   counted-is : countDown (λ i. walk.atRoot) (size (planT (treeOf a h))) (planT (treeOf a h)) ≡ bind (countedT (visitOf visit) n (treeIn a (index h)))
       (λ u m. counted (plant u none) m)
   counted-is =
-      let e : size (planT (treeOf a h)) ≡ n = (let z = size-strip (treeIn a (index h) .kids) in omega arith) in
+      let e : size (planT (treeOf a h)) ≡ n = (let z = strip-size (treeIn a (index h) .kids) in omega arith) in
       ap (λ m. countDown (λ i. walk.atRoot) m (planT (treeOf a h))) e
       ∙ count-tree (λ i. walk.atRoot) n (treeIn a (index h)) none
       ∙ ap (λ q. bind (countedT q n (treeIn a (index h))) (λ u m. counted (plant u none) m)) (sym ev)
@@ -348,7 +347,7 @@ module _ (a : List ℕ) (ua h : ℕ) (b : List ℕ) (p : Rooted a ua h b) (visit
   pub root-ends : (b' : List ℕ) (r : Pushed) → Ends (visitOf visit) n (treeIn a (index h)) b 0 b' r → AnswersPush (planT (treeOf a h)) b' r
   root-ends b' (Refused e) x = ap answerOf (counted-is ∙ ap (λ y. bind y (λ u m. counted (plant u none) m)) x)
   root-ends b' (Done w) x =
-      let z = size-strip (treeIn a (index h) .kids) in let g = x .grown .room in
+      let z = strip-size (treeIn a (index h) .kids) in let g = x .grown .room in
       record {
         is = ap answerOf (counted-is ∙ ap (λ y. bind y (λ u m. counted (plant u none) m)) (x .is)) ∙ ap (λ t. answered (planT t)) (sym (x .grown .tree));
         arena = x .grown .arena;

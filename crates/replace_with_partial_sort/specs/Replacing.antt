@@ -1,6 +1,6 @@
 -- Partial sorting of one node, as the code asks.
 use mathlib.Core.Path.{_≡_, refl, sym, ap, ap₂, _∙_}
-use mathlib.Core.Bool.{Bool, true, false, cond, _||_}
+use mathlib.Core.Bool.{Bool, true, false, cond}
 use mathlib.Core.List.{List, [], _∷_, _++_, append-assoc}
 use Prim.Native.Nat.{ℕ, zero, suc, _≤_, _<_}
 use native.Mathlib.Omega.{arith}
@@ -29,6 +29,7 @@ use Rattle.tree_summary.specs.declared.Summary.{Summary}
 use Rattle.sort_connection.specs.Standing.{Standing, tree-is, op-is, own-over, own-proper, sort-op, one-kid, is-code, not-code}
 use Rattle.replace_with_partial_sort.specs.declared.Replaced.{Replaced as Answer}
 use Rattle.replace_with_partial_sort.specs.declared.Replaced.the-variants.{AllKeysMet, Same, Partial}
+use Rattle.scan.specs.Below.{or-false}
 
 -- A sort with n keys met, as a partial sort
 abbrev pub partial : ℕ → Op → Op
@@ -90,16 +91,12 @@ other-same (hashJoin t on) c f = refl
 other-same (outputRequirement ks d g) c f = refl
 other-same (partialSort p ks k g) c f = refl
 
-or-none : (b : Bool) → (b || false) ≡ b
-or-none true = refl
-or-none false = refl
-
 -- the only child is unbounded, or not
 only-endless : (m ks : List ℕ) → length ks ≡ 1 → anyOf (endless (strip (forest m ks))) ≡ endlessOp (opT (treeOf m (getD ks 0 0)))
     (endless (strip (treeOf m (getD ks 0 0) .kids)))
 unfolding forest
 only-endless m [] e = absurd (omega arith)
-only-endless m (k ∷ []) e = or-none (endlessOp (opT (treeOf m k)) (endless (strip (treeOf m k .kids))))
+only-endless m (k ∷ []) e = or-false (endlessOp (opT (treeOf m k)) (endless (strip (treeOf m k .kids))))
 only-endless m (k ∷ l ∷ ks) e = absurd (omega arith)
 
 some-prefix : (p : Bool) (ks : List Key) (f : Fetch) (n : ℕ) → (n ≡ 0 → ⊥) → ofPrefix p ks f n ≡ partialSort p ks n f

@@ -32,11 +32,10 @@ use Rattle.arena.specs.Arena as records
 use Rattle.arena.specs.Arena.{slotSize, slot, held}
 use Rattle.arena.specs.Held.{view}
 use Rattle.arena.specs.Laws.{index-even}
-use Rattle.walks.specs.theorems.common.Trees.{ok-of}
+use Rattle.walks.specs.theorems.common.Trees.{ok-of, strip-size}
 use Rattle.plan_context.specs.View.{treeIn, treeOf, mostSlots, ProperSlot, Arena, Settles, Settled}
 use Rattle.plan_context.specs.Laws.{fewer, slot-held, moved-proper}
 use Rattle.settling.specs.Settling.{in-held, settled-arena, settled-nodes}
-use Rattle.plan_context.specs.Facts.{size-strip}
 use Rattle.plan_context.specs.Records.{planT, views}
 
 -- What is asked before all slots are settled
@@ -152,7 +151,7 @@ module _ (s : List ℕ) (e : refusalOf s ≡ Accepted) where
               let p = in-slot i g in
               let o = ok-of (planT (treeIn m i)) (ap nodesOk (sym p) ∙ part-ok (h .parts i g) sound) in
               let x = ap size p in let y = size-map decode (records.treeAt (held m u) (2 * i)) in let z = part-size (h .parts i g) in
-              let w = size-strip (treeIn m i .kids) in let n = size-tree s in let q = h .used in
+              let w = strip-size (treeIn m i .kids) in let n = size-tree s in let q = h .used in
               record {
                 below = v .below;
                 canon =

@@ -25,6 +25,7 @@ use Rattle.plan_context.specs.View.{treeOf, forest, Arena}
 use Rattle.plan_context.specs.Handles.{Marks}
 use Rattle.plan_updates.specs.Kids.{snoc, plus-none}
 use Rattle.sort_connection.specs.Standing.{Standing, tree-is}
+use Rattle.scan.specs.Below.{or-false}
 
 -- The node maintains the order of child j, and wants none of it
 abbrev pub maintainsUnasked : Tree → ℕ → Bool
@@ -62,16 +63,12 @@ or-assoc : (a b c : Bool) → (a || (b || c)) ≡ ((a || b) || c)
 or-assoc true b c = refl
 or-assoc false b c = refl
 
-or-none : (b : Bool) → (b || false) ≡ b
-or-none true = refl
-or-none false = refl
-
 or-true : (b : Bool) → (b || true) ≡ true
 or-true true = refl
 or-true false = refl
 
 any-more : (n : ℕ) (p : ℕ → Bool) → anyBelow (suc n) p ≡ anyBelow n p || p n
-any-more zero p = or-none (p 0)
+any-more zero p = or-false (p 0)
 any-more (suc n) p = ap (λ b. p 0 || b) (any-more n (λ i. p (suc i))) ∙ or-assoc (p 0) (anyBelow n (λ i. p (suc i))) (p (suc n))
 
 any-at : (n : ℕ) (p : ℕ → Bool) (j : ℕ) → j < n → p j ≡ true → anyBelow n p ≡ true
@@ -157,7 +154,7 @@ module _ (t : Tree) where
         pub of-other : isSortPreservingMerge (opT t) ≡ false → (f : Bool) → f ≡ anyMaintainsUnasked t → f ≡ connected (opT t) (t .kids)
         of-other y f w =
             w ∙ any-same (length (roots (t .kids))) (maintainsUnasked t) (λ i. maintainsUnasked t i || isSortPreservingMerge (opT t))
-            (λ i. sym (ap (λ x. maintainsUnasked t i || x) y ∙ or-none (maintainsUnasked t i)))
+            (λ i. sym (ap (λ x. maintainsUnasked t i || x) y ∙ or-false (maintainsUnasked t i)))
             ∙ sym (other ∙ ap (λ x. x && any) z)
 
 -- ---- marks put right

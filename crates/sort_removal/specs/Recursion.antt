@@ -29,7 +29,8 @@ use Rattle.plan_context.specs.Nodes.{Seen}
 use Rattle.plan_updates.specs.Kids.{Kids, kids-none, kids-more, kids-forest}
 use Rattle.plan_context.specs.Handles.{kid-is}
 use Rattle.plan_updates.specs.From.{from, from-first, from-next}
-use Rattle.plan_updates.specs.ChildLoop.{drop-size, half, view, whole, same-slot, same-kids, kid-below, split, counted, new-below, new-kids}
+use Rattle.plan_context.specs.Summaries.{drop-size}
+use Rattle.plan_updates.specs.ChildLoop.{half, view, whole, same-slot, same-kids, kid-below, split, counted, new-below, new-kids}
 use Rattle.sort_connection.specs.Standing.{Standing, own-over, own-proper, sort-op, one-kid}
 use Rattle.sort_removal.specs.Sizes.{kids-size, by-size}
 use Rattle.sort_removal.specs.SingleStream.{AsksSingleStream}

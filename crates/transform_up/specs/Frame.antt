@@ -19,14 +19,13 @@ use Rattle.arena.specs.declared.At.{At}
 use Rattle.arena.specs.Laws.{below-at}
 use Rattle.walks.specs.Marks.{Tree, node, plant, opT, sizeT, rebuild, strip, bare, transformUp}
 use Rattle.walks.specs.Terms.{_⊕_}
-use Rattle.walks.specs.theorems.common.Trees.{Ok, OkT, FitsA, arity, ok-fit}
+use Rattle.walks.specs.theorems.common.Trees.{Ok, OkT, FitsA, arity, ok-fit, strip-size}
 use Rattle.walks.specs.theorems.common.Trees as walks
 use Rattle.walks.specs.theorems.common.Keeps.{kept-node, like-refl, walk-kept, strip-bare}
 use Rattle.walks.specs.Counted.{Counted, stopped, counted, bind, tooMany, stepped, countUp}
 use Rattle.plan_context.specs.View.{treeIn, treeOf, forest, Arena, Grown}
 use Rattle.plan_context.specs.Laws.{same-trans, slot-same, in-same}
 use Rattle.plan_context.specs.Nodes.{Seen, seen}
-use Rattle.plan_context.specs.Facts.{size-strip}
 use Rattle.plan_updates.specs.Kids.{Kids, kids-none, kids-more, kids-forest, plus-none}
 use Rattle.transform_up.specs.declared.Walk.{Walk}
 use Rattle.step_ends.specs.declared.Walked.{Walked}
@@ -193,12 +192,12 @@ module _ (w : Walk) (m₀ : List ℕ) (v i n : ℕ) (c : List ℕ) (p : Walkable
 
     whole : (forest m (take a kids) ≡ transformUp (stepOf w) (strip (forest m₀ (slot m₀ i .kids))))
         × (k + size (strip (forest m₀ (slot m₀ i .kids))) ≡ n + size (forest m (take a kids)))
-    whole = let x = p .part in let y = whole-size in let z = size-strip (forest m₀ ks) in
+    whole = let x = p .part in let y = whole-size in let z = strip-size (forest m₀ ks) in
         count-is (stepOf w) n (strip (forest m₀ ks)) (forest m (take a kids)) k (omega arith) answer
 
     -- the count before the step, as the code has it
     pub before-is : (was : ℕ) → was ≡ sizeT (treeIn m₀ i) → (k + was - n ≡ suc (size (forest m (take a kids)))) × (n ≤ k + was)
-    before-is was b = let x = whole .1 in let y = whole-size in let z = size-strip (forest m₀ ks) in (omega arith, omega arith)
+    before-is was b = let x = whole .1 in let y = whole-size in let z = strip-size (forest m₀ ks) in (omega arith, omega arith)
 
     ok-whole : Ok (tree (decode (slot m₀ i .rec)) (strip (forest m₀ (slot m₀ i .kids))) none)
     ok-whole = let o = shown .ok in (o .0, o .1, tt)
@@ -219,7 +218,7 @@ module _ (w : Walk) (m₀ : List ℕ) (v i n : ℕ) (c : List ℕ) (p : Walkable
     walking-end c' lc before b =
         let lo = q .made .long in let x = p .part in let y = whole .1 in let z = q .low in let wd = q .made .wide in let fc = shown .count in
         let fw = shown .few in
-        let ws = whole-size in let ss = size-strip (forest m₀ ks) in
+        let ws = whole-size in let ss = strip-size (forest m₀ ks) in
         let si = slot-is j u k kids m q in
         let t : length (take a kids) ≡ length ks = length-take-le a kids (omega arith) ∙ e ∙ fc in
         record {
@@ -255,7 +254,7 @@ module _ (w : Walk) (m₀ : List ℕ) (v i n : ℕ) (c : List ℕ) (p : Walkable
         go (Stopped stop.NoRoom) e = let l = q .made .long in omega arith
         go (Done used root count) e =
             let x = p .part in let y = whole .1 in let c₁ = e .counts in let s = ap sizeT (e .tree) in let ws = whole-size in
-            let ss = size-strip (forest m₀ ks) in
+            let ss = strip-size (forest m₀ ks) in
             record {
               is = stepped-is ∙ ap (λ z. cond z (stopped TooManyNodes) (counted (stepOf w t) (total w t k))) (e .fits) ∙ ap₂ counted (sym (e .tree))
                   (sym c₁);

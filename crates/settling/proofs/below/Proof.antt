@@ -3,7 +3,7 @@ use mathlib.Core.Path.{_∙_}
 use Rattle.node_facts.specs.Ready.{count}
 use Prim.Native.Nat.{_-_}
 use Rattle.arena.specs.Arena.{slot}
-use Rattle.plan_context.specs.Summaries.{Summing, summing-none, summing-more, summing-all, summing-few}
+use Rattle.plan_context.specs.Summaries.{Summing, summing-none, summing-more, summing-all, drop-size}
 use Rattle.settling.specs.Settling.{shown}
 use Rattle.settling.proofs.below.Statement.{statement}
 use Rattle.settling.proofs.below.Tie as tie
@@ -36,7 +36,7 @@ add-t8 c = let s = c .before .before .before .before .before .before .before .be
     (c .before .before .before .before .before .before .before .loop-test .taken)
     (c .before .before .before .before .before .before .child-summary .ensures)
     (c .before .before .before .before .before .before .before .before .loop .inv) in let n = p .sums .nodes in
-    let w = summing-few m (slot m i .kids) (c .before .before .before .before .before .before .before .before .loop .j - 1) in let z = shown m i a .small in
+    let w = drop-size m (slot m i .kids) (c .before .before .before .before .before .before .before .before .loop .j - 1) in let z = shown m i a .small in
     omega arith
 
 loop-less : tie.Need-loop-less Inv-loop μ-loop

@@ -8,11 +8,12 @@ use borrow.Author.Tests.{not-true, not-false}
 use Rattle.row_order.specs.Iso.{Key}
 use Rattle.semantics.specs.Properties.{keptSide}
 use Rattle.key_lists.specs.Keys.{keysOf, Ordered}
-use Rattle.moved_requirements.specs.Moving.{from-all}
-use Rattle.push_requirements.specs.Answers.{go-stop, go-on, right-only, and-no, and-so, and-last}
+use Rattle.walks.specs.theorems.push.ChildOrders.{every-le}
+use Rattle.push_requirements.specs.Answers.{go-stop, go-on, right-only, and-no, and-so}
 use Rattle.semantics.specs.Facts as sem
 use Rattle.push_requirements.proofs.joins.handle_hash_join.Statement.{statement}
 use Rattle.push_requirements.proofs.joins.handle_hash_join.Tie as tie
+use Rattle.scan.specs.Below.{and-false}
 
 hash-keeps-requires : tie.Need-hash-keeps-requires
 hash-keeps-requires c κs = search needs
@@ -28,13 +29,13 @@ all-from-requires : tie.Need-all-from-requires
 all-from-requires c κs = search needs
 
 returns-2 : tie.Need-returns-2
-returns-2 c = λ m. go-stop m _ _ (and-last (keptSide (sem.hashKept (c .before .before .before .before .args .t)) 1) _
+returns-2 c = λ m. go-stop m _ _ (and-false (keptSide (sem.hashKept (c .before .before .before .before .args .t)) 1) _
     (sym (c .before .all-from .ensures) ∙ not-true _ (c .if2 .taken)))
 
 moved-back-requires : tie.Need-moved-back-requires
 moved-back-requires c κs = let s = c .before .before .before .before in let w = s .pre .1 in (
   omega arith,
-  from-all (s .args .width - s .args .right) (keysOf (s .args .parent)) (sym (c .before .all-from .ensures) ∙ not-false _ (c .if2 .left)),
+  every-le (s .args .width - s .args .right) (keysOf (s .args .parent)) (sym (c .before .all-from .ensures) ∙ not-false _ (c .if2 .left)),
   s .pre .0,
 )
 

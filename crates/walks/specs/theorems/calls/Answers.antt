@@ -21,7 +21,7 @@ use Rattle.walks.specs.PushdownSorts.{atRoot, carryOut, Decision, push, 
 use Rattle.walks.specs.Counted.{afterwards, Answer, answered, answerOf, answerTo, constantSort, Counted, counted, countUp, ensured, hasPartialSort, one, parallelized, preserved, pushed, refused, stopped, tooMany}
 use Rattle.walks.specs.Terms.{answerDown, answerUp, hasConstantSort, Live, reaches, sizesDown, sizesUp, small}
 use Rattle.walks.specs.theorems.common.Lists.{every-append, every-same}
-use Rattle.walks.specs.theorems.common.Trees.{count, Fit, Ok, ok-fit, ok-of, ok-to}
+use Rattle.walks.specs.theorems.common.Trees.{count, Fit, Ok, ok-fit, ok-of, ok-to, strip-size}
 use Rattle.walks.specs.theorems.common.Rows.{ensure-plan, SamePlan}
 use Rattle.walks.specs.theorems.preserve.Kept.{preserve-plan}
 use Rattle.walks.specs.theorems.parallelize.Kept.{parallelize-plan}
@@ -138,10 +138,6 @@ down-answers f g = go (hasPartialSort f) (every small (sizesDown 0 (λ i. atRoot
     go false false y e = no-bool (ap isAnswer e)
 
 -- ---- well formed again
-strip-size : (c : Forest Marked) → size (strip c) ≡ size c
-strip-size none = refl
-strip-size (tree m c r) = ap₂ (λ (x y : ℕ). suc (x + y)) (strip-size c) (strip-size r)
-
 -- the last step is the root's, and after it all is walked
 one-root : (step : Tree → Tree) (f : Plan) → count f ≡ 1 → every small (sizesUp step 0 f) ≡ true → size (strip (transformUp step f)) ≤ 126
 one-root step none n e = absurd (omega arith)

@@ -3,10 +3,10 @@
 use mathlib.Core.Path.{_≡_, refl, sym, ap, ap₂, _∙_, subst}
 use mathlib.Core.Bool.{true, false, not, _&&_}
 use mathlib.Core.List.{List, map}
-use Prim.Native.Nat.{ℕ, suc, _≤_}
+use Prim.Native.Nat.{ℕ, suc, _+_, _≤_}
 use borrow.Author.Tests.{eqb-true, leb-true}
 use lib.ListN.{length}
-use Rattle.plan.specs.Forest.{Forest, none, roots, tree}
+use Rattle.plan.specs.Forest.{Forest, none, roots, size, tree}
 use Rattle.plan.specs.Op.{coalesce, filter, globalLimit, hashJoin, localLimit, mergeOp, Op, outputRequirement, partialSort, Plan, projection, repartition, sortMergeJoin, sortOp, source, union}
 use Rattle.plan.specs.WellFormed.{between, childrenOk, nodeOk, nodesOk}
 use Rattle.semantics.specs.Facts.{facts}
@@ -14,7 +14,7 @@ use Rattle.semantics.specs.Properties.{isLimit}
 use Rattle.semantics.specs.theorems.common.Bools.{and-left, and-right}
 use Rattle.semantics.specs.Bags.{simpleOp, simplePlan}
 use Rattle.semantics.specs.theorems.facts.Fits.{facts-widths}
-use Rattle.walks.specs.Marks.{known, opT, strip, Tree}
+use Rattle.walks.specs.Marks.{known, Marked, opT, strip, Tree}
 use Rattle.walks.specs.Counted.{constantSort}
 use Rattle.walks.specs.Terms.{bone, clear, clearOp, Live, passing, skel}
 use Rattle.walks.specs.theorems.common.Lists.{map-length}
@@ -129,3 +129,8 @@ ok-fit (tree o c r) h =
     let ws : List ℕ = map (λ F. F .width) (facts c) in
     let e : childrenOk o (length ws) ≡ true = search (and-left, and-right) in
     (subst (FitsA (arity o)) (map-length (λ F. F .width) (facts c) ∙ facts-count c) (children-fit o (length ws) e), ok-fit c (h .1), ok-fit r (h .2))
+
+-- marks taken off, a forest is as large
+pub strip-size : (c : Forest Marked) → size (strip c) ≡ size c
+strip-size none = refl
+strip-size (tree m c r) = ap₂ (λ (x y : ℕ). suc (x + y)) (strip-size c) (strip-size r)

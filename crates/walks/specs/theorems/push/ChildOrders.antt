@@ -172,7 +172,7 @@ join-goes o t F fs parent n w (rightSide ks) h =
     (all-over (atColumn (λ c. c - off)) (λ k l. l) (h .1))))
 
 -- ---- pushdown_requirement_to_children
-every-le : (off : ℕ) (ks : List Key) → every (λ k. leb off (k .col)) ks ≡ true → All (λ k. off ≤ k .col) ks
+pub every-le : (off : ℕ) (ks : List Key) → every (λ k. leb off (k .col)) ks ≡ true → All (λ k. off ≤ k .col) ks
 every-le off [] e = all-nil
 every-le off (k ∷ ks) e = all-cons (leb-true off (k .col) (search and-left)) (every-le off ks (search and-right))
 
