@@ -51,7 +51,7 @@ def widen(nodes, union):
 
 # A fault: its refusal, whether it is one of the last pass, its node (or block), and what it changes.
 NODE_FAULTS = [
-    (4, False, node, set_byte(0, 15)) for node in (1, 13)
+    (4, False, node, set_byte(0, 16)) for node in (1, 13)
 ] + [(5, False, 9, set_byte(1, 3))] + [
     (6, False, node, set_byte(15, 1)) for node in (1, 13)
 ] + [

@@ -3,9 +3,10 @@
 
     tools/sample_vectors.py VECTORS crates/replay/data/cases [all]
 
-VECTORS has one text file for each call and 'rare.txt', two lines for each case: 'CALL SETTINGS OUTLEN FILE [NODE]' and 'ANSWER', FILE in hex.
-Taken are, of each call's file, all refused cases that are unlike those taken before (number and length), and of the accepted ones ACCEPTED evenly spaced
-(CHECKED for the order check); of 'rare.txt' RARE evenly spaced for each call; with 'all' every case of every file.
+VECTORS has one text file for each call, 'rare.txt' and 'p1.txt' (plans with aggregates), two lines for each case: 'CALL SETTINGS OUTLEN FILE [NODE]' and
+'ANSWER', FILE in hex. Taken are, of each call's file, REFUSED evenly spaced refused cases and ACCEPTED evenly spaced accepted ones (CHECKED for the order
+check); of 'rare.txt' RARE evenly spaced for each call; of 'p1.txt' for each call every refused case and ACCEPTED evenly spaced accepted ones; with 'all'
+every case of every file. The files from before aggregates hold kind 15 to be unknown: a case of theirs that has it is left out.
 A case in the sample: a header of 20 bytes, then the file, then the file that the call is to write. The header: the call's place in CALLS; the answer's
 number; the order check's answer, 255 for none; zero; then, two bytes each, little-endian, the lengths of the file, of the answer and of the lent output; the
 three settings; three zeros; the node's number in four bytes.
@@ -17,6 +18,7 @@ ACCEPTED = 40
 CHECKED = 200
 RARE = 40
 REFUSED = 60
+AGGREGATE = 15
 
 
 def cases(path):
@@ -35,6 +37,11 @@ def cases(path):
         yield call, number, passes, data, wanted, room, marks, node
 
 
+def has_aggregate(data):
+    blocks = [data[at : at + 512] for at in range(0, len(data), 512)]
+    return any(block[at] == AGGREGATE for block in blocks for at in range(8, min(len(block), 8 + 64 * 7), 64))
+
+
 def spaced(items, count):
     step = max(1, len(items) // count)
     return items[::step][:count]
@@ -46,20 +53,22 @@ def written(case):
     return bytes([CALLS.index(call), number, passes, 0]) + lengths + marks + bytes(3) + node.to_bytes(4, "little") + data + wanted
 
 
-def chosen(folder, call):
-    found = list(cases(f"{folder}/{call}.txt"))
-    refused = [c for c in found if c[1] != 0]
-    accepted = [c for c in found if c[1] == 0]
-    return spaced(refused, REFUSED) + spaced(accepted, CHECKED if call == "check" else ACCEPTED)
+def chosen(found, refused, accepted):
+    return spaced([c for c in found if c[1] != 0], refused) + spaced([c for c in found if c[1] == 0], accepted)
 
 
 def main(folder, out, whole):
-    rare = list(cases(f"{folder}/rare.txt"))
+    rare, aggregates = list(cases(f"{folder}/rare.txt")), list(cases(f"{folder}/p1.txt"))
     with open(out, "wb") as f:
         for call in CALLS:
-            mine = [c for c in rare if c[0] == call]
-            taken = list(cases(f"{folder}/{call}.txt")) + mine if whole else chosen(folder, call) + spaced(mine, RARE)
-            for case in taken:
+            older = list(cases(f"{folder}/{call}.txt"))
+            of_rare = [c for c in rare if c[0] == call]
+            of_aggregates = [c for c in aggregates if c[0] == call]
+            if not whole:
+                older = chosen(older, REFUSED, CHECKED if call == "check" else ACCEPTED)
+                of_rare = spaced(of_rare, RARE)
+                of_aggregates = chosen(of_aggregates, len(of_aggregates), ACCEPTED)
+            for case in [c for c in older + of_rare if not has_aggregate(c[3])] + of_aggregates:
                 if len(case[3]) <= 10240 and case[5] <= 10240:
                     f.write(written(case))
 

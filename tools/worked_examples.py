@@ -1,5 +1,5 @@
 #!/usr/bin/env python3
-"""Makes the plan files of document 01's worked examples and of one of docs/DECISIONS.md, from 01's section 'A plan file comes in':
+"""Makes the plan files of document 01's worked examples, of one of docs/DECISIONS.md and of document 02's P1, from 01's section 'A plan file comes in':
 
     tools/worked_examples.py
 
@@ -9,7 +9,7 @@ import os
 
 CRATES = os.path.join(os.path.dirname(os.path.abspath(__file__)), "..", "crates")
 
-SOURCE, FILTER, REPARTITION, COALESCE, SORT, MERGE, OUTPUT_REQUIREMENT = 1, 2, 5, 6, 7, 8, 13
+SOURCE, FILTER, PROJECTION, REPARTITION, COALESCE, SORT, MERGE, OUTPUT_REQUIREMENT, AGGREGATE = 1, 2, 3, 5, 6, 7, 8, 13, 15
 NO_FETCH = 4294967295
 DESCENDING = 1
 PRESERVE = 1
@@ -49,6 +49,13 @@ def growing(layers):
     return [root] + layer * layers + [record(SORT, 1, marks=PRESERVE, fetch=9, keys=[0]), source(2, [])]
 
 
+def surveyor(streams, known):
+    """The list shows the aggregate column, the sort goes by the second group column: projection [2] / sort [1] / aggregate [0,1] and one more / a source."""
+    projection = bytearray(record(PROJECTION, 1, width=1))
+    projection[32] = 2
+    return [bytes(projection), record(SORT, 1, fetch=NO_FETCH, keys=[1]), record(AGGREGATE, 1, keys=[0, 1], width=3), source(streams, known)]
+
+
 def plan_file(records):
     """The blocks of 512 bytes, of seven records each."""
     parts = [records[at : at + 7] for at in range(0, len(records), 7)]
@@ -80,6 +87,8 @@ def main():
             record(SORT, 1, fetch=5, keys=[2]), record(FILTER, 1), record(COALESCE, 1, fetch=NO_FETCH), source(2, [2])
         ]),
         "growing_125": plan_file(growing(61)),
+        "surveyor": plan_file(surveyor(1, [])),
+        "surveyor_known": plan_file(surveyor(2, [1])),
     }
     for name, data in examples.items():
         write("worked_examples/data/" + name, data)

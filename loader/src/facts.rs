@@ -177,6 +177,10 @@ pub fn of(r: &Record, children: &[&Facts]) -> Facts {
     match r.kind {
         SOURCE => Facts::source(r.width as usize, r.streams as usize, r.set, &r.keys),
         PROJECTION => children[0].projection(&r.columns),
+        AGGREGATE => {
+            let groups: Vec<u8> = r.keys.iter().map(|k| k.0).collect();
+            Facts { width: r.width as usize, ..children[0].projection(&groups) }
+        }
         UNION => Facts::union(children),
         SORT_MERGE_JOIN | HASH_JOIN => {
             let pairs: Vec<(u8, u8)> = r.keys.iter().map(|k| k.0).zip(r.right.iter().copied()).collect();
@@ -212,6 +216,11 @@ pub fn maintains(r: &Record, own: &Facts, children: &[&Facts]) -> Vec<bool> {
         SOURCE => vec![],
         UNION => children.iter().map(|c| !own.order.is_empty() && c.order.len() == own.order.len()).collect(),
         REPARTITION => vec![repartition_maintains(r, children[0])],
+        AGGREGATE => {
+            let class = children[0].class;
+            let is_group = |k: &Key| r.keys.iter().any(|g| class[g.0 as usize] == k.0);
+            vec![children[0].order.first().is_some_and(is_group)]
+        }
         COALESCE | SORT | PARTIAL_SORT => vec![false],
         SORT_MERGE_JOIN | HASH_JOIN => {
             let (left, right) = kept_sides(r.kind == HASH_JOIN, r.variant);

@@ -21,8 +21,9 @@ pub mod kind {
     pub const HASH_JOIN: u8 = 12;
     pub const OUTPUT_REQUIREMENT: u8 = 13;
     pub const PARTIAL_SORT: u8 = 14;
+    pub const AGGREGATE: u8 = 15;
 
-    pub const NAMES: [&str; 15] = [
+    pub const NAMES: [&str; 16] = [
         "",
         "source",
         "filter",
@@ -38,6 +39,7 @@ pub mod kind {
         "hash-join",
         "output-requirement",
         "partial-sort",
+        "aggregate",
     ];
 }
 use kind::*;
@@ -55,7 +57,7 @@ pub struct Record {
     pub marks: u8,
     pub fetch: u32,
     pub skip: u32,
-    /// column and options
+    /// column and options; an aggregate's group columns
     pub keys: Vec<(u8, u8)>,
     pub width: u8,
     /// join type, distribution, or a partial sort's met prefix
@@ -161,7 +163,7 @@ impl Node {
     pub fn width(&self) -> usize {
         let r = &self.record;
         match (r.kind, r.variant) {
-            (SOURCE | PROJECTION, _) => r.width as usize,
+            (SOURCE | PROJECTION | AGGREGATE, _) => r.width as usize,
             (SORT_MERGE_JOIN | HASH_JOIN, 0..=3) => self.children[0].width() + self.children[1].width(),
             (SORT_MERGE_JOIN | HASH_JOIN, 6 | 7) => self.children[1].width(),
             _ => self.children[0].width(),
@@ -248,12 +250,16 @@ fn fields_are_right(r: &[u8]) -> bool {
     let fetch_ok = if kind == LOCAL_LIMIT { fetch != NO_FETCH } else { has_fetch(kind) || fetch == 0 };
     let keys_ok = keys <= 8
         && match kind {
-            SORT | MERGE | SORT_MERGE_JOIN | HASH_JOIN | PARTIAL_SORT => keys >= 1,
+            SORT | MERGE | SORT_MERGE_JOIN | HASH_JOIN | PARTIAL_SORT | AGGREGATE => keys >= 1,
             REPARTITION => (keys >= 1) == hash,
             SOURCE | GLOBAL_LIMIT | LOCAL_LIMIT | OUTPUT_REQUIREMENT => true,
             _ => keys == 0,
         };
-    let width_ok = if kind == SOURCE || kind == PROJECTION { (1..=32).contains(&width) } else { width == 0 };
+    let width_ok = match kind {
+        SOURCE | PROJECTION => (1..=32).contains(&width),
+        AGGREGATE => (keys..=32).contains(&width),
+        _ => width == 0,
+    };
     let variant_ok = match kind {
         SORT_MERGE_JOIN | HASH_JOIN => variant <= 7,
         OUTPUT_REQUIREMENT => variant <= 2,
@@ -264,7 +270,7 @@ fn fields_are_right(r: &[u8]) -> bool {
     if !(numbers_ok && keys_ok && width_ok && variant_ok && r[15] == 0) {
         return false;
     }
-    let most_options = if kind == HASH_JOIN || hash { 0 } else { 3 };
+    let most_options = if kind == HASH_JOIN || kind == AGGREGATE || hash { 0 } else { 3 };
     let options_ok = (0..keys).all(|i| r[17 + 2 * i] <= most_options);
     let keyed = kind == OUTPUT_REQUIREMENT && variant == 2;
     let set_ok = !keyed || (1..=8).contains(&number(&r[32..]).count_ones());
@@ -319,7 +325,7 @@ pub fn read(file: &[u8]) -> Result<Node, u32> {
         return Err(3);
     }
     let records: Vec<&[u8]> = blocks.iter().flat_map(|b| b[8..8 + 64 * b[4] as usize].chunks(64)).collect();
-    if !records.iter().all(|r| (1..=14).contains(&r[0]) && children_allowed(r[0]).contains(&(r[1] as usize))) {
+    if !records.iter().all(|r| (1..=15).contains(&r[0]) && children_allowed(r[0]).contains(&(r[1] as usize))) {
         return Err(4);
     }
     let mut open = 0usize;

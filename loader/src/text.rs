@@ -28,7 +28,7 @@ pub fn line(r: &Record) -> String {
     if matches!(r.kind, SOURCE | REPARTITION) {
         field("streams", r.streams.to_string());
     }
-    if r.kind == SOURCE {
+    if matches!(r.kind, SOURCE | AGGREGATE) {
         field("width", r.width.to_string());
     }
     if !r.keys.is_empty() {

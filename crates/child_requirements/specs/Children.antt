@@ -2,22 +2,28 @@
 use mathlib.Core.Path.{_≡_, refl, sym, ap, ap₂, _∙_, subst, subst⁻¹}
 use mathlib.Core.Bool.{Bool, true, false, cond, not, _&&_, _||_}
 use mathlib.Core.List.{List, [], _∷_}
-use Prim.Native.Nat.{ℕ, _-_, _<_}
+use Prim.Native.Nat.{ℕ, _*_, _-_, _≤_, _<_}
 use native.Mathlib.Omega.{arith}
-use lib.Dec.{eqb, leb}
-use lib.ListN.{length, getD}
+use lib.Dec.{eqb, ltb, leb}
+use lib.ListN.{length, getD, take, length-map}
 use borrow.Author.Tests.{eqb-true}
 use Rattle.row_order.specs.Iso.{Key}
-use Rattle.plan.specs.Op.{Op, source, filter, projection, union, repartition, coalesce, sortOp, mergeOp, globalLimit, localLimit, sortMergeJoin, hashJoin, outputRequirement, partialSort}
+use Rattle.plan.specs.Op.{Op, source, filter, projection, union, repartition, coalesce, sortOp, mergeOp, globalLimit, localLimit, sortMergeJoin, hashJoin, outputRequirement, partialSort, aggregate}
 use Rattle.plan.specs.Numbers.{kindOf}
-use Rattle.plan.specs.WellFormed.{every, someFetch, childrenOk}
+use Rattle.plan.specs.WellFormed.{every, someFetch, childrenOk, columnsOf}
 use Rattle.plan.specs.declared.JoinType.{JoinType}
 use Rattle.plan.specs.declared.Fetch.{Fetch}
 use Rattle.plan.specs.declared.Kind.{Kind}
-use Rattle.plan.specs.declared.Kind.the-variants.{Sort, Merge, OutputRequirement}
+use Rattle.plan.specs.declared.Kind.the-variants.{Projection, Sort, Merge, OutputRequirement, Aggregate}
 use Rattle.plan_codec.specs.Decode.{decode, fromBytes, operatorOf}
-use Rattle.record_fields.specs.Proper.{pairsOf}
-use Rattle.semantics.specs.Facts.{Facts, at0, at1, factsOp, compatible, hashKept, nothing}
+use Rattle.record_fields.specs.Proper.{pairsOf, Proper}
+use Rattle.plan_format.specs.LastPass.{keyColumns}
+use Rattle.class_tables.specs.Tables.{Columns}
+use Rattle.record_fields.specs.Fields.{tailColumns}
+use Rattle.record_fields.specs.Decoded.{key-columns, key-count}
+use Rattle.record_fields.specs.Encoded.{below-at}
+use Rattle.record_fields.specs.Fronts.{front-columns}
+use Rattle.semantics.specs.Facts.{Facts, at0, at1, factsOp, compatible, hashKept, nothing, met}
 use Rattle.semantics.specs.Properties.{keptSide, fetchOp, maintains, supportsLimitPushdown, wanted}
 use Rattle.key_lists.specs.declared.Keys.{Keys}
 use Rattle.key_lists.specs.declared.Order.{Order}
@@ -42,6 +48,23 @@ pub violates-some : (n : Op) (ps : List Key) (o : Order) (k : Keys) → Ordered 
 violates-some n ps o k h e x d =
     d ∙ ap (λ l. walk.noneEqual l ps) (by-is (wanted n 0) o k h e)
     ∙ sym (or-false _ ∙ ap (λ b. not b && walk.noneEqual (wanted n 0) ps) (by-some (wanted n 0) o k h e))
+
+-- ---- a projection's columns and an aggregate's group columns, as the code lends n of cs
+
+module _ (r : List ℕ) (q : Proper r) (n : ℕ) (cs : List ℕ) where
+  pub lent-columns : kindOf (getD r 0 0) ≡ Projection → n ≡ getD r 13 0 → cs ≡ tailColumns r → (cols : List ℕ) → decode r ≡ projection cols → take n cs ≡ cols
+  lent-columns e en ec cols d =
+      let z : projection (take (getD r 13 0) (tailColumns r)) ≡ projection cols = sym (op-of r Projection e) ∙ d in
+      let y : take (getD r 13 0) (tailColumns r) ≡ cols = cc in ap₂ take en ec ∙ y
+
+  pub lent-groups : n ≡ getD r 12 0 → cs ≡ keyColumns r → take n cs ≡ columnsOf (fromBytes r .keys)
+  lent-groups en ec = ap₂ take en ec ∙ key-columns (getD r 12 0) r (q .long)
+
+  pub columns-lent : kindOf (getD r 0 0) ≡ Projection → cs ≡ tailColumns r → Columns (take n cs)
+  columns-lent e ec = front-columns n cs (subst⁻¹ Columns ec (q .child e))
+
+  pub groups-lent : n ≡ getD r 12 0 → cs ≡ keyColumns r → Columns (take n cs)
+  groups-lent en ec = subst⁻¹ Columns (lent-groups en ec) (below-at (columnsOf (fromBytes r .keys)) (q .keys))
 
 -- ---- the branches by kind
 
@@ -74,6 +97,22 @@ module _ (r : List ℕ) (fs : List Facts) (m : ℕ) (ps : List Key) (p : Pushed)
         by-kind Merge e
         (subst (λ n. HandsOn m (cond (walk.pushdownWouldViolateRequirements n 1 ps) walk.stop (walk.handleMerge (factsOp n fs) ps)) p) (op-of r Merge e)
         (subst (λ G. HandsOn m (cond (walk.pushdownWouldViolateRequirements (decode r) 1 ps) walk.stop (walk.handleMerge G ps)) p) (s .facts) h))
+
+    -- an aggregate: x says that it maintains, y that every column is one of its n group columns cs, z that its child meets the list in its columns
+    pub by-aggregate : kindOf (getD r 0 0) ≡ Aggregate → Proper r → (n : ℕ) (cs : List ℕ) → n ≡ getD r 12 0 → cs ≡ keyColumns r →
+        (x y z : Bool) (l : List Key) → ((0 < length fs) → x ≡ maintains (decode r) fs 0) → y ≡ every (λ k. ltb (k .col) n) ps →
+        l ≡ walk.remapRequirementThroughProjection (take n cs) ps → z ≡ met L l →
+        HandsOn m (walk.goIf (x && (y && z)) (λ i. l)) p → HandsOn m (walk.pushByKind (decode r) fs ps) p
+    by-aggregate e q n cs en ec x y z l ex ey el ez h =
+        let g : take n cs ≡ columnsOf (fromBytes r .keys) = lent-groups r q n cs en ec in
+        let some : 0 < m = one-at-least m (count-of _ (op-of r Aggregate e)) in
+        let w : n ≡ length (columnsOf (fromBytes r .keys)) = en ∙ sym (length-map (fromBytes r .keys) (λ k. k .col) ∙ key-count r (q .long) (q .few)) in
+        let d : l ≡ walk.remapRequirementThroughProjection (columnsOf (fromBytes r .keys)) ps = el ∙ ap (λ c. walk.remapRequirementThroughProjection c ps) g in
+        let i : walk.goIf (x && (y && z)) (λ i. l) ≡ walk.pushByKind (operatorOf Aggregate (fromBytes r)) fs ps =
+        ap₂ (λ b k. walk.goIf b (λ i. k))
+        (ap₂ _&&_ (ex (let z = s .long in omega arith) ∙ ap (λ k. maintains k fs 0) (op-of r Aggregate e))
+        (ap₂ _&&_ (ey ∙ ap (λ j. every (λ k. ltb (k .col) j) ps) w) (ez ∙ ap₂ met (s .first some) d))) d in
+        by-kind Aggregate e (subst (λ P. HandsOn m P p) i h)
 
     pub by-requirement : kindOf (getD r 0 0) ≡ OutputRequirement
         → HandsOn m (cond (walk.pushdownWouldViolateRequirements (decode r) 1 ps) walk.stop (walk.handleCustomPushdown ps)) p
@@ -135,6 +174,7 @@ through-is (sortMergeJoin t on) fs ts m l c f e b h = refl
 through-is (hashJoin t on) fs ts m l c f e b h = refl
 through-is (outputRequirement ks d g) fs ts m l c f e b h = refl
 through-is (partialSort p ks k g) fs ts m l c f e b h = refl
+through-is (aggregate ks k) fs ts m l c f e b h = refl
 
 pub first-among : (n o : Op) (fs : List Facts) (m : ℕ) (F L R : Facts) → SeenNode n o fs m F L R → 0 < length fs → Among n fs 0 F L
 first-among n o fs m F L R s h =

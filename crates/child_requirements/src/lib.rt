@@ -1,11 +1,14 @@
 // pushdown_requirement_to_children: how a required order goes past a node.
 use asked_facts::known_order;
 use asked_facts::width;
+use byte_rows::wide;
 use key_lists::Keys;
 use key_lists::Order;
 use key_lists::order_of;
 use maintained_orders::maintains;
 use met_orders::compatible;
+use met_orders::meets;
+use moved_requirements::all_below;
 use moved_requirements::none_equal;
 use moved_requirements::remap_requirement_through_projection;
 use node_fetches::cardinality_equal;
@@ -19,8 +22,12 @@ use plan::Kind;
 use push_requirements::Pushed;
 use push_requirements::joins::handle_hash_join;
 use push_requirements::joins::try_pushdown_requirements_to_join;
+use record_fields::KEY_COUNT;
 use record_fields::KIND;
+use record_fields::WIDTH;
 use record_fields::kind_of;
+use record_fields::tail_columns;
+use record_keys::key_columns;
 use wanted_inputs::wanted_order;
 ghost use mathlib.Core.Path.{_≡_};
 ghost use mathlib.Core.Bool.{cond, not, _&&_, _||_};
@@ -67,8 +74,25 @@ fn handle_projection_pushdown(r: &[u8], parent: Keys) -> Pushed
     ensures { λ p. ⌜ ((cols : List ℕ) (m : ℕ) → decode (now (r .entry)) ≡ projection cols → HandsOn m (walk.handleProjectionPushdown cols (keysOf parent)) p)
         ⌝ }
 {
-    let order = order_of(remap_requirement_through_projection(r, parent));
+    let cols = tail_columns(r);
+    let n = wide(r[WIDTH]);
+    let order = order_of(remap_requirement_through_projection(&cols[..n], parent));
     Pushed::Goes(order, order)
+}
+
+// To the child, if the aggregate maintains it, all columns are group columns, and the child meets the requirement in its columns already.
+fn handle_aggregate_pushdown(r: &[u8], own: &[u8], a: &[u8], parent: Keys) -> Pushed
+    requires { ⌜ Proper (now r) × (kindOf (getD (now r) 0 0) ≡ kinds.Aggregate) × FactRow (now own) × FactRow (now a) × (parent .len ≤ 8) ⌝ }
+    ensures { λ p. ⌜ ((o : Op) (fs : List sem.Facts) (m : ℕ) (R : sem.Facts) → SeenNode (decode (now (r .entry))) o fs m (told (now (own .entry)))
+        (told (now (a .entry))) R → HandsOn m (walk.pushByKind (decode (now (r .entry))) fs (keysOf parent)) p) ⌝ }
+{
+    let cols = key_columns(r);
+    let n = wide(r[KEY_COUNT]);
+    let mapped = remap_requirement_through_projection(&cols[..n], parent);
+    if maintains(r, own, a, 0) & (all_below(n, parent) & meets(a, mapped)) {
+        return handle_custom_pushdown(mapped);
+    }
+    Pushed::Stop
 }
 
 fn handle_sort(r: &[u8], a: &[u8], parent: Keys) -> Pushed
@@ -146,6 +170,7 @@ fn push_by_kind(r: &[u8], own: &[u8], a: &[u8], b: &[u8], parent: Keys) -> Pushe
         Kind::HashJoin => handle_hash_join(join_type(r), width(own), width(b), parent),
         Kind::OutputRequirement => push_past_output_requirement(r, parent),
         Kind::PartialSort => Pushed::Stop,
+        Kind::Aggregate => handle_aggregate_pushdown(r, own, a, parent),
     }
 }
 

@@ -1,4 +1,4 @@
--- Demand 3, rows: where a tree has no join, limit or fetch, then for each of the four walks, whatever its settings and whatever rows the
+-- Demand 3, rows: where a tree has no join, aggregate, limit or fetch, then for each of the four walks, whatever its settings and whatever rows the
 -- sources hold (declared facts kept or not), every run of the tree given and every run of the tree returned, on the same source rows and
 -- filter tests, however a source's rows are spread over its streams, deliver the same rows, each as often, over all the root's streams.
 -- Definitions: Plan, wellFormed (plan); Env, Run, SameInputs (semantics); ensured, parallelized, preserved, pushed, clear (walks).

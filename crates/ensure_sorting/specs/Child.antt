@@ -26,7 +26,7 @@ use Rattle.walks.specs.Terms.{blank}
 use Rattle.walks.specs.Utils.{newSort, addSortAbove}
 use Rattle.walks.specs.theorems.common.Trees.{OkT, ok-fit}
 use Rattle.walks.specs.theorems.common.Keeps.{KeepsAll}
-use Rattle.walks.specs.theorems.common.OrderMet.{fresh-nf}
+use Rattle.walks.specs.theorems.common.OrderMet.{fresh-same}
 use Rattle.walks.specs.theorems.common.ConstantSorts.{fact-canon}
 use Rattle.walks.specs.theorems.ensure.Kept.{removeKids-kept}
 use Rattle.walks.specs.EnsureSorting.{connected, updateSortCtxChildrenData, updateChildToRemoveUnnecessarySort, removeKids, ensureChild}
@@ -91,7 +91,7 @@ same-blank s t h =
 -- keys that are all constant are met
 none-met : (t u : Tree) (ks : List Key) → blank (fact u) ≡ blank (fact t) → freshKeys (fact u) [] ks ≡ [] → met (fact t) ks ≡ true
 none-met t u ks e q =
-    let x : nf (fact u) [] ks ≡ [] = sym (fresh-nf (fact u) (fact-canon u) [] [] ks (λ c i. no-bool i)) ∙ ap (nf (fact u) []) q in
+    let x : nf (fact u) [] ks ≡ [] = sym (fresh-same (fact u) (fact-canon u) ks) ∙ ap (nf (fact u) []) q in
     let y : nf (fact t) [] ks ≡ nf (fact u) [] ks = ap (λ F. nf F [] ks) (sym e) in
     ap (λ l. prefixb l (knownOrder (fact t))) (y ∙ x)
 

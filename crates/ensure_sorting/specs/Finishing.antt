@@ -9,7 +9,7 @@ use lib.Dec.{ltb, leb}
 use lib.ListN.{length, getD}
 use Rattle.row_order.specs.Order.{no-bool}
 use Rattle.plan.specs.Forest.{size}
-use Rattle.plan.specs.Op.{Op, source, filter, projection, union, repartition, coalesce, sortOp, mergeOp, globalLimit, localLimit, sortMergeJoin, hashJoin, outputRequirement, partialSort}
+use Rattle.plan.specs.Op.{Op, source, filter, projection, union, repartition, coalesce, sortOp, mergeOp, globalLimit, localLimit, sortMergeJoin, hashJoin, outputRequirement, partialSort, aggregate}
 use Rattle.plan.specs.Numbers.{code}
 use Rattle.plan.specs.WellFormed.{someFetch, nodeOk}
 use Rattle.plan.specs.declared.Fetch.{Fetch}
@@ -68,6 +68,7 @@ by-other (sortMergeJoin y on) t f = refl
 by-other (hashJoin y on) t f = refl
 by-other (outputRequirement ks d g) t f = refl
 by-other (partialSort p ks n g) t f = refl
+by-other (aggregate ks n) t f = refl
 
 several-not : (n : ℕ) → leb n 1 ≡ not (ltb 1 n)
 several-not zero = refl

@@ -10,7 +10,7 @@ use lib.Dec.{eqb}
 use lib.ListN.{length, getD, take, set, replicate, length-set}
 use lib.Seq.{take-suc, take-suc-set, take-all}
 use Rattle.plan.specs.Forest.{none, tree, roots, size}
-use Rattle.plan.specs.Op.{Op, source, filter, projection, union, repartition, coalesce, sortOp, mergeOp, globalLimit, localLimit, sortMergeJoin, hashJoin, outputRequirement, partialSort}
+use Rattle.plan.specs.Op.{Op, source, filter, projection, union, repartition, coalesce, sortOp, mergeOp, globalLimit, localLimit, sortMergeJoin, hashJoin, outputRequirement, partialSort, aggregate}
 use Rattle.plan.specs.Numbers.{code}
 use Rattle.plan.specs.WellFormed.{nodeOk}
 use Rattle.plan_format.specs.Record.{children}
@@ -65,6 +65,7 @@ by-other (sortMergeJoin y on) t f = refl
 by-other (hashJoin y on) t f = refl
 by-other (outputRequirement ks d g) t f = refl
 by-other (partialSort p ks n g) t f = refl
+by-other (aggregate ks n) t f = refl
 
 positive : (n : ℕ) → (n ≡ 0 → ⊥) → 0 < n
 positive zero f = absurd (f refl)

@@ -28,7 +28,7 @@ ghost use Rattle.join_orders.specs.KeptSides.{keptOf};
 ghost use Rattle.join_facts.specs.Joining.{onOf, Linkable, Joinable};
 
 // The left side's facts, before n columns of which nothing is known.
-fn placed(f: Facts, n: usize) -> Facts
+pub fn placed(f: Facts, n: usize) -> Facts
     requires { ⌜ Coherent f × (f .width + n ≤ 32) ⌝ }
     ensures { λ r. ⌜ Says (sem.placed (known f) n) r ⌝ }
 {

@@ -72,5 +72,6 @@ pub fn maintains(r: &[u8], own: &[u8], child: &[u8], j: usize) -> bool
         Kind::HashJoin => hash_keeps(join_type_of(r[ROLE]), j),
         Kind::OutputRequirement => true,
         Kind::PartialSort => false,
+        Kind::Aggregate => is_ordered(own),
     }
 }

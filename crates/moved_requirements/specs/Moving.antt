@@ -4,7 +4,7 @@ use mathlib.Core.Bool.{Bool, true, false}
 use mathlib.Core.List.{List, [], _∷_, map}
 use Prim.Native.Nat.{ℕ, zero, suc, _+_, _-_, _/_, _≤_, _<_}
 use native.Mathlib.Omega.{arith}
-use lib.Dec.{leb, le→leb, lt→ltb}
+use lib.Dec.{leb, ltb, le→leb, lt→ltb}
 use lib.IntN.{ℤ, pos, negℤ, natAbs, _+ℤ_, _-ℤ_, +ℤ-idl}
 use lib.ListN.{getD}
 use mir.Syntax.{w64}
@@ -58,7 +58,22 @@ module _ (off n w : ℕ) where
   pub from-more : 0 < n → leb off (keyOf w .col) ≡ true → allFrom off (n - 1) (w / 256) ≡ allFrom off n w
   from-more h e = rw (next n w h, e)
 
--- ---- through a projection
+-- ---- every column below a number
+
+abbrev pub allBelow : ℕ → ℕ → ℕ → Bool
+allBelow m n w = every (λ k. ltb (k .col) m) (keysIn n w)
+
+module _ (m n w : ℕ) where
+  pub below-end : n ≤ 0 → allBelow m n w ≡ true
+  below-end h = rw (end n w h)
+
+  pub below-not : 0 < n → ltb (keyOf w .col) m ≡ false → allBelow m n w ≡ false
+  below-not h e = rw (next n w h, e)
+
+  pub below-more : 0 < n → ltb (keyOf w .col) m ≡ true → allBelow m (n - 1) (w / 256) ≡ allBelow m n w
+  below-more h e = rw (next n w h, e)
+
+-- ---- through a projection, or an aggregate
 
 -- one key more at its child column
 pub moved-more : (cols : List ℕ) (ks : List Key) (out : Keys) (w n c x : ℕ) (r : Keys) → 0 < n → c ≡ getD cols (keyOf w .col) 0

@@ -1,4 +1,4 @@
-// A requirement in the columns of a join's right side or of a projection's child, and two requirements compared key by key (sort_pushdown.rs).
+// A requirement in the columns of a join's right side or of a projection's or an aggregate's child, and two requirements compared key by key (sort_pushdown.rs).
 use key_list_algebra::drop_repeats;
 use key_list_algebra::move_keys;
 use key_lists::Keys;
@@ -6,22 +6,17 @@ use key_lists::appended;
 use key_lists::no_keys;
 use key_lists::same_key;
 use key_lists::with_column;
-use node_properties::child_column;
 use row_order::column;
 ghost use mathlib.Core.Path.{_≡_};
-ghost use mathlib.Core.List.{List, map};
-ghost use Prim.Native.Nat.{ℕ, _<_, _≤_};
-ghost use lib.Dec.{leb};
+ghost use mathlib.Core.List.{map};
+ghost use Prim.Native.Nat.{_<_, _≤_};
+ghost use lib.Dec.{leb, ltb};
 ghost use lib.IntN.{negℤ, pos};
 ghost use lib.ListN.{getD};
 ghost use Rattle.row_order.specs.Lists.{All};
-ghost use Rattle.plan.specs.Op.{projection};
-ghost use Rattle.plan.specs.Numbers.{kindOf};
 ghost use Rattle.plan.specs.WellFormed.{every};
-ghost use Rattle.plan.specs.declared.Kind.the-variants as kinds;
-ghost use Rattle.plan_codec.specs.Decode.{decode};
+ghost use Rattle.class_tables.specs.Tables.{Columns};
 ghost use Rattle.key_lists.specs.Keys.{keysOf, Keyed};
-ghost use Rattle.record_fields.specs.Proper.{Proper};
 ghost use Rattle.walks.specs.SortPushdown.{atColumn, noneEqual, addOffsetToPhysicalSortExprs, remapRequirementThroughProjection};
 
 // ---- columns of a join's right side
@@ -58,18 +53,29 @@ pub fn moved_back(off: usize, keys: Keys) -> Keys
     move_keys(keys, back(off))
 }
 
-// ---- through a projection
+// ---- through a projection, or an aggregate: cols are the child columns of its columns, or of its group columns
+
+// The column at place c; 0 past the columns.
+fn column_at(cols: &[usize], c: usize) -> usize
+    requires { ⌜ Columns (now cols) ⌝ }
+    ensures { λ x. ⌜ (x ≡ getD (now (cols .entry)) c 0) × (x < 32) ⌝ }
+{
+    if c < cols.len() {
+        return cols[c];
+    }
+    0
+}
 
 // Each key at the child column of its column.
-fn at_child_columns(r: &[u8], keys: Keys) -> Keys
-    requires { ⌜ Proper (now r) × (kindOf (getD (now r) 0 0) ≡ kinds.Projection) × (keys .len ≤ 8) ⌝ }
-    ensures { λ k. ⌜ ((cols : List ℕ) → decode (now (r .entry)) ≡ projection cols → Keyed (map (atColumn (λ c. getD cols c 0)) (keysOf keys)) k) ⌝ }
+fn at_child_columns(cols: &[usize], keys: Keys) -> Keys
+    requires { ⌜ Columns (now cols) × (keys .len ≤ 8) ⌝ }
+    ensures { λ k. ⌜ Keyed (map (atColumn (λ c. getD (now (cols .entry)) c 0)) (keysOf keys)) k ⌝ }
 {
     let mut out = no_keys();
     let mut rest = keys.word;
     let mut left = keys.len;
     while 0 < left {
-        let c = child_column(r, column(rest));
+        let c = column_at(cols, column(rest));
         out = appended(out, with_column(rest, c));
         rest = rest >> 8;
         left -= 1;
@@ -77,13 +83,29 @@ fn at_child_columns(r: &[u8], keys: Keys) -> Keys
     out
 }
 
-// remap_requirement_through_projection
-pub fn remap_requirement_through_projection(r: &[u8], keys: Keys) -> Keys
-    requires { ⌜ Proper (now r) × (kindOf (getD (now r) 0 0) ≡ kinds.Projection) × (keys .len ≤ 8) ⌝ }
-    ensures { λ k. ⌜ ((cols : List ℕ) → decode (now (r .entry)) ≡ projection cols → Keyed (remapRequirementThroughProjection cols (keysOf keys)) k) ⌝ }
+// remap_requirement_through_projection; handle_aggregate_pushdown maps a requirement in the same way
+pub fn remap_requirement_through_projection(cols: &[usize], keys: Keys) -> Keys
+    requires { ⌜ Columns (now cols) × (keys .len ≤ 8) ⌝ }
+    ensures { λ k. ⌜ Keyed (remapRequirementThroughProjection (now (cols .entry)) (keysOf keys)) k ⌝ }
 {
-    let moved = at_child_columns(r, keys);
+    let moved = at_child_columns(cols, keys);
     drop_repeats(moved)
+}
+
+// Whether every column stands below n.
+pub fn all_below(n: usize, keys: Keys) -> bool
+    ensures { λ r. ⌜ r ≡ every (λ k. ltb (k .col) n) (keysOf keys) ⌝ }
+{
+    let mut rest = keys.word;
+    let mut left = keys.len;
+    while 0 < left {
+        if n <= column(rest) {
+            return false;
+        }
+        rest = rest >> 8;
+        left -= 1;
+    }
+    true
 }
 
 // ---- keys compared

@@ -10,7 +10,7 @@ use lib.Seq.{take-at, drop-at}
 use Rattle.row_order.specs.Iso.{Key}
 use Rattle.row_order.specs.Packed.{keyOf}
 use Rattle.scan.specs.Parts.{splice, splice-length}
-use Rattle.plan.specs.Op.{Op, source, filter, projection, union, repartition, coalesce, sortOp, mergeOp, globalLimit, localLimit, sortMergeJoin, hashJoin, outputRequirement, partialSort}
+use Rattle.plan.specs.Op.{Op, source, filter, projection, union, repartition, coalesce, sortOp, mergeOp, globalLimit, localLimit, sortMergeJoin, hashJoin, outputRequirement, partialSort, aggregate}
 use Rattle.plan.specs.Numbers.{code}
 use Rattle.plan.specs.declared.Fetch.{Fetch}
 use Rattle.semantics.specs.Properties.{remark}
@@ -160,6 +160,7 @@ set-marks n (sortMergeJoin t on) q e = absurd (omega arith)
 set-marks n (hashJoin t on) q e = absurd (omega arith)
 set-marks n (outputRequirement ks d f) q e = absurd (omega arith)
 set-marks n (partialSort p ks k f) q e = absurd (omega arith)
+set-marks n (aggregate ks k) q e = absurd (omega arith)
 
 not-marked : (o : Op) (g : Bool → Bool) → (code o ≡ 5 → ⊥) → o ≡ remark g o
 not-marked (source s) g e = refl
@@ -176,6 +177,7 @@ not-marked (sortMergeJoin t on) g e = refl
 not-marked (hashJoin t on) g e = refl
 not-marked (outputRequirement ks d f) g e = refl
 not-marked (partialSort p ks k f) g e = refl
+not-marked (aggregate ks k) g e = refl
 
 module _ (r x : List ℕ) (q : Bool) (c : x ≡ r) (n : ℕ) (e : r ≡ encode n (decode r)) where
   pub marked : (b : ℕ) → b ≡ oneIf q → getD r 0 0 ≡ 5 → set x 3 (getD r 3 0 / 2 * 2 + b) ≡ encode n (remark (λ p. q) (decode r))

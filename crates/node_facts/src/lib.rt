@@ -1,9 +1,10 @@
-// The facts of sources, projections and joins from their records and their children's facts.
+// The facts of sources, projections, aggregates and joins from their records and their children's facts.
 use byte_rows::wide;
 use facts::Facts;
 use facts::projection_facts;
 use facts::source_facts;
 use join_facts::hash_join_facts;
+use join_facts::placed;
 use join_facts::sort_merge_join_facts;
 use record_fields::KEY_COUNT;
 use record_fields::ROLE;
@@ -12,12 +13,13 @@ use record_fields::TAIL;
 use record_fields::WIDTH;
 use record_fields::join_type_of;
 use record_fields::tail_columns;
+use record_keys::key_columns;
 use record_keys::key_list;
 use record_keys::packed_keys;
 ghost use mathlib.Core.Path.{_≡_};
 ghost use mathlib.Core.Bool.{true, cond};
 ghost use mathlib.Core.List.{map};
-ghost use Prim.Native.Nat.{_≤_};
+ghost use Prim.Native.Nat.{_+_, _-_, _≤_};
 ghost use lib.ListN.{length, getD};
 ghost use Rattle.row_order.specs.Packed.{keyOf};
 ghost use Rattle.scan.specs.Bytes.{le32};
@@ -26,7 +28,7 @@ ghost use Rattle.semantics.specs.Facts as sem;
 ghost use Rattle.facts.specs.Known.{known, Coherent, Says};
 ghost use Rattle.join_facts.specs.Joining.{Joinable};
 ghost use Rattle.record_fields.specs.Fields.{tailColumns};
-ghost use Rattle.node_facts.specs.Ready.{count, lentKeys, lentColumns, typeIn, onIn};
+ghost use Rattle.node_facts.specs.Ready.{count, groupsIn, lentKeys, lentColumns, typeIn, onIn};
 
 // A source: width, streams, constants and keys of its record.
 pub fn source_of(r: &[u8]) -> Facts
@@ -51,6 +53,33 @@ pub fn projected(r: &[u8], f: Facts) -> Facts
     let cols = tail_columns(r);
     let n = wide(r[WIDTH]);
     projection_facts(f, &cols[..n])
+}
+
+// A projection to the group columns of an aggregate's record.
+fn grouped(r: &[u8], f: Facts) -> Facts
+    requires { ⌜ (length (now r) ≡ 64) × (count (now r) ≤ 8) × Coherent f × (below (f .width) (groupsIn (now r)) ≡ true) ⌝ }
+    ensures { λ g. ⌜ Says (sem.projFacts (known f) (groupsIn (now (r .entry)))) g ⌝ }
+{
+    let cols = key_columns(r);
+    let n = wide(r[KEY_COUNT]);
+    projection_facts(f, &cols[..n])
+}
+
+// How far w passes n.
+fn beyond(w: usize, n: usize) -> usize
+    ensures { λ r. ⌜ r ≡ w - n ⌝ }
+{
+    if n < w { w - n } else { 0 }
+}
+
+// An aggregate: its group columns before its aggregate columns, of which nothing is known.
+pub fn aggregated(r: &[u8], f: Facts) -> Facts
+    requires { ⌜ (length (now r) ≡ 64) × (count (now r) ≤ 8) × Coherent f × (below (f .width) (groupsIn (now r)) ≡ true)
+        × (count (now r) + (getD (now r) 13 0 - count (now r)) ≤ 32) ⌝ }
+    ensures { λ g. ⌜ Says (sem.placed (sem.projFacts (known f) (groupsIn (now (r .entry)))) (getD (now (r .entry)) 13 0 - count (now (r .entry)))) g ⌝ }
+{
+    let more = beyond(wide(r[WIDTH]), wide(r[KEY_COUNT]));
+    placed(grouped(r, f), more)
 }
 
 // A sort-merge join by the type and the key pairs of the record.

@@ -32,6 +32,7 @@ pub fn fetch(r: &[u8]) -> Fetch
         Kind::HashJoin => Fetch::Unlimited,
         Kind::OutputRequirement => fetch_field(r),
         Kind::PartialSort => fetch_field(r),
+        Kind::Aggregate => Fetch::Unlimited,
     }
 }
 
@@ -76,6 +77,7 @@ pub fn supports_limit_pushdown(r: &[u8]) -> bool
         Kind::HashJoin => false,
         Kind::OutputRequirement => false,
         Kind::PartialSort => false,
+        Kind::Aggregate => false,
     }
 }
 
@@ -100,5 +102,6 @@ pub fn cardinality_equal(r: &[u8]) -> bool
         Kind::HashJoin => false,
         Kind::OutputRequirement => false,
         Kind::PartialSort => false,
+        Kind::Aggregate => false,
     }
 }

@@ -37,6 +37,7 @@ fn put_kind(kind: Kind) {
         Kind::HashJoin => put(b"hash-join"),
         Kind::OutputRequirement => put(b"output-requirement"),
         Kind::PartialSort => put(b"partial-sort"),
+        Kind::Aggregate => put(b"aggregate"),
     }
 }
 

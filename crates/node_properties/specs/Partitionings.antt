@@ -9,7 +9,7 @@ use borrow.Author.Tests.{eq-eqb, ne-eqb}
 use Rattle.row_order.specs.Order.{no-bool}
 use Rattle.plan.specs.Numbers.{code, kindNumber, kindOf}
 use Rattle.plan.specs.declared.Kind.{Kind}
-use Rattle.plan.specs.declared.Kind.the-variants.{Source, Filter, Projection, Union, Repartition, Coalesce, Sort, Merge, GlobalLimit, LocalLimit, SortMergeJoin, HashJoin, OutputRequirement, PartialSort}
+use Rattle.plan.specs.declared.Kind.the-variants.{Source, Filter, Projection, Union, Repartition, Coalesce, Sort, Merge, GlobalLimit, LocalLimit, SortMergeJoin, HashJoin, OutputRequirement, PartialSort, Aggregate}
 use Rattle.semantics.specs.Facts.{nothing}
 use Rattle.plan_codec.specs.NodeRecord.{NodeRecord}
 use Rattle.plan_codec.specs.Decode.{decode, fromBytes, operatorOf}
@@ -37,6 +37,7 @@ not-parted SortMergeJoin x e = refl
 not-parted HashJoin x e = refl
 not-parted OutputRequirement x e = refl
 not-parted PartialSort x e = refl
+not-parted Aggregate x e = refl
 
 unparted : (r : List ℕ) → eqb (code (decode r)) 5 ≡ false → partitioning (shape (decode r)) ≡ unequal
 unparted r e = ap (λ o. partitioning (shape o)) (op-of r (kindOf (getD r 0 0)) refl) ∙ not-parted (kindOf (getD r 0 0)) (fromBytes r)

@@ -10,18 +10,14 @@ use record_fields::KIND;
 use record_fields::MARKS;
 use record_fields::ROLE;
 use record_fields::STREAMS;
-use record_fields::TAIL;
-use record_fields::WIDTH;
 use record_fields::join_type_of;
 use record_fields::preserves;
 use record_keys::key_list;
 ghost use mathlib.Core.Path.{_≡_};
 ghost use mathlib.Core.Bool.{Bool·beq};
-ghost use mathlib.Core.List.{List};
-ghost use Prim.Native.Nat.{ℕ, _<_};
 ghost use lib.Dec.{eqb};
 ghost use lib.ListN.{getD};
-ghost use Rattle.plan.specs.Op.{sortMergeJoin, hashJoin, projection};
+ghost use Rattle.plan.specs.Op.{sortMergeJoin, hashJoin};
 ghost use Rattle.plan.specs.Numbers.{code, kindOf};
 ghost use Rattle.plan.specs.declared.Kind.the-variants as kinds;
 ghost use Rattle.semantics.specs.Properties as node;
@@ -130,17 +126,6 @@ pub fn join_type(r: &[u8]) -> JoinType
     ensures hashed { λ t. ⌜ (kindOf (getD (now (r .entry)) 0 0) ≡ kinds.HashJoin → decode (now (r .entry)) ≡ hashJoin t (pairsOf (now (r .entry)))) ⌝ }
 {
     join_type_of(r[ROLE])
-}
-
-// The child column that a projection puts out as column c; 0 past its columns.
-pub fn child_column(r: &[u8], c: usize) -> usize
-    requires { ⌜ Proper (now r) × (kindOf (getD (now r) 0 0) ≡ kinds.Projection) ⌝ }
-    ensures { λ x. ⌜ ((cols : List ℕ) → decode (now (r .entry)) ≡ projection cols → x ≡ getD cols c 0) × (x < 32) ⌝ }
-{
-    if c < wide(r[WIDTH]) {
-        return wide(r[TAIL + c]);
-    }
-    0
 }
 
 // ---- partitionings

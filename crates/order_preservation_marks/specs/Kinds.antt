@@ -7,7 +7,7 @@ use borrow.Author.Tests.{eqb-true}
 use lib.Dec.{eqb}
 use Rattle.row_order.specs.Iso.{Key}
 use Rattle.row_order.specs.Order.{no-bool}
-use Rattle.plan.specs.Op.{Op, source, filter, projection, union, repartition, coalesce, sortOp, mergeOp, globalLimit, localLimit, sortMergeJoin, hashJoin, outputRequirement, partialSort}
+use Rattle.plan.specs.Op.{Op, source, filter, projection, union, repartition, coalesce, sortOp, mergeOp, globalLimit, localLimit, sortMergeJoin, hashJoin, outputRequirement, partialSort, aggregate}
 use Rattle.plan.specs.Numbers.{code}
 use Rattle.plan.specs.WellFormed.{childrenOk}
 use Rattle.plan.specs.declared.Fetch.{Fetch}
@@ -35,6 +35,7 @@ op-ind P s m r c q (sortMergeJoin t on) = q (sortMergeJoin t on) (refl, refl, re
 op-ind P s m r c q (hashJoin t on) = q (hashJoin t on) (refl, refl, refl, refl, refl)
 op-ind P s m r c q (outputRequirement ks d f) = q (outputRequirement ks d f) (refl, refl, refl, refl, refl)
 op-ind P s m r c q (partialSort p ks n f) = q (partialSort p ks n f) (refl, refl, refl, refl, refl)
+op-ind P s m r c q (aggregate ks n) = q (aggregate ks n) (refl, refl, refl, refl, refl)
 
 -- One of the four
 abbrev pub treated : Op → Bool

@@ -10,12 +10,12 @@ use borrow.Author.Tests.{ltb-true, ltb-false, le-leb, lt-leb}
 use Rattle.row_order.specs.Iso.{Key}
 use Rattle.row_order.specs.Order.{no-bool}
 use Rattle.plan.specs.Forest.{Forest, none}
-use Rattle.plan.specs.Op.{Op, source, filter, projection, union, repartition, coalesce, sortOp, mergeOp, globalLimit, localLimit, sortMergeJoin, hashJoin, outputRequirement, partialSort}
+use Rattle.plan.specs.Op.{Op, source, filter, projection, union, repartition, coalesce, sortOp, mergeOp, globalLimit, localLimit, sortMergeJoin, hashJoin, outputRequirement, partialSort, aggregate}
 use Rattle.plan.specs.Numbers.{code, kindOf}
 use Rattle.plan.specs.WellFormed.{fetchOk, keysFit, nodeOk}
 use Rattle.plan.specs.declared.Fetch.{Fetch}
 use Rattle.plan.specs.declared.Kind.{Kind}
-use Rattle.plan.specs.declared.Kind.the-variants.{Source, Filter, Projection, Union, Repartition, Coalesce, Sort, Merge, GlobalLimit, LocalLimit, SortMergeJoin, HashJoin, OutputRequirement, PartialSort}
+use Rattle.plan.specs.declared.Kind.the-variants.{Source, Filter, Projection, Union, Repartition, Coalesce, Sort, Merge, GlobalLimit, LocalLimit, SortMergeJoin, HashJoin, OutputRequirement, PartialSort, Aggregate}
 use Rattle.plan_codec.specs.Decode.{decode, fromBytes, operatorOf}
 use Rattle.semantics.specs.Facts.{Facts, factsOp, sortStreams}
 use Rattle.semantics.specs.Properties.{cuts}
@@ -62,6 +62,7 @@ exprs-are r s k f = subst (λ o. Exprs (shape o) s) (sym (op-of r (kindOf (getD 
     go HashJoin = tt
     go OutputRequirement = tt
     go PartialSort = tt
+    go Aggregate = tt
 
 module _ (r : List ℕ) (F : Facts) where
   pub merge-cascades : eqb (code (decode r)) 8 ≡ true → true ≡ cascades (decode r) F
@@ -108,6 +109,7 @@ by-kind P s m c q (sortMergeJoin t on) = q (sortMergeJoin t on) (record { sort =
 by-kind P s m c q (hashJoin t on) = q (hashJoin t on) (record { sort = refl; merge = refl; coalesce = refl; stays = λ t. refl })
 by-kind P s m c q (outputRequirement ks d f) = q (outputRequirement ks d f) (record { sort = refl; merge = refl; coalesce = refl; stays = λ t. refl })
 by-kind P s m c q (partialSort p ks n f) = q (partialSort p ks n f) (record { sort = refl; merge = refl; coalesce = refl; stays = λ t. refl })
+by-kind P s m c q (aggregate ks n) = q (aggregate ks n) (record { sort = refl; merge = refl; coalesce = refl; stays = λ t. refl })
 
 -- A sort or a merge over t that is rebuilt; w: a width
 pub record Cascaded (o : Op) (s : SortExprs) (w : ℕ) (t : Tree) : Type 0 where

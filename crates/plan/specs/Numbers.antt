@@ -4,7 +4,7 @@ use Prim.Native.Nat.{ℕ, zero, suc}
 use lib.ListN.{getD}
 use Rattle.plan.specs.Op.{Op, kind}
 use Rattle.plan.specs.declared.Kind.{Kind}
-use Rattle.plan.specs.declared.Kind.the-variants.{Source, Filter, Projection, Union, Repartition, Coalesce, Sort, Merge, GlobalLimit, LocalLimit, SortMergeJoin, HashJoin, OutputRequirement, PartialSort}
+use Rattle.plan.specs.declared.Kind.the-variants.{Source, Filter, Projection, Union, Repartition, Coalesce, Sort, Merge, GlobalLimit, LocalLimit, SortMergeJoin, HashJoin, OutputRequirement, PartialSort, Aggregate}
 use Rattle.plan.specs.declared.JoinType.{JoinType}
 use Rattle.plan.specs.declared.JoinType.the-variants.{Inner, Left, Right, Full, LeftSemi, LeftAnti, RightSemi, RightAnti}
 use Rattle.plan.specs.declared.Distribution.{Distribution}
@@ -12,7 +12,7 @@ use Rattle.plan.specs.declared.Distribution.the-variants.{Unspecified, S
 use Rattle.plan.specs.declared.Refusal.{Refusal}
 use Rattle.plan.specs.declared.Refusal.the-variants.{Accepted, Length, BlockSum, Header, KindOrChildren, RecordCount, Field, Column, Width, NoSuchNode, HasPartialSort, AllKeysMet, TooManyNodes, OutputTooShort, ConstantSort}
 
--- 01, 'Kinds': 1 source, .. 14 partial sort
+-- 01, 'Kinds': 1 source, .. 14 partial sort; 02, P1: 15 aggregate
 abbrev pub kindNumber : Kind → ℕ
 kindNumber Source = 1
 kindNumber Filter = 2
@@ -28,11 +28,12 @@ kindNumber SortMergeJoin = 11
 kindNumber HashJoin = 12
 kindNumber OutputRequirement = 13
 kindNumber PartialSort = 14
+kindNumber Aggregate = 15
 
 -- The kind of a number; a number that no kind has is read as 14, and refused before anything is read from it
 abbrev pub kinds : List Kind
 kinds = PartialSort ∷ Source ∷ Filter ∷ Projection ∷ Union ∷ Repartition ∷ Coalesce ∷ Sort ∷ Merge ∷ GlobalLimit ∷ LocalLimit ∷ SortMergeJoin ∷ HashJoin
-    ∷ OutputRequirement ∷ []
+    ∷ OutputRequirement ∷ PartialSort ∷ Aggregate ∷ []
 
 unfoldable pub kindOf : ℕ → Kind
 kindOf k = getD kinds k PartialSort

@@ -5,7 +5,7 @@ use Prim.Native.Nat.{ℕ, zero, suc}
 use Rattle.row_order.specs.Iso.{Key}
 use Rattle.plan.specs.Forest.{Forest}
 use Rattle.plan.specs.declared.Kind.{Kind}
-use Rattle.plan.specs.declared.Kind.the-variants.{Source, Filter, Projection, Union, Repartition, Coalesce, Sort, Merge, GlobalLimit, LocalLimit, SortMergeJoin, HashJoin, OutputRequirement, PartialSort}
+use Rattle.plan.specs.declared.Kind.the-variants.{Source, Filter, Projection, Union, Repartition, Coalesce, Sort, Merge, GlobalLimit, LocalLimit, SortMergeJoin, HashJoin, OutputRequirement, PartialSort, Aggregate}
 use Rattle.plan.specs.declared.JoinType.{JoinType}
 use Rattle.plan.specs.declared.Distribution.{Distribution}
 use Rattle.plan.specs.declared.Fetch.{Fetch}
@@ -46,6 +46,8 @@ pub data Op : Type 0 where
   outputRequirement : List Key → Distribution → Fetch → Op
   -- preserve, keys, met prefix, fetch
   partialSort : Bool → List Key → ℕ → Fetch → Op
+  -- 02, P1: group columns, as keys with options 0; how many aggregate columns stand behind them
+  aggregate : List Key → ℕ → Op
 
 abbrev pub Plan : Type 0
 Plan = Forest Op
@@ -65,3 +67,4 @@ kind (sortMergeJoin t on) = SortMergeJoin
 kind (hashJoin t on) = HashJoin
 kind (outputRequirement ks d f) = OutputRequirement
 kind (partialSort p ks n f) = PartialSort
+kind (aggregate ks n) = Aggregate

@@ -7,7 +7,7 @@ use lib.Count.{ones}
 use lib.ListN.{length, getD}
 use Rattle.row_order.specs.Iso.{Key}
 use Rattle.plan.specs.Forest.{Forest, none, tree, roots, size}
-use Rattle.plan.specs.Op.{On, Op, source, filter, projection, union, repartition, coalesce, sortOp, mergeOp, globalLimit, localLimit, sortMergeJoin, hashJoin, outputRequirement, partialSort, Plan}
+use Rattle.plan.specs.Op.{On, Op, source, filter, projection, union, repartition, coalesce, sortOp, mergeOp, globalLimit, localLimit, sortMergeJoin, hashJoin, outputRequirement, partialSort, aggregate, Plan}
 use Rattle.plan.specs.declared.JoinType.{JoinType}
 use Rattle.plan.specs.declared.JoinType.the-variants.{Inner, Left, Right, Full, LeftSemi, LeftAnti, RightSemi, RightAnti}
 use Rattle.plan.specs.declared.Distribution.{Distribution}
@@ -65,6 +65,8 @@ fieldsOk (sortMergeJoin t on) = some on
 fieldsOk (hashJoin t on) = some on && every (λ k. plain (k .key)) on
 fieldsOk (outputRequirement ks d f) = few ks && (distributionOk d && fetchOk f)
 fieldsOk (partialSort p ks n f) = (some ks && fetchOk f) && (leb 1 n && ltb n (length ks))
+-- 02, P1: "key list = 1 to 8 group columns, options 0, width (byte 13, at least the key count)"
+fieldsOk (aggregate ks n) = (some ks && every plain ks) && leb (length ks + n) 32
 
 -- ---- 4: a child count that the kind can't have
 
@@ -84,6 +86,7 @@ childrenOk (sortMergeJoin t on) k = eqb k 2
 childrenOk (hashJoin t on) k = eqb k 2
 childrenOk (outputRequirement ks d f) k = eqb k 1
 childrenOk (partialSort p ks n f) k = eqb k 1
+childrenOk (aggregate ks n) k = eqb k 1
 
 -- ---- widths; ws are the children's
 
@@ -112,6 +115,8 @@ width (sortMergeJoin t on) ws = joinWidth t (getD ws 0 0) (getD ws 1 0)
 width (hashJoin t on) ws = joinWidth t (getD ws 0 0) (getD ws 1 0)
 width (outputRequirement ks d f) ws = getD ws 0 0
 width (partialSort p ks n f) ws = getD ws 0 0
+-- 02, P1: "group columns plus aggregate columns"
+width (aggregate ks n) ws = length ks + n
 
 abbrev pub widths : Plan → List ℕ
 widths none = []
@@ -134,6 +139,7 @@ unionOk (sortMergeJoin t on) ws = true
 unionOk (hashJoin t on) ws = true
 unionOk (outputRequirement ks d f) ws = true
 unionOk (partialSort p ks n f) ws = true
+unionOk (aggregate ks n) ws = true
 
 -- ---- 7: a column not below its width, or repeated in one key list
 
@@ -152,8 +158,12 @@ below w l = every (λ c. ltb c w) l
 abbrev pub columnsFit : ℕ → List ℕ → Bool
 columnsFit w l = below w l && distinct l
 
+-- The columns of some keys
+abbrev pub columnsOf : List Key → List ℕ
+columnsOf ks = map (λ k. k .col) ks
+
 abbrev pub keysFit : ℕ → List Key → Bool
-keysFit w ks = columnsFit w (map (λ k. k .col) ks)
+keysFit w ks = columnsFit w (columnsOf ks)
 
 abbrev pub onFit : ℕ → ℕ → List On → Bool
 onFit w v on = columnsFit w (map (λ k. k .key .col) on) && columnsFit v (map (λ k. k .other) on)
@@ -183,6 +193,7 @@ columnsOk (sortMergeJoin t on) ws = onFit (getD ws 0 0) (getD ws 1 0) on
 columnsOk (hashJoin t on) ws = onFit (getD ws 0 0) (getD ws 1 0) on
 columnsOk (outputRequirement ks d f) ws = keysFit (getD ws 0 0) ks && distributionFits (getD ws 0 0) d
 columnsOk (partialSort p ks n f) ws = keysFit (getD ws 0 0) ks
+columnsOk (aggregate ks n) ws = keysFit (getD ws 0 0) ks
 
 -- ---- all of it, at one node over children of widths ws; 8: a node wider than 32 columns
 

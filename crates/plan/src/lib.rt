@@ -17,6 +17,7 @@ pub enum Kind {
     HashJoin,
     OutputRequirement,
     PartialSort,
+    Aggregate,
 }
 
 pub enum JoinType {

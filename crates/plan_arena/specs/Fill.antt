@@ -49,7 +49,7 @@ fill-start s c w m h l =
 
 -- a child count that the kind can have is at most eight
 kind-few : (r : List ℕ) → kindOk r ≡ true → children r ≤ 8
-kind-few r e = go (eqb k 4) (eqb k 11 || eqb k 12) (eqb k 1) (and-right (between 1 14 k) (childrenOk k n) e)
+kind-few r e = go (eqb k 4) (eqb k 11 || eqb k 12) (eqb k 1) (and-right (between 1 15 k) (childrenOk k n) e)
   where
     k : ℕ
     k = kindByte r

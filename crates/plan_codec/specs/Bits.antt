@@ -10,7 +10,7 @@ use Rattle.scan.specs.Below.{allBelow, all-at, and-right}
 use Rattle.plan.specs.Numbers.{kindNumber, kindOf, joinNumber, joinTypeOf}
 use Rattle.plan.specs.WellFormed.{between, fetchOk}
 use Rattle.plan.specs.declared.Kind.{Kind}
-use Rattle.plan.specs.declared.Kind.the-variants.{Source, Filter, Projection, Union, Repartition, Coalesce, Sort, Merge, GlobalLimit, LocalLimit, SortMergeJoin, HashJoin, OutputRequirement, PartialSort}
+use Rattle.plan.specs.declared.Kind.the-variants.{Source, Filter, Projection, Union, Repartition, Coalesce, Sort, Merge, GlobalLimit, LocalLimit, SortMergeJoin, HashJoin, OutputRequirement, PartialSort, Aggregate}
 use Rattle.plan.specs.declared.JoinType.{JoinType}
 use Rattle.plan.specs.declared.JoinType.the-variants.{Inner, Left, Right, Full, LeftSemi, LeftAnti, RightSemi, RightAnti}
 use Rattle.plan.specs.declared.Fetch.{Fetch}
@@ -40,11 +40,11 @@ row f g n h i l = eqb-true (f i) (g i) (all-at (λ i. eqb (f i) (g i)) n h i l)
 
 -- ---- kinds and join types
 
-pub kind-back : (k : ℕ) → between 1 14 k ≡ true → kindNumber (kindOf k) ≡ k
+pub kind-back : (k : ℕ) → between 1 15 k ≡ true → kindNumber (kindOf k) ≡ k
 unfolding allBelow kindOf
 kind-back zero e = no-false e
-kind-back (suc k) e = row (λ i. kindNumber (kindOf (suc i))) suc 14 refl k
-    (omega (arith, leb-true (suc k) 14 (and-right (leb 1 (suc k)) (leb (suc k) 14) e)))
+kind-back (suc k) e = row (λ i. kindNumber (kindOf (suc i))) suc 15 refl k
+    (omega (arith, leb-true (suc k) 15 (and-right (leb 1 (suc k)) (leb (suc k) 15) e)))
 
 pub number-back : (k : Kind) → kindOf (kindNumber k) ≡ k
 unfolding kindOf
@@ -62,8 +62,9 @@ number-back SortMergeJoin = refl
 number-back HashJoin = refl
 number-back OutputRequirement = refl
 number-back PartialSort = refl
+number-back Aggregate = refl
 
-pub known : (k : Kind) → between 1 14 (kindNumber k) ≡ true
+pub known : (k : Kind) → between 1 15 (kindNumber k) ≡ true
 known Source = refl
 known Filter = refl
 known Projection = refl
@@ -78,6 +79,7 @@ known SortMergeJoin = refl
 known HashJoin = refl
 known OutputRequirement = refl
 known PartialSort = refl
+known Aggregate = refl
 
 pub join-back : (v : ℕ) → leb v 7 ≡ true → joinNumber (joinTypeOf v) ≡ v
 unfolding allBelow joinTypeOf

@@ -1,16 +1,16 @@
 -- From the 64 bytes of a record to an operator. These are definitions.
 use mathlib.Core.Bool.{cond}
 use mathlib.Core.List.{List, [], _∷_}
-use Prim.Native.Nat.{ℕ, zero, suc}
+use Prim.Native.Nat.{ℕ, zero, suc, _-_}
 use lib.Dec.{eqb}
-use lib.ListN.{getD, take, drop}
+use lib.ListN.{length, getD, take, drop}
 use Rattle.row_order.specs.Iso.{Key}
 use Rattle.row_order.specs.Packed.{bit}
 use Rattle.scan.specs.Bytes.{part, le32}
-use Rattle.plan.specs.Op.{On, Op, source, filter, projection, union, repartition, coalesce, sortOp, mergeOp, globalLimit, localLimit, sortMergeJoin, hashJoin, outputRequirement, partialSort}
+use Rattle.plan.specs.Op.{On, Op, source, filter, projection, union, repartition, coalesce, sortOp, mergeOp, globalLimit, localLimit, sortMergeJoin, hashJoin, outputRequirement, partialSort, aggregate}
 use Rattle.plan.specs.Numbers.{kindOf, joinTypeOf}
 use Rattle.plan.specs.declared.Kind.{Kind}
-use Rattle.plan.specs.declared.Kind.the-variants.{Source, Filter, Projection, Union, Repartition, Coalesce, Sort, Merge, GlobalLimit, LocalLimit, SortMergeJoin, HashJoin, OutputRequirement, PartialSort}
+use Rattle.plan.specs.declared.Kind.the-variants.{Source, Filter, Projection, Union, Repartition, Coalesce, Sort, Merge, GlobalLimit, LocalLimit, SortMergeJoin, HashJoin, OutputRequirement, PartialSort, Aggregate}
 use Rattle.plan.specs.declared.Distribution.{Distribution}
 use Rattle.plan.specs.declared.Distribution.the-variants.{Unspecified, Single, Keyed}
 use Rattle.plan.specs.declared.Fetch.{Fetch}
@@ -79,6 +79,8 @@ operatorOf SortMergeJoin x = sortMergeJoin (joinTypeOf (x .role)) (onOf (x .keys
 operatorOf HashJoin x = hashJoin (joinTypeOf (x .role)) (onOf (x .keys) (x .tail))
 operatorOf OutputRequirement x = outputRequirement (x .keys) (distributionOf (x .role) (le32 (x .tail) 0)) (x .fetch)
 operatorOf PartialSort x = partialSort (x .preserve) (x .keys) (x .role) (x .fetch)
+-- 02, P1: "width .. = group columns plus aggregate columns"
+operatorOf Aggregate x = aggregate (x .keys) (x .width - length (x .keys))
 
 unfoldable pub decode : List ℕ → Op
 decode r = operatorOf (kindOf (getD r 0 0)) (fromBytes r)

@@ -4,10 +4,10 @@ use mathlib.Core.List.{List, [], _∷_, _++_, map}
 use Prim.Native.Nat.{ℕ, zero, suc, _+_, _*_}
 use lib.ListN.{length}
 use Rattle.row_order.specs.Iso.{Key}
-use Rattle.plan.specs.Op.{Op, source, filter, projection, union, repartition, coalesce, sortOp, mergeOp, globalLimit, localLimit, sortMergeJoin, hashJoin, outputRequirement, partialSort}
+use Rattle.plan.specs.Op.{Op, source, filter, projection, union, repartition, coalesce, sortOp, mergeOp, globalLimit, localLimit, sortMergeJoin, hashJoin, outputRequirement, partialSort, aggregate}
 use Rattle.plan.specs.Numbers.{kindNumber, joinNumber, distributionNumber}
 use Rattle.plan.specs.declared.Kind.{Kind}
-use Rattle.plan.specs.declared.Kind.the-variants.{Source, Filter, Projection, Union, Repartition, Coalesce, Sort, Merge, GlobalLimit, LocalLimit, SortMergeJoin, HashJoin, OutputRequirement, PartialSort}
+use Rattle.plan.specs.declared.Kind.the-variants.{Source, Filter, Projection, Union, Repartition, Coalesce, Sort, Merge, GlobalLimit, LocalLimit, SortMergeJoin, HashJoin, OutputRequirement, PartialSort, Aggregate}
 use Rattle.plan.specs.declared.Distribution.{Distribution}
 use Rattle.plan.specs.declared.Distribution.the-variants.{Unspecified, Single, Keyed}
 use Rattle.plan.specs.declared.Fetch.{Fetch}
@@ -91,6 +91,7 @@ recordOf k (hashJoin t on) = withFields HashJoin k 0 false false false (AtMost 0
 recordOf k (outputRequirement ks d f) =
     withFields OutputRequirement k 0 false false false f 0 ks 0 (distributionNumber d) (fourBytes (keyedSet d))
 recordOf k (partialSort p ks n f) = withFields PartialSort k 0 p false false f 0 ks 0 n []
+recordOf k (aggregate ks n) = withFields Aggregate k 0 false false false (AtMost 0) 0 ks (length ks + n) 0 []
 
 unfoldable pub encode : ℕ → Op → List ℕ
 encode k o = toBytes (recordOf k o)

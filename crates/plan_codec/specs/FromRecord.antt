@@ -2,7 +2,7 @@
 use mathlib.Core.Path.{_≡_, refl, sym, ap, ap₂, _∙_}
 use mathlib.Core.Bool.{Bool, true, false, cond, not, _&&_, _||_}
 use mathlib.Core.List.{List, [], _∷_, map}
-use Prim.Native.Nat.{ℕ, zero, suc, _^_, _≤_, _<_}
+use Prim.Native.Nat.{ℕ, zero, suc, _+_, _-_, _^_, _≤_, _<_}
 use native.Mathlib.Omega.{arith}
 use lib.Count.{ones}
 use lib.Dec.{leb, ltb, eqb, leb·zero}
@@ -16,7 +16,7 @@ use Rattle.plan.specs.Op.{kind}
 use Rattle.plan.specs.Numbers.{kindNumber, joinNumber, joinTypeOf, distributionNumber}
 use Rattle.plan.specs.WellFormed.{between, every, plain, few, some, someFetch, distributionOk, fetchOk, fieldsOk}
 use Rattle.plan.specs.declared.Kind.{Kind}
-use Rattle.plan.specs.declared.Kind.the-variants.{Source, Filter, Projection, Union, Repartition, Coalesce, Sort, Merge, GlobalLimit, LocalLimit, SortMergeJoin, HashJoin, OutputRequirement, PartialSort}
+use Rattle.plan.specs.declared.Kind.the-variants.{Source, Filter, Projection, Union, Repartition, Coalesce, Sort, Merge, GlobalLimit, LocalLimit, SortMergeJoin, HashJoin, OutputRequirement, PartialSort, Aggregate}
 use Rattle.plan.specs.declared.Fetch.{Fetch}
 use Rattle.plan.specs.declared.Fetch.the-variants.{Unlimited, AtMost}
 use Rattle.plan_format.specs.declared.Fields.{Fields}
@@ -100,7 +100,7 @@ clean-same f k x e g long =
     let sk = number-free (f .skip) (x .skip) (g .skip) in
     let ks = keys-used (f .«needs_key») (f .hash) (x .hash) (f .noted) (x .keys)
     (and-right (leb n 8) (either (f .«needs_key» || (f .hash && x .hash)) (leb 1 n) (f .noted || eqb n 0)) (g .count)) in
-    let wi = number-used (f .width) (between 1 32 (x .width)) (x .width) (g .width) in
+    let wi = number-used (f .width) (between (cond (f .groups) n 1) 32 (x .width)) (x .width) (g .width) in
     let ro = role-used (f .join) (f .distribution) (f .prefix) (leb (x .role) 7) (leb (x .role) 2) (leb 1 (x .role) && ltb (x .role) n) (x .role)
     (g .role) in
     let ta : fill 32 (take u (x .tail)) ≡ x .tail = ap (λ (m : ℕ). fill m (take u (x .tail))) (sym long) ∙ fill-back u (x .tail) (g .rest) in
@@ -222,6 +222,11 @@ module _ (x : NodeRecord) (long : length (x .tail) ≡ 32) (by : (i : ℕ) → g
       λ i. edit (clean (F OutputRequirement) OutputRequirement x) (x .keys) 0 (role-back (x .role) (le32 (x .tail) 0) v i)
       (set-back (x .role) (x .tail) v (omega arith) by i)
   record-clean PartialSort g = refl
+  record-clean Aggregate g =
+      let n : ℕ = length (x .keys) in
+      let w : n ≤ x .width = leb-true n (x .width) (and-left (leb n (x .width)) (leb (x .width) 32) (used (between n 32 (x .width)) (g .width))) in
+      let e : n + (x .width - n) ≡ x .width = omega arith in
+      λ i. edit (clean (F Aggregate) Aggregate x) (x .keys) (e i) 0 (fill 32 [])
 
   -- the record of the operator that a record holds
   pub record-back : (k : Kind) → x .kind ≡ k → Rules (fieldsOf (kindNumber k)) x → recordOf (x .children) (operatorOf k x) ≡ x
@@ -266,6 +271,14 @@ module _ (x : NodeRecord) (long : length (x .tail) ≡ 32) (by : (i : ℕ) → g
     record-fields PartialSort g = both (some (x .keys) && fetchOk (x .fetch)) (leb 1 (x .role) && ltb (x .role) (length (x .keys)))
         (both (some (x .keys)) (fetchOk (x .fetch)) (some-are (length (x .keys)) (g .count)) fetch)
         (used (leb 1 (x .role) && ltb (x .role) (length (x .keys))) (g .role))
+    record-fields Aggregate g =
+        let n : ℕ = length (x .keys) in
+        let w : between n 32 (x .width) ≡ true = used (between n 32 (x .width)) (g .width) in
+        let l : n ≤ x .width = leb-true n (x .width) (and-left (leb n (x .width)) (leb (x .width) 32) w) in
+        let e : n + (x .width - n) ≡ x .width = omega arith in
+        both (some (x .keys) && every plain (x .keys)) (leb (n + (x .width - n)) 32)
+        (both (some (x .keys)) (every plain (x .keys)) (some-are n (g .count)) (g .options refl))
+        (ap (λ (v : ℕ). leb v 32) e ∙ and-right (leb n (x .width)) (leb (x .width) 32) w)
 
 pub operator-kind : (k : Kind) (x : NodeRecord) → kind (operatorOf k x) ≡ k
 operator-kind Source x = refl
@@ -282,3 +295,4 @@ operator-kind SortMergeJoin x = refl
 operator-kind HashJoin x = refl
 operator-kind OutputRequirement x = refl
 operator-kind PartialSort x = refl
+operator-kind Aggregate x = refl

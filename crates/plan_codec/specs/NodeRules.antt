@@ -11,7 +11,7 @@ use lib.ListN.{length, getD, take, length-map}
 use borrow.Author.Tests.{eq-eqb, leb-true}
 use Rattle.scan.specs.Below.{and-left, and-right, or-false, and-true}
 use Rattle.scan.specs.Bytes.{part, le32}
-use Rattle.plan.specs.Op.{On, Op, source, filter, projection, union, repartition, coalesce, sortOp, mergeOp, globalLimit, localLimit, sortMergeJoin, hashJoin, outputRequirement, partialSort, kind}
+use Rattle.plan.specs.Op.{On, Op, source, filter, projection, union, repartition, coalesce, sortOp, mergeOp, globalLimit, localLimit, sortMergeJoin, hashJoin, outputRequirement, partialSort, aggregate, kind}
 use Rattle.plan.specs.Numbers.{kindNumber, joinNumber}
 use Rattle.plan.specs.WellFormed.{between, few, distributionOk, fetchOk, fieldsOk, width, joinWidth, unionOk, columnsFit, keysFit, onFit, setFits, distributionFits, below, columnsOk, childrenOk}
 use Rattle.plan.specs.declared.JoinType.{JoinType}
@@ -61,6 +61,7 @@ width-same k (sortMergeJoin t on) ws = join-width t (getD ws 0 0) (getD ws 1 0)
 width-same k (hashJoin t on) ws = join-width t (getD ws 0 0) (getD ws 1 0)
 width-same k (outputRequirement ks d f) ws = refl
 width-same k (partialSort p ks n f) ws = refl
+width-same k (aggregate ks n) ws = refl
 
 pub union-same : (k : ℕ) (o : Op) (ws : List ℕ) → unionRule (encode k o) ws ≡ unionOk o ws
 unfolding encode
@@ -78,6 +79,7 @@ union-same k (sortMergeJoin t on) ws = refl
 union-same k (hashJoin t on) ws = refl
 union-same k (outputRequirement ks d f) ws = refl
 union-same k (partialSort p ks n f) ws = refl
+union-same k (aggregate ks n) ws = refl
 
 pub children-same : (o : Op) (m : ℕ) → countOk (kindNumber (kind o)) m ≡ childrenOk o m
 children-same (source s) m = or-false (eqb m 0)
@@ -94,6 +96,7 @@ children-same (sortMergeJoin t on) m = or-false (eqb m 2)
 children-same (hashJoin t on) m = or-false (eqb m 2)
 children-same (outputRequirement ks d f) m = refl
 children-same (partialSort p ks n f) m = refl
+children-same (aggregate ks n) m = refl
 
 -- ---- columns
 
@@ -179,3 +182,4 @@ columns-same k (outputRequirement ks d f) ws e =
     ∙ ap₂ _&&_ (keys-rule x (getD ws 0 0) (few-of k (outputRequirement ks d f) e))
     (distribution-rule x (getD ws 0 0) d refl (and-left (distributionOk d) (fetchOk f) (and-right (few ks) (distributionOk d && fetchOk f) e)))
 columns-same k (partialSort p ks n f) ws e = keys-alone (recordOf k (partialSort p ks n f)) (getD ws 0 0) (few-of k (partialSort p ks n f) e)
+columns-same k (aggregate ks n) ws e = keys-alone (recordOf k (aggregate ks n)) (getD ws 0 0) (few-of k (aggregate ks n) e)

@@ -10,7 +10,7 @@ use lib.Seq.{getD-drop}
 use borrow.Author.Tests.{eqb-true, leb-true, ltb-true}
 use Rattle.scan.specs.Below.{and-left, and-right}
 use Rattle.scan.specs.Bytes.{le32}
-use Rattle.plan.specs.Op.{Op, source, filter, projection, union, repartition, coalesce, sortOp, mergeOp, globalLimit, localLimit, sortMergeJoin, hashJoin, outputRequirement, partialSort, kind}
+use Rattle.plan.specs.Op.{Op, source, filter, projection, union, repartition, coalesce, sortOp, mergeOp, globalLimit, localLimit, sortMergeJoin, hashJoin, outputRequirement, partialSort, aggregate, kind}
 use Rattle.plan.specs.Numbers.{kindNumber, kindOf}
 use Rattle.plan.specs.WellFormed.{between, every, fieldsOk, childrenOk, width, unionOk, columnsOk}
 use Rattle.plan.specs.declared.Refusal.the-variants.{Accepted, Field, Column, Width}
@@ -44,6 +44,7 @@ few-children (sortMergeJoin t on) k e = let z = eqb-true k 2 e in omega arith
 few-children (hashJoin t on) k e = let z = eqb-true k 2 e in omega arith
 few-children (outputRequirement ks d f) k e = let z = eqb-true k 1 e in omega arith
 few-children (partialSort p ks n f) k e = let z = eqb-true k 1 e in omega arith
+few-children (aggregate ks n) k e = let z = eqb-true k 1 e in omega arith
 
 -- ---- operator, record, operator
 
@@ -73,7 +74,7 @@ module _ (k : ℕ) (o : Op) (e : fieldsOk o ≡ true) where
   pub encode-kind : childrenOk o k ≡ true → kindOk (encode k o) ≡ true
   unfolding encode
   encode-kind h =
-      both (between 1 14 (kindNumber (recordOf k o .kind))) (countOk (kindNumber (recordOf k o .kind)) (recordOf k o .children))
+      both (between 1 15 (kindNumber (recordOf k o .kind))) (countOk (kindNumber (recordOf k o .kind)) (recordOf k o .children))
       (known (recordOf k o .kind))
       (ap₂ countOk (ap kindNumber (kind-of k o)) (children-of k o) ∙ children-same o k ∙ h)
 
@@ -105,8 +106,8 @@ module _ (r : List ℕ) (long : length r ≡ 64) (by : every byte r ≡ true) (h
   small : (a : ℕ) → le32 r a < 4294967296
   small a = let b₀ = at a in let b₁ = at (a + 1) in let b₂ = at (a + 2) in let b₃ = at (a + 3) in omega arith
 
-  ranged : between 1 14 (kindByte r) ≡ true
-  ranged = and-left (between 1 14 (kindByte r)) (countOk (kindByte r) (children r)) hk
+  ranged : between 1 15 (kindByte r) ≡ true
+  ranged = and-left (between 1 15 (kindByte r)) (countOk (kindByte r) (children r)) hk
 
   rules : Rules (fieldsOf (kindNumber (kindOf (kindByte r)))) (fromBytes r)
   rules = rw (kind-back (kindByte r) ranged) (bytes-rules (fields r) r long hr)
@@ -130,4 +131,4 @@ module _ (r : List ℕ) (long : length r ≡ 64) (by : every byte r ≡ true) (h
   decode-children =
       sym (children-same (operatorOf (kindOf (kindByte r)) (fromBytes r)) (children r))
       ∙ ap (λ (n : ℕ). countOk n (children r)) (ap kindNumber (operator-kind (kindOf (kindByte r)) (fromBytes r)) ∙ kind-back (kindByte r) ranged)
-      ∙ and-right (between 1 14 (kindByte r)) (countOk (kindByte r) (children r)) hk
+      ∙ and-right (between 1 15 (kindByte r)) (countOk (kindByte r) (children r)) hk

@@ -37,7 +37,7 @@ pub record Rules (f : Fields) (x : NodeRecord) : Type 0 where
   pub fetch : fetchOk f (fetchNumber (x .fetch)) ≡ true
   pub skip : skipOk f (x .skip) ≡ true
   pub count : keyCountOk f (f .hash && x .hash) (length (x .keys)) ≡ true
-  pub width : widthOk f (x .width) ≡ true
+  pub width : widthOk f (length (x .keys)) (x .width) ≡ true
   pub role : byte14Ok f (length (x .keys)) (x .role) ≡ true
   pub options : plainKeys f x ≡ true → every plain (x .keys) ≡ true
   pub set : keyedSetOk f (x .role) (le32 (x .tail) 0) ≡ true
@@ -173,14 +173,14 @@ module _ (f : Fields) (r : List ℕ) (long : length r ≡ 64) (e : rulesOk f r �
       (and-left (ltb (getD r 3 0) 8)
       ((f .preserve || not (mark (getD r 3 0) 0)) && ((f .hash || not (mark (getD r 3 0) 1)) && (f .unbounded || not (mark (getD r 3 0) 2)))) marks)
 
-  counts : (keyCountOk f h n && widthOk f (getD r 13 0)) ≡ true
-  counts = and-left (keyCountOk f h n && widthOk f (getD r 13 0)) (byte14Ok f n (getD r 14 0) && eqb (getD r 15 0) 0) body
+  counts : (keyCountOk f h n && widthOk f n (getD r 13 0)) ≡ true
+  counts = and-left (keyCountOk f h n && widthOk f n (getD r 13 0)) (byte14Ok f n (getD r 14 0) && eqb (getD r 15 0) 0) body
 
   last : (byte14Ok f n (getD r 14 0) && eqb (getD r 15 0) 0) ≡ true
-  last = and-right (keyCountOk f h n && widthOk f (getD r 13 0)) (byte14Ok f n (getD r 14 0) && eqb (getD r 15 0) 0) body
+  last = and-right (keyCountOk f h n && widthOk f n (getD r 13 0)) (byte14Ok f n (getD r 14 0) && eqb (getD r 15 0) 0) body
 
   few : n ≤ 8
-  few = few-keys f h n (and-left (keyCountOk f h n) (widthOk f (getD r 13 0)) counts)
+  few = few-keys f h n (and-left (keyCountOk f h n) (widthOk f n (getD r 13 0)) counts)
 
   long-keys : length (part 16 16 r) ≡ 16
   long-keys = length-part r 16 16 (omega arith)
@@ -212,8 +212,8 @@ module _ (f : Fields) (r : List ℕ) (long : length r ≡ 64) (e : rulesOk f r �
         unbounded = and-right (f .hash || not (mark m 1)) (f .unbounded || not (mark m 2)) two;
         fetch = ap (fetchOk f) (fetch-back (le32 r 4)) ∙ and-left (fetchOk f (le32 r 4)) (skipOk f (le32 r 8)) tops;
         skip = and-right (fetchOk f (le32 r 4)) (skipOk f (le32 r 8)) tops;
-        count = ap (keyCountOk f h) key-count ∙ and-left (keyCountOk f h n) (widthOk f (getD r 13 0)) counts;
-        width = and-right (keyCountOk f h n) (widthOk f (getD r 13 0)) counts;
+        count = ap (keyCountOk f h) key-count ∙ and-left (keyCountOk f h n) (widthOk f n (getD r 13 0)) counts;
+        width = ap (λ (k : ℕ). widthOk f k (getD r 13 0)) key-count ∙ and-right (keyCountOk f h n) (widthOk f n (getD r 13 0)) counts;
         role = ap (λ (k : ℕ). byte14Ok f k (getD r 14 0)) key-count ∙ and-left (byte14Ok f n (getD r 14 0)) (eqb (getD r 15 0) 0) last;
         options = λ q. bytes-plain n 8 (part 16 16 r) long-keys (λ i t. rw q at (slot-at i t));
         set = ap (keyedSetOk f (getD r 14 0)) (le32-drop r) ∙ and-left (keyedSetOk f (getD r 14 0) (le32 r 32)) (zeros (drop (32 + u) r)) tail;
@@ -222,7 +222,7 @@ module _ (f : Fields) (r : List ℕ) (long : length r ≡ 64) (e : rulesOk f r �
       }
 
   -- the same bytes again
-  module _ (by : (i : ℕ) → getD r i 0 < 256) (known : between 1 14 (getD r 0 0) ≡ true) where
+  module _ (by : (i : ℕ) → getD r i 0 < 256) (known : between 1 15 (getD r 0 0) ≡ true) where
     four-same : (a : ℕ) → fourBytes (le32 r a) ≡ getD r a 0 ∷ getD r (a + 1) 0 ∷ getD r (a + 2) 0 ∷ getD r (a + 3) 0 ∷ []
     four-same a = fourth (getD r a 0) (getD r (a + 1) 0) (getD r (a + 2) 0) (getD r (a + 3) 0) (by a) (by (a + 1)) (by (a + 2)) (by (a + 3)) (le32 r a) refl
 

@@ -1,6 +1,6 @@
 -- The record of an operator whose columns lie below widths of at most 32 is 64 bytes.
 use mathlib.Core.Path.{_≡_, refl, sym, ap, ap₂, _∙_}
-use mathlib.Core.Bool.{Bool, true, false, _&&_}
+use mathlib.Core.Bool.{Bool, true, false, cond, _&&_}
 use mathlib.Core.List.{List, [], _∷_, _++_, map}
 use Prim.Native.Nat.{ℕ, zero, suc, _/_, _%_, _^_, _≤_}
 use native.Mathlib.Omega.{arith}
@@ -9,7 +9,7 @@ use lib.ListN.{length, getD, length-append}
 use borrow.Author.Tests.{eqb-true, leb-true, ltb-true, lt-ltb}
 use Rattle.row_order.specs.Iso.{Key}
 use Rattle.scan.specs.Below.{and-left, and-right, or-false}
-use Rattle.plan.specs.Op.{On, Op, source, filter, projection, union, repartition, coalesce, sortOp, mergeOp, globalLimit, localLimit, sortMergeJoin, hashJoin, outputRequirement, partialSort}
+use Rattle.plan.specs.Op.{On, Op, source, filter, projection, union, repartition, coalesce, sortOp, mergeOp, globalLimit, localLimit, sortMergeJoin, hashJoin, outputRequirement, partialSort, aggregate}
 use Rattle.plan.specs.Numbers.{kindNumber}
 use Rattle.plan.specs.WellFormed.{between, every, few, fieldsOk, below, distinct, columnsFit, keysFit, onFit, setFits, distributionFits, columnsOk}
 use Rattle.plan_format.specs.declared.Fields.{Fields}
@@ -72,9 +72,9 @@ module _ (f : Fields) (x : NodeRecord) (g : Rules f x) where
       let m : ℕ = marksByte (x .preserve) (x .hash) (x .unbounded) in
       let ks = few-keys f (f .hash && x .hash) n (g .count) in
       let st = at-most (f .streams) 1 64 (x .streams) (g .streams) in
-      let wi = at-most (f .width) 1 32 (x .width) (g .width) in
+      let wi = at-most (f .width) (cond (f .groups) n 1) 32 (x .width) (g .width) in
       let ro = role-small (f .join) (f .distribution) (f .prefix) n (x .role) ks (g .role) in
-      let ki = leb-true (kindNumber (x .kind)) 14 (and-right (leb 1 (kindNumber (x .kind))) (leb (kindNumber (x .kind)) 14) (known (x .kind))) in
+      let ki = leb-true (kindNumber (x .kind)) 15 (and-right (leb 1 (kindNumber (x .kind))) (leb (kindNumber (x .kind)) 15) (known (x .kind))) in
       let ma = ltb-true m 8 (marks-bits (x .preserve) (x .hash) (x .unbounded) .small) in
       let start : every byte (kindNumber (x .kind) ∷ x .children ∷ x .streams ∷ m ∷ []) ≡ true =
       ap₂ _&&_ (lt-ltb (kindNumber (x .kind)) 256 (omega arith))
@@ -150,3 +150,4 @@ module _ (k : ℕ) (ws : List ℕ) (h₀ : getD ws 0 0 ≤ 32) (h₁ : getD ws 1
             (bytes-four (keyedSet d));
       }
   small-of (partialSort p ks n f) e c = record { keys = fit-keys ks c; tail = refl }
+  small-of (aggregate ks n) e c = record { keys = fit-keys ks c; tail = refl }

@@ -2,16 +2,16 @@
 use mathlib.Core.Path.{_≡_, refl, ap, ap₂, _∙_}
 use mathlib.Core.Bool.{Bool, true, false, cond, not, _&&_, _||_}
 use mathlib.Core.List.{List, [], _∷_, map}
-use Prim.Native.Nat.{ℕ, _^_, _≤_, _<_}
+use Prim.Native.Nat.{ℕ, _+_, _^_, _≤_, _<_}
 use native.Mathlib.Omega.{arith}
 use lib.Count.{ones}
 use lib.Dec.{leb, ltb, eqb}
 use lib.ListN.{length, drop, length-map}
-use borrow.Author.Tests.{eqb-true, leb-true, ltb-true, ne-eqb}
+use borrow.Author.Tests.{eqb-true, leb-true, ltb-true, le-leb, ne-eqb}
 use Rattle.row_order.specs.Iso.{Key}
 use Rattle.scan.specs.Below.{and-left, and-right, or-false}
 use Rattle.scan.specs.Bytes.{zeros, le32}
-use Rattle.plan.specs.Op.{On, Op, source, filter, projection, union, repartition, coalesce, sortOp, mergeOp, globalLimit, localLimit, sortMergeJoin, hashJoin, outputRequirement, partialSort, kind}
+use Rattle.plan.specs.Op.{On, Op, source, filter, projection, union, repartition, coalesce, sortOp, mergeOp, globalLimit, localLimit, sortMergeJoin, hashJoin, outputRequirement, partialSort, aggregate, kind}
 use Rattle.plan.specs.Numbers.{kindNumber, joinNumber, distributionNumber}
 use Rattle.plan.specs.WellFormed.{between, every, plain, few, some, someFetch, distributionOk, fetchOk, fieldsOk}
 use Rattle.plan.specs.declared.Distribution.{Distribution}
@@ -304,6 +304,23 @@ rules-of k (partialSort p ks n f) e =
       set = refl;
       rest = refl;
     }
+rules-of k (aggregate ks n) e =
+    let a = and-left (some ks && every plain ks) (leb (length ks + n) 32) e in
+    record {
+      streams = refl;
+      preserve = refl;
+      hash = refl;
+      unbounded = refl;
+      fetch = refl;
+      skip = refl;
+      count = needed (length ks) (and-left (some ks) (every plain ks) a);
+      width = keep (between (length ks) 32 (length ks + n)) (both (leb (length ks) (length ks + n)) (leb (length ks + n) 32)
+          (le-leb (length ks) (length ks + n) (omega arith)) (and-right (some ks && every plain ks) (leb (length ks + n) 32) e));
+      role = refl;
+      options = λ q. and-right (some ks) (every plain ks) a;
+      set = refl;
+      rest = refl;
+    }
 
 pub few-of : (k : ℕ) (o : Op) → fieldsOk o ≡ true → length (recordOf k o .keys) ≤ 8
 few-of k o e = let f : Fields = fieldsOf (kindNumber (kind o)) in
@@ -335,6 +352,7 @@ operator-back k (outputRequirement ks d f) e =
     ap (λ (x : Distribution). outputRequirement ks x f)
     (distribution-back d (and-left (distributionOk d) (fetchOk f) (and-right (few ks) (distributionOk d && fetchOk f) e)))
 operator-back k (partialSort p ks n f) e = refl
+operator-back k (aggregate ks n) e = ap (aggregate ks) (omega arith)
 
 pub kind-of : (k : ℕ) (o : Op) → recordOf k o .kind ≡ kind o
 kind-of k (source s) = refl
@@ -351,6 +369,7 @@ kind-of k (sortMergeJoin t on) = refl
 kind-of k (hashJoin t on) = refl
 kind-of k (outputRequirement ks d f) = refl
 kind-of k (partialSort p ks n f) = refl
+kind-of k (aggregate ks n) = refl
 
 pub children-of : (k : ℕ) (o : Op) → recordOf k o .children ≡ k
 children-of k (source s) = refl
@@ -367,6 +386,7 @@ children-of k (sortMergeJoin t on) = refl
 children-of k (hashJoin t on) = refl
 children-of k (outputRequirement ks d f) = refl
 children-of k (partialSort p ks n f) = refl
+children-of k (aggregate ks n) = refl
 
 -- ---- its numbers fit their bytes
 
@@ -406,3 +426,4 @@ fits-of k (partialSort p ks n f) e = record {
   skip = omega arith;
   tail = refl;
 }
+fits-of k (aggregate ks n) e = record { fetch = refl; skip = omega arith; tail = refl }

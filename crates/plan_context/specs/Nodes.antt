@@ -8,7 +8,7 @@ use lib.Dec.{leb}
 use lib.ListN.{length, getD, length-map}
 use borrow.Author.Tests.{eqb-true, leb-true}
 use Rattle.scan.specs.Below.{and-left, and-right}
-use Rattle.plan.specs.Op.{Op, source, filter, projection, union, repartition, coalesce, sortOp, mergeOp, globalLimit, localLimit, sortMergeJoin, hashJoin, outputRequirement, partialSort, kind}
+use Rattle.plan.specs.Op.{Op, source, filter, projection, union, repartition, coalesce, sortOp, mergeOp, globalLimit, localLimit, sortMergeJoin, hashJoin, outputRequirement, partialSort, aggregate, kind}
 use Rattle.plan.specs.Numbers.{kindOf}
 use Rattle.plan.specs.WellFormed.{fieldsOk, childrenOk, unionOk, columnsOk, width, nodeOk}
 use Rattle.plan.specs.declared.Kind.the-variants.{Union}
@@ -42,6 +42,7 @@ few-any (sortMergeJoin t on) n e = omega (arith, eqb-true n 2 e)
 few-any (hashJoin t on) n e = omega (arith, eqb-true n 2 e)
 few-any (outputRequirement ks d t) n e = omega (arith, eqb-true n 1 e)
 few-any (partialSort p ks k t) n e = omega (arith, eqb-true n 1 e)
+few-any (aggregate ks k) n e = omega (arith, eqb-true n 1 e)
 
 -- what a node's rule says of its operator and its number of children
 pub record Counts (o : Op) (n : ℕ) : Type 0 where

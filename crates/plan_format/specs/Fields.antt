@@ -19,14 +19,15 @@ fieldsOf k = record {
   fetch = (leb 6 k && leb k 10) || (eqb k 13 || eqb k 14);
   limit = eqb k 10;
   skip = eqb k 9;
-  -- 'Sort, merge, partial sort, joins and hash repartition need a key'; the hash repartition is known by its mark
-  «needs_key» = (eqb k 7 || eqb k 8) || (eqb k 14 || (eqb k 11 || eqb k 12));
+  -- 'Sort, merge, partial sort, joins and hash repartition need a key'; the hash repartition is known by its mark; 02, P1: an aggregate has '1 to 8'
+  «needs_key» = (eqb k 7 || eqb k 8) || (eqb k 14 || (eqb k 11 || (eqb k 12 || eqb k 15)));
   -- 'only sources, limits (an order note) and kind 13 may have keys or none'
   noted = eqb k 1 || ((eqb k 9 || eqb k 10) || eqb k 13);
-  -- 'hash join and hash repartition keys have options 0'
-  plain = eqb k 12;
-  -- '13 width 1-32 (source, projection)'
-  width = eqb k 1 || eqb k 3;
+  -- 'hash join and hash repartition keys have options 0', and so have group columns
+  plain = eqb k 12 || eqb k 15;
+  -- '13 width 1-32 (source, projection)', and an aggregate's, which is 'at least the key count'
+  width = eqb k 1 || (eqb k 3 || eqb k 15);
+  groups = eqb k 15;
   -- '14 .. distribution (kind 13: 0 none, 1 single, 2 keyed) or, in a partial sort, its met prefix'
   distribution = eqb k 13;
   prefix = eqb k 14;

@@ -18,7 +18,7 @@ use Rattle.plan_format.specs.Record.{kindByte, children, fields}
 abbrev pub joinWidth : ℕ → ℕ → ℕ → ℕ
 joinWidth t a b = cond (ltb t 4) (a + b) (cond (ltb t 6) a b)
 
--- Source and projection have their own width, joins that of both sides by their type, the rest the first child's
+-- Source, projection and aggregate have their own width, joins that of both sides by their type, the rest the first child's
 abbrev pub widthOf : Fields → List ℕ → List ℕ → ℕ
 widthOf f r ws = cond (f .width) (getD r 13 0) (cond (f .join) (joinWidth (getD r 14 0) (getD ws 0 0) (getD ws 1 0)) (getD ws 0 0))
 

@@ -33,7 +33,7 @@ abbrev pub childrenOk : ℕ → ℕ → Bool
 childrenOk k n = either (eqb k 4) (between 2 8 n) (either (eqb k 11 || eqb k 12) (eqb n 2) (either (eqb k 1) (eqb n 0) (eqb n 1)))
 
 abbrev pub kindOk : List ℕ → Bool
-kindOk r = between 1 14 (kindByte r) && childrenOk (kindByte r) (children r)
+kindOk r = between 1 15 (kindByte r) && childrenOk (kindByte r) (children r)
 
 -- ---- 6: 'another field outside its rule'; 'Unused fields and bits are zero'
 
@@ -69,9 +69,9 @@ hashed f m = f .hash && mark m 1
 abbrev pub keyCountOk : Fields → Bool → ℕ → Bool
 keyCountOk f h n = leb n 8 && either (f .«needs_key» || h) (leb 1 n) (f .noted || eqb n 0)
 
--- '13 width 1-32 (source, projection)'
-abbrev pub widthOk : Fields → ℕ → Bool
-widthOk f width = either (f .width) (between 1 32 width) (eqb width 0)
+-- '13 width 1-32 (source, projection)'; an aggregate's is 'at least the key count' n
+abbrev pub widthOk : Fields → ℕ → ℕ → Bool
+widthOk f n width = either (f .width) (between (cond (f .groups) n 1) 32 width) (eqb width 0)
 
 -- '14 join type (0 .. 7), distribution (kind 13: 0 none, 1 single, 2 keyed) or, in a partial sort, its met prefix (1 to key count minus 1)'; n: the key
 -- count
@@ -99,7 +99,7 @@ headOk f r = (streamsOk f (getD r 2 0) && marksOk f (getD r 3 0)) && (fetchOk f 
 
 -- Bytes 12 to 15; '15 zero'
 abbrev pub bodyOk : Fields → List ℕ → Bool
-bodyOk f r = (keyCountOk f (hashed f (getD r 3 0)) (getD r 12 0) && widthOk f (getD r 13 0))
+bodyOk f r = (keyCountOk f (hashed f (getD r 3 0)) (getD r 12 0) && widthOk f (getD r 12 0) (getD r 13 0))
     && (byte14Ok f (getD r 12 0) (getD r 14 0) && eqb (getD r 15 0) 0)
 
 -- Bytes 16 to 31

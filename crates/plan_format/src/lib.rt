@@ -22,6 +22,8 @@ pub struct Fields {
     pub noted: bool,
     pub plain: bool,
     pub width: bool,
+    // a width of the key count at least
+    pub groups: bool,
     // byte 14 of kind 13, and of a partial sort
     pub distribution: bool,
     pub prefix: bool,
@@ -43,10 +45,11 @@ pub fn fields_of(k: u8) -> Fields
         fetch: ((6 <= k) & (k <= 10)) | ((k == 13) | (k == 14)),
         limit: k == 10,
         skip: k == 9,
-        needs_key: ((k == 7) | (k == 8)) | ((k == 14) | ((k == 11) | (k == 12))),
+        needs_key: ((k == 7) | (k == 8)) | ((k == 14) | ((k == 11) | ((k == 12) | (k == 15)))),
         noted: (k == 1) | (((k == 9) | (k == 10)) | (k == 13)),
-        plain: k == 12,
-        width: (k == 1) | (k == 3),
+        plain: (k == 12) | (k == 15),
+        width: (k == 1) | ((k == 3) | (k == 15)),
+        groups: k == 15,
         distribution: k == 13,
         prefix: k == 14,
         constants: k == 1,

@@ -91,13 +91,15 @@ unfolding rulesOk
 field-small f r e =
     let n : ℕ = getD r 12 0 in let w : ℕ = getD r 13 0 in let h : Bool = hashed f (getD r 3 0) in
     let b : bodyOk f r ≡ true = and-left (bodyOk f r) _ (and-right (headOk f r) (bodyOk f r && (keySlotsOk (f .plain || h) r && tailOk f r)) e) in
-    let a : (keyCountOk f h n && widthOk f w) ≡ true = and-left (keyCountOk f h n && widthOk f w) (byte14Ok f n (getD r 14 0) && eqb (getD r 15 0) 0) b in
-    (leb-true n 8 (and-left (leb n 8) _ (and-left (keyCountOk f h n) (widthOk f w) a)), narrow (f .width) (and-right (keyCountOk f h n) (widthOk f w) a))
+    let a : (keyCountOk f h n && widthOk f n w) ≡ true = and-left (keyCountOk f h n && widthOk f n w) (byte14Ok f n (getD r 14 0) && eqb (getD r 15 0) 0) b in (
+      leb-true n 8 (and-left (leb n 8) _ (and-left (keyCountOk f h n) (widthOk f n w) a)),
+      narrow (cond (f .groups) n 1) (f .width) (and-right (keyCountOk f h n) (widthOk f n w) a),
+    )
   where
-    narrow : (t : Bool) → either t (leb 1 (getD r 13 0) && leb (getD r 13 0) 32) (eqb (getD r 13 0) 0) ≡ true → getD r 13 0 ≤ 32
-    narrow true e = leb-true (getD r 13 0) 32
-        (and-right (leb 1 (getD r 13 0)) (leb (getD r 13 0) 32) (sym (or-false (leb 1 (getD r 13 0) && leb (getD r 13 0) 32)) ∙ e))
-    narrow false e = omega (arith, eqb-true (getD r 13 0) 0 e)
+    narrow : (l : ℕ) (t : Bool) → either t (leb l (getD r 13 0) && leb (getD r 13 0) 32) (eqb (getD r 13 0) 0) ≡ true → getD r 13 0 ≤ 32
+    narrow l true e = leb-true (getD r 13 0) 32
+        (and-right (leb l (getD r 13 0)) (leb (getD r 13 0) 32) (sym (or-false (leb l (getD r 13 0) && leb (getD r 13 0) 32)) ∙ e))
+    narrow l false e = omega (arith, eqb-true (getD r 13 0) 0 e)
 
 pub record-small : (s : List ℕ) (j : ℕ) → recordsOk s ≡ true → j < recordCount s → (getD (recordAt s j) 12 0 ≤ 8) × (getD (recordAt s j) 13 0 ≤ 32)
 unfolding recordsOk

@@ -34,7 +34,7 @@ no-count f r p q b = go (f .«needs_key» || hashed f (getD r 3 0)) (f .noted) p
     counted = keyCountOk f (hashed f (getD r 3 0)) (getD r 12 0)
 
     wide : Bool
-    wide = widthOk f (getD r 13 0)
+    wide = widthOk f (getD r 12 0) (getD r 13 0)
 
     go : (a c : Bool) → a ≡ false → c ≡ false → leb (getD r 12 0) 8 && either a (leb 1 (getD r 12 0)) (c || eqb (getD r 12 0) 0) ≡ true → getD r 12 0 ≡ 0
     go true c p q e = absurd (false≢true (sym p))
@@ -60,8 +60,8 @@ not-fetching k a b c d e = go (leb 6 k) (leb k 10) refl refl
     go false y p q = refl
 
 pub no-fields : (k : ℕ) → (k ≡ 1 → ⊥) → (k ≡ 3 → ⊥) → (k ≡ 5 → ⊥) → (k ≡ 6 → ⊥) → (k ≡ 7 → ⊥) → (k ≡ 8 → ⊥) → (k ≡ 9 → ⊥) → (k ≡ 10 → ⊥)
-    → (k ≡ 11 → ⊥) → (k ≡ 12 → ⊥) → (k ≡ 13 → ⊥) → (k ≡ 14 → ⊥) → fieldsOf 2 ≡ fieldsOf k
-no-fields k a1 a3 a5 a6 a7 a8 a9 a10 a11 a12 a13 a14 =
+    → (k ≡ 11 → ⊥) → (k ≡ 12 → ⊥) → (k ≡ 13 → ⊥) → (k ≡ 14 → ⊥) → (k ≡ 15 → ⊥) → fieldsOf 2 ≡ fieldsOf k
+no-fields k a1 a3 a5 a6 a7 a8 a9 a10 a11 a12 a13 a14 a15 =
     let f = not-fetching k a6 a7 a8 a9 a10 in
     rw (
       f,
@@ -76,4 +76,5 @@ no-fields k a1 a3 a5 a6 a7 a8 a9 a10 a11 a12 a13 a14 =
       ne-eqb k 12 a12,
       ne-eqb k 13 a13,
       ne-eqb k 14 a14,
+      ne-eqb k 15 a15,
     )

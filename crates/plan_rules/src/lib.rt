@@ -26,7 +26,7 @@ pub fn kind_ok(r: &[u8]) -> bool
 {
     let k = r[0];
     let n = r[1];
-    ((1 <= k) & (k <= 14)) & children_ok(k, n)
+    ((1 <= k) & (k <= 15)) & children_ok(k, n)
 }
 
 fn source_ok(r: &[u8]) -> bool
@@ -125,6 +125,13 @@ fn partial_sort_ok(r: &[u8]) -> bool
     heads::sort(r) & (bodies::partial_sort(r) & (keys::ok(false, r) & tails::none(r)))
 }
 
+fn aggregate_ok(r: &[u8]) -> bool
+    requires { ⌜ length (now r) ≡ 64 ⌝ }
+    ensures { λ b. ⌜ b ≡ rulesOk (fieldsOf 15) (now (r .entry)) ⌝ }
+{
+    heads::none(r) & (bodies::aggregate(r) & (keys::ok(true, r) & tails::none(r)))
+}
+
 // Whether each field of record r keeps its kind's rule: else refusal 6.
 pub fn record_ok(r: &[u8]) -> bool
     requires { ⌜ length (now r) ≡ 64 ⌝ }
@@ -144,6 +151,7 @@ pub fn record_ok(r: &[u8]) -> bool
         12 => hash_join_ok(r),
         13 => output_requirement_ok(r),
         14 => partial_sort_ok(r),
+        15 => aggregate_ok(r),
         _ => bare_ok(r),
     }
 }

@@ -8,7 +8,7 @@ use borrow.Author.Tests.{eqb-true}
 use lib.ListN.{length, getD, set}
 use Rattle.row_order.specs.Iso.{Key}
 use Rattle.row_order.specs.Packed.{bit}
-use Rattle.plan.specs.Op.{Op, source, filter, projection, union, repartition, coalesce, sortOp, mergeOp, globalLimit, localLimit, sortMergeJoin, hashJoin, outputRequirement, partialSort, kind}
+use Rattle.plan.specs.Op.{Op, source, filter, projection, union, repartition, coalesce, sortOp, mergeOp, globalLimit, localLimit, sortMergeJoin, hashJoin, outputRequirement, partialSort, aggregate, kind}
 use Rattle.plan.specs.Numbers.{kindOf}
 use Rattle.plan.specs.WellFormed.{childrenOk}
 use Rattle.plan.specs.declared.Kind.the-variants.{Repartition}
@@ -57,6 +57,7 @@ rebuilt-same (sortMergeJoin t on) fs e = refl
 rebuilt-same (hashJoin t on) fs e = refl
 rebuilt-same (outputRequirement ks d f) fs e = refl
 rebuilt-same (partialSort p ks n f) fs e = refl
+rebuilt-same (aggregate ks n) fs e = refl
 
 -- The record without the mark
 abbrev pub cleared : List ℕ → List ℕ
@@ -89,6 +90,7 @@ rebuilt-clears k (sortMergeJoin t on) fs e = no-false e
 rebuilt-clears k (hashJoin t on) fs e = no-false e
 rebuilt-clears k (outputRequirement ks d f) fs e = no-false e
 rebuilt-clears k (partialSort p ks n f) fs e = no-false e
+rebuilt-clears k (aggregate ks n) fs e = no-false e
 
 -- a record that loses its mark has a one in byte 3
 byte-some : (k n : ℕ) (h : Bool) (ks : List Key) → 0 < getD (encode k (repartition true n h ks)) 3 0
@@ -111,6 +113,7 @@ losing-byte k (sortMergeJoin t on) fs e = no-false e
 losing-byte k (hashJoin t on) fs e = no-false e
 losing-byte k (outputRequirement ks d f) fs e = no-false e
 losing-byte k (partialSort p ks n f) fs e = no-false e
+losing-byte k (aggregate ks n) fs e = no-false e
 
 -- ---- as the code asks
 
@@ -129,6 +132,7 @@ other-shape (sortMergeJoin t on) F f = refl
 other-shape (hashJoin t on) F f = refl
 other-shape (outputRequirement ks d g) F f = refl
 other-shape (partialSort p ks n g) F f = refl
+other-shape (aggregate ks n) F f = refl
 
 module _ (m r ks : List ℕ) (a : Over m r ks) where
   pub not-losing : (kindOf (getD r 0 0) ≡ Repartition → ⊥) → false ≡ losing (decode r) (known (forest m ks))

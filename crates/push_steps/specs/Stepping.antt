@@ -8,7 +8,7 @@ use lib.Dec.{eqb}
 use lib.ListN.{length, length-append}
 use Rattle.row_order.specs.Iso.{Key}
 use Rattle.row_order.specs.Order.{no-bool}
-use Rattle.plan.specs.Op.{Op, source, filter, projection, union, repartition, coalesce, sortOp, mergeOp, globalLimit, localLimit, sortMergeJoin, hashJoin, outputRequirement, partialSort}
+use Rattle.plan.specs.Op.{Op, source, filter, projection, union, repartition, coalesce, sortOp, mergeOp, globalLimit, localLimit, sortMergeJoin, hashJoin, outputRequirement, partialSort, aggregate}
 use Rattle.plan.specs.Numbers.{code}
 use Rattle.plan.specs.declared.Fetch.{Fetch}
 use Rattle.plan.specs.declared.Refusal.the-variants.{TooManyNodes, ConstantSort}
@@ -64,6 +64,7 @@ sort-code (sortMergeJoin t on) = refl
 sort-code (hashJoin t on) = refl
 sort-code (outputRequirement ks d f) = refl
 sort-code (partialSort p ks n f) = refl
+sort-code (aggregate ks n) = refl
 
 -- the ways through a step
 module _ (a q p : Bool) (n : ℕ) where

@@ -7,12 +7,12 @@ use native.Mathlib.Omega.{arith}
 use lib.ListN.{length, getD}
 use Rattle.row_order.specs.Iso.{Key}
 use Rattle.plan.specs.Forest.{Forest, none, tree, size}
-use Rattle.plan.specs.Op.{Op, source, filter, projection, union, repartition, coalesce, sortOp, mergeOp, globalLimit, localLimit, sortMergeJoin, hashJoin, outputRequirement, partialSort}
+use Rattle.plan.specs.Op.{Op, source, filter, projection, union, repartition, coalesce, sortOp, mergeOp, globalLimit, localLimit, sortMergeJoin, hashJoin, outputRequirement, partialSort, aggregate}
 use Rattle.plan.specs.Numbers.{kindOf}
 use Rattle.plan.specs.WellFormed.{childrenOk, nodeOk}
 use borrow.Author.Tests.{eqb-true}
 use Rattle.plan.specs.declared.Kind.{Kind}
-use Rattle.plan.specs.declared.Kind.the-variants.{Source, Filter, Projection, Union, Repartition, Coalesce, Sort, Merge, GlobalLimit, LocalLimit, SortMergeJoin, HashJoin, OutputRequirement, PartialSort}
+use Rattle.plan.specs.declared.Kind.the-variants.{Source, Filter, Projection, Union, Repartition, Coalesce, Sort, Merge, GlobalLimit, LocalLimit, SortMergeJoin, HashJoin, OutputRequirement, PartialSort, Aggregate}
 use Rattle.plan.specs.declared.Fetch.{Fetch}
 use Rattle.plan_codec.specs.Decode.{decode, fromBytes, operatorOf}
 use Rattle.plan_codec.specs.Encode.{encode}
@@ -121,6 +121,7 @@ own-mark SortMergeJoin r F = refl
 own-mark HashJoin r F = refl
 own-mark OutputRequirement r F = refl
 own-mark PartialSort r F = refl
+own-mark Aggregate r F = refl
 
 -- without children there is no mark
 no-mark : (o : Op) (n : ℕ) (g h : Bool → Bool) → childrenOk o n ≡ true → n ≡ 0 → remark g o ≡ remark h o
@@ -138,6 +139,7 @@ no-mark (sortMergeJoin t on) n g h c e = refl
 no-mark (hashJoin t on) n g h c e = refl
 no-mark (outputRequirement ks d f) n g h c e = refl
 no-mark (partialSort p ks k f) n g h c e = refl
+no-mark (aggregate ks k) n g h c e = refl
 
 module _ (a : List ℕ) (ua i : ℕ) (g : Arena a ua) (l : i < ua) where
   count : childrenOk (decode (slot a i .rec)) (length (slot a i .kids)) ≡ true

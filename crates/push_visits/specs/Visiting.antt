@@ -9,7 +9,7 @@ use lib.ListN.{length, getD}
 use borrow.Author.Tests.{eqb-true}
 use Rattle.row_order.specs.Lists.{All}
 use Rattle.plan.specs.Forest.{none, tree, roots}
-use Rattle.plan.specs.Op.{Op, source, filter, projection, union, repartition, coalesce, sortOp, mergeOp, globalLimit, localLimit, sortMergeJoin, hashJoin, outputRequirement, partialSort, Plan}
+use Rattle.plan.specs.Op.{Op, source, filter, projection, union, repartition, coalesce, sortOp, mergeOp, globalLimit, localLimit, sortMergeJoin, hashJoin, outputRequirement, partialSort, aggregate, Plan}
 use Rattle.plan.specs.WellFormed.{childrenOk, width, joinWidth}
 use Rattle.plan.specs.declared.JoinType.{JoinType}
 use Rattle.plan.specs.declared.Fetch.{Fetch}
@@ -87,6 +87,7 @@ same-mark (sortMergeJoin t on) = refl
 same-mark (hashJoin t on) = refl
 same-mark (outputRequirement ks d f) = refl
 same-mark (partialSort p ks n f) = refl
+same-mark (aggregate ks n) = refl
 
 -- the record of node i
 module _ (a : List ℕ) (ua i : ℕ) (g : Arena a ua) (l : i < ua) where

@@ -1,5 +1,5 @@
 -- What the packed keys and the columns of a record say of its operator. Assumes nothing.
-use mathlib.Core.Path.{_≡_, refl, ap, ap₂, _∙_}
+use mathlib.Core.Path.{_≡_, refl, sym, ap, ap₂, _∙_}
 use mathlib.Core.Bool.{true}
 use mathlib.Core.List.{List, [], _∷_, map}
 use Prim.Native.Nat.{ℕ, zero, suc, _+_, _*_, _/_, _%_, _≤_, _<_}
@@ -10,12 +10,14 @@ use borrow.Author.Tests.{ltb-true}
 use Rattle.row_order.specs.Iso.{Key}
 use Rattle.row_order.specs.Packed as row_order
 use Rattle.scan.specs.Below.{and-left, and-right}
-use Rattle.scan.specs.Bytes.{part}
-use Rattle.plan.specs.WellFormed.{below}
+use Rattle.scan.specs.Bytes.{part, length-part}
+use Rattle.plan.specs.WellFormed.{below, columnsOf}
 use Rattle.plan_format.specs.Blocks.{span}
+use Rattle.plan_format.specs.LastPass.{keyColumns}
 use Rattle.semantics.specs.Properties.{rightKey}
 use Rattle.plan_codec.specs.Decode.{keyOfBytes, keysOf, onOf}
 use Rattle.plan_codec.specs.Fill.{part-bytes}
+use Rattle.plan_codec.specs.Keys.{length-keys}
 use Rattle.record_fields.specs.Fields.{packed, packedKeys, rightPacked, packedRightKeys, tailColumns}
 
 -- ---- keys
@@ -28,19 +30,16 @@ packed-key c o h =
     let d : (32 * o + c % 32) / 64 ≡ o / 2 = omega arith in
     λ i. record { col = a i; desc = eqb (b i % 2) 1; first = eqb (d i % 2) 1 }
 
-abbrev pub columns : List Key → List ℕ
-columns ks = map (λ k. k .col) ks
-
-packed-list : (n : ℕ) (l : List ℕ) → below 32 (columns (keysOf n l)) ≡ true → map row_order.keyOf (take n (packed l)) ≡ keysOf n l
+packed-list : (n : ℕ) (l : List ℕ) → below 32 (columnsOf (keysOf n l)) ≡ true → map row_order.keyOf (take n (packed l)) ≡ keysOf n l
 packed-list zero l h = refl
 packed-list (suc n) [] h = refl
 packed-list (suc n) (c ∷ []) h = refl
 packed-list (suc n) (c ∷ o ∷ l) h =
-    ap₂ _∷_ (packed-key c o (ltb-true c 32 (and-left (ltb c 32) (below 32 (columns (keysOf n l))) h)))
-    (packed-list n l (and-right (ltb c 32) (below 32 (columns (keysOf n l))) h))
+    ap₂ _∷_ (packed-key c o (ltb-true c 32 (and-left (ltb c 32) (below 32 (columnsOf (keysOf n l))) h)))
+    (packed-list n l (and-right (ltb c 32) (below 32 (columnsOf (keysOf n l))) h))
 
 -- the first n packed keys are the record's keys, where each column is one
-pub packed-keys : (n : ℕ) (r : List ℕ) → below 32 (columns (keysOf n (part 16 16 r))) ≡ true
+pub packed-keys : (n : ℕ) (r : List ℕ) → below 32 (columnsOf (keysOf n (part 16 16 r))) ≡ true
     → map row_order.keyOf (take n (packedKeys r)) ≡ keysOf n (part 16 16 r)
 packed-keys n r h = packed-list n (part 16 16 r) h
 
@@ -55,6 +54,29 @@ packed-bytes r h = ap packed (part-bytes r 16 16 (omega arith))
 
 pub length-packed : (r : List ℕ) → length r ≡ 64 → length (packedKeys r) ≡ 8
 length-packed r h = ap length (packed-bytes r h)
+
+-- ---- the keys' columns
+
+-- the first of each two bytes
+abbrev columnsIn : List ℕ → List ℕ
+columnsIn [] = []
+columnsIn (c ∷ []) = []
+columnsIn (c ∷ o ∷ l) = c ∷ columnsIn l
+
+columns-in : (n : ℕ) (l : List ℕ) → take n (columnsIn l) ≡ columnsOf (keysOf n l)
+columns-in zero l = refl
+columns-in (suc n) [] = refl
+columns-in (suc n) (c ∷ []) = refl
+columns-in (suc n) (c ∷ o ∷ l) = ap (λ (m : List ℕ). c ∷ m) (columns-in n l)
+
+-- n of a record's eight key columns are the columns of its first n keys
+pub key-columns : (n : ℕ) (r : List ℕ) → length r ≡ 64 → take n (keyColumns r) ≡ columnsOf (keysOf n (part 16 16 r))
+unfolding span
+key-columns n r h = sym (ap (λ (l : List ℕ). take n (columnsIn l)) (part-bytes r 16 16 (omega arith))) ∙ columns-in n (part 16 16 r)
+
+-- its key count, where it is one
+pub key-count : (r : List ℕ) → length r ≡ 64 → getD r 12 0 ≤ 8 → length (keysOf (getD r 12 0) (part 16 16 r)) ≡ getD r 12 0
+key-count r h m = let l = length-part r 16 16 (omega arith) in length-keys (getD r 12 0) (part 16 16 r) (omega arith)
 
 -- ---- a join's key pairs
 
@@ -71,7 +93,7 @@ length-keys-le (suc n) (c ∷ []) = omega arith
 length-keys-le (suc n) (c ∷ o ∷ l) = omega (arith, length-keys-le n l)
 
 -- n packed keys and n right columns are the record's key pairs
-pub packed-on : (n : ℕ) (r : List ℕ) → below 32 (columns (keysOf n (part 16 16 r))) ≡ true
+pub packed-on : (n : ℕ) (r : List ℕ) → below 32 (columnsOf (keysOf n (part 16 16 r))) ≡ true
     → onOf (map row_order.keyOf (take n (packedKeys r))) (take n (tailColumns r)) ≡ onOf (keysOf n (part 16 16 r)) (drop 32 r)
 packed-on n r h =
     ap (λ ks. onOf ks (take n (tailColumns r))) (packed-keys n r h)

@@ -2,18 +2,18 @@
 use mathlib.Core.Path.{_≡_, refl, sym, ap, ap₂, _∙_, subst}
 use mathlib.Core.Bool.{Bool, true, _&&_}
 use mathlib.Core.List.{List, [], _∷_, map}
-use Prim.Native.Nat.{ℕ, zero, suc, _^_, _≤_, _<_}
+use Prim.Native.Nat.{ℕ, zero, suc, _+_, _^_, _≤_, _<_}
 use native.Mathlib.Omega.{arith}
 use lib.Dec.{ltb, leb}
 use lib.ListN.{length, getD, length-map}
 use borrow.Author.Tests.{ltb-true, leb-true, lt-ltb}
 use Rattle.row_order.specs.Iso.{Key}
 use Rattle.scan.specs.Below.{and-left, and-right}
-use Rattle.plan.specs.Op.{On, Op, source, filter, projection, union, repartition, coalesce, sortOp, mergeOp, globalLimit, localLimit, sortMergeJoin, hashJoin, outputRequirement, partialSort, kind}
+use Rattle.plan.specs.Op.{On, Op, source, filter, projection, union, repartition, coalesce, sortOp, mergeOp, globalLimit, localLimit, sortMergeJoin, hashJoin, outputRequirement, partialSort, aggregate, kind}
 use Rattle.plan.specs.Numbers.{code, kindOf, kindNumber}
-use Rattle.plan.specs.WellFormed.{between, below, distinct, columnsFit, keysFit, onFit, setFits, few, some, fetchOk, fieldsOk, columnsOk, distributionFits}
+use Rattle.plan.specs.WellFormed.{between, every, plain as one-plain, below, distinct, columnsFit, keysFit, onFit, setFits, few, some, fetchOk, fieldsOk, columnsOk, distributionFits, columnsOf}
 use Rattle.plan.specs.declared.Kind.{Kind}
-use Rattle.plan.specs.declared.Kind.the-variants.{Source, Filter, Projection, Union, Repartition, Coalesce, Sort, Merge, GlobalLimit, LocalLimit, SortMergeJoin, HashJoin, OutputRequirement, PartialSort}
+use Rattle.plan.specs.declared.Kind.the-variants.{Source, Filter, Projection, Union, Repartition, Coalesce, Sort, Merge, GlobalLimit, LocalLimit, SortMergeJoin, HashJoin, OutputRequirement, PartialSort, Aggregate}
 use Rattle.class_tables.specs.Tables.{Columns}
 use Rattle.plan_codec.specs.NodeRecord.{NodeRecord}
 use Rattle.plan_codec.specs.Bits.{number-back}
@@ -25,7 +25,6 @@ use Rattle.plan_codec.specs.OneRecord.{encode-long}
 use Rattle.plan_codec.specs.Rules.{fields-same}
 use Rattle.plan_codec.specs.ToRecord.{kind-of, few-of, fits-of}
 use Rattle.record_fields.specs.Fields.{tailColumns}
-use Rattle.record_fields.specs.Decoded.{columns}
 use Rattle.record_fields.specs.Proper.{pairsOf, Proper}
 
 -- ---- columns
@@ -41,10 +40,10 @@ fit-columns : (w : ℕ) (l : List ℕ) → w ≤ 32 → columnsFit w l ≡ true 
 fit-columns w l h e = below-more w 32 l h (and-left (below w l) (distinct l) e)
 
 -- keys whose columns are below a width
-pub fit-below : (w : ℕ) (ks : List Key) → w ≤ 32 → keysFit w ks ≡ true → below 32 (columns ks) ≡ true
-fit-below w ks h e = fit-columns w (columns ks) h e
+pub fit-below : (w : ℕ) (ks : List Key) → w ≤ 32 → keysFit w ks ≡ true → below 32 (columnsOf ks) ≡ true
+fit-below w ks h e = fit-columns w (columnsOf ks) h e
 
-below-at : (l : List ℕ) → below 32 l ≡ true → Columns l
+pub below-at : (l : List ℕ) → below 32 l ≡ true → Columns l
 below-at [] e i = omega arith
 below-at (c ∷ l) e zero = ltb-true c 32 (and-left (ltb c 32) (below 32 l) e)
 below-at (c ∷ l) e (suc i) = below-at l (and-right (ltb c 32) (below 32 l) e) i
@@ -53,7 +52,7 @@ below-at (c ∷ l) e (suc i) = below-at l (and-right (ltb c 32) (below 32 l) e) 
 
 pub record Inside (x : NodeRecord) : Type 0 where
   pub wide : x .width ≤ 32
-  pub keys : below 32 (columns (x .keys)) ≡ true
+  pub keys : below 32 (columnsOf (x .keys)) ≡ true
   pub others : x .kind ≡ SortMergeJoin → below 32 (map (λ k. k .other) (onOf (x .keys) (x .tail))) ≡ true
   pub child : x .kind ≡ Projection → Columns (x .tail)
   pub prefix : x .kind ≡ PartialSort → x .role ≤ length (x .keys)
@@ -65,10 +64,10 @@ not-kind k l n e = absurd (n (ap kindNumber e))
 module _ (n : ℕ) (ws : List ℕ) (w : getD ws 0 0 ≤ 32) (v : getD ws 1 0 ≤ 32) where
   -- a record with the keys ks and nothing else of these
   plain : (x : NodeRecord) → x .width ≡ 0 → (x .kind ≡ SortMergeJoin → ⊥) → (x .kind ≡ Projection → ⊥) → (x .kind ≡ PartialSort → ⊥)
-      → below 32 (columns (x .keys)) ≡ true → Inside x
+      → below 32 (columnsOf (x .keys)) ≡ true → Inside x
   plain x a b c d k = record { wide = omega arith; keys = k; others = λ e. absurd (b e); child = λ e. absurd (c e); prefix = λ e. absurd (d e) }
 
-  left-keys : (on : List On) → onFit (getD ws 0 0) (getD ws 1 0) on ≡ true → below 32 (columns (map (λ k. k .key) on)) ≡ true
+  left-keys : (on : List On) → onFit (getD ws 0 0) (getD ws 1 0) on ≡ true → below 32 (columnsOf (map (λ k. k .key) on)) ≡ true
   left-keys on e = ap (below 32) (on-columns on) ∙ fit-columns (getD ws 0 0) (map (λ k. k .key .col) on) w
       (and-left (columnsFit (getD ws 0 0) (map (λ k. k .key .col) on)) (columnsFit (getD ws 1 0) (map (λ k. k .other) on)) e)
 
@@ -139,6 +138,14 @@ module _ (n : ℕ) (ws : List ℕ) (w : getD ws 0 0 ≤ 32) (v : getD ws 1 0 ≤
         child = not-kind PartialSort Projection (λ z. omega arith);
         prefix = λ z. omega arith;
       }
+  inside-of (aggregate ks m) e c =
+      record {
+        wide = leb-true (length ks + m) 32 (and-right (some ks && every one-plain ks) (leb (length ks + m) 32) e);
+        keys = fit-below (getD ws 0 0) ks w c;
+        others = not-kind Aggregate SortMergeJoin (λ z. omega arith);
+        child = not-kind Aggregate Projection (λ z. omega arith);
+        prefix = not-kind Aggregate PartialSort (λ z. omega arith);
+      }
 
 -- ---- the record
 
@@ -169,7 +176,7 @@ proper r n ws e f c w v =
       fields = f;
       few = let z = few-of n (decode r) f in omega arith;
       wide = subst (λ y. y .width ≤ 32) (sym x) (i .wide);
-      keys = subst (λ y. below 32 (columns (y .keys)) ≡ true) (sym x) (i .keys);
+      keys = subst (λ y. below 32 (columnsOf (y .keys)) ≡ true) (sym x) (i .keys);
       others = λ z. subst (λ y. below 32 (map (λ k. k .other) (onOf (y .keys) (y .tail))) ≡ true) (sym x) (i .others (sym k ∙ z));
       child = λ z. subst (λ y. Columns (y .tail)) (sym x) (i .child (sym k ∙ z));
       prefix = λ z. let p = i .prefix (sym k ∙ z) in let q = ap (λ y. y .role) x in omega arith;

@@ -3,3 +3,4 @@ pub mod Decoded
 pub mod Proper
 pub mod Encoded
 pub mod Kinds
+pub mod Fronts

@@ -47,6 +47,8 @@ pub fn kind_of(k: u8) -> Kind
         11 => Kind::SortMergeJoin,
         12 => Kind::HashJoin,
         13 => Kind::OutputRequirement,
+        14 => Kind::PartialSort,
+        15 => Kind::Aggregate,
         _ => Kind::PartialSort,
     }
 }

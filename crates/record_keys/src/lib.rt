@@ -1,4 +1,5 @@
 // The key lists of a record: the keys with their options, and a join's right columns with the same options.
+use byte_rows::wide;
 use key_lists::Keys;
 use key_lists::keys_of;
 use record_fields::KEY_COUNT;
@@ -8,6 +9,7 @@ ghost use Prim.Native.Nat.{_+_, _*_, _%_, _≤_};
 ghost use lib.ListN.{length, getD, take};
 ghost use Rattle.row_order.specs.Packed.{keyOf};
 ghost use Rattle.key_lists.specs.Keys.{Keyed};
+ghost use Rattle.plan_format.specs.LastPass.{keyColumns};
 ghost use Rattle.record_fields.specs.Fields.{packedKeys, packedRightKeys};
 
 // Column and options of a key as one number: the options stand above the column's five bits.
@@ -34,13 +36,30 @@ pub fn packed_keys(r: &[u8]) -> [usize; 8]
     ]
 }
 
+// The columns of all eight places of a record's keys: an aggregate's group columns.
+pub fn key_columns(r: &[u8]) -> [usize; 8]
+    requires { ⌜ length (now r) ≡ 64 ⌝ }
+    ensures { λ k. ⌜ k ≡ keyColumns (now (r .entry)) ⌝ }
+{
+    [
+        wide(r[16]),
+        wide(r[18]),
+        wide(r[20]),
+        wide(r[22]),
+        wide(r[24]),
+        wide(r[26]),
+        wide(r[28]),
+        wide(r[30]),
+    ]
+}
+
 // The keys of a record.
 pub fn key_list(r: &[u8]) -> Keys
     requires { ⌜ (length (now r) ≡ 64) × (getD (now r) 12 0 ≤ 8) ⌝ }
     ensures { λ k. ⌜ Keyed (map keyOf (take (getD (now (r .entry)) 12 0) (packedKeys (now (r .entry))))) k ⌝ }
 {
     let row = packed_keys(r);
-    keys_of(&row, byte_rows::wide(r[KEY_COUNT]))
+    keys_of(&row, wide(r[KEY_COUNT]))
 }
 
 // The right key columns of a join beside the left keys' options, packed.
@@ -66,5 +85,5 @@ pub fn right_key_list(r: &[u8]) -> Keys
     ensures { λ k. ⌜ Keyed (map keyOf (take (getD (now (r .entry)) 12 0) (packedRightKeys (now (r .entry))))) k ⌝ }
 {
     let row = packed_right_keys(r);
-    keys_of(&row, byte_rows::wide(r[KEY_COUNT]))
+    keys_of(&row, wide(r[KEY_COUNT]))
 }

@@ -90,3 +90,13 @@ pub fn partial_sort(r: &[u8]) -> bool
     let p = scan::get16(r, 14);
     ((n <= 8) & (1 <= n)) & ((1 <= p) & (p < keys))
 }
+
+// One to eight group columns, and a width of the key count to 32.
+pub fn aggregate(r: &[u8]) -> bool
+    requires { ⌜ length (now r) ≡ 64 ⌝ }
+    ensures { λ b. ⌜ b ≡ bodyOk (fieldsOf 15) (now (r .entry)) ⌝ }
+{
+    let n = r[12];
+    let w = r[13];
+    (((n <= 8) & (1 <= n)) & ((n <= w) & (w <= 32))) & (scan::get16(r, 14) == 0)
+}

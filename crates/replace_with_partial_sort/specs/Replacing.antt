@@ -8,7 +8,7 @@ use borrow.Author.Tests.{eq-eqb, ne-eqb}
 use lib.Dec.{eqb}
 use lib.ListN.{length, getD, take}
 use Rattle.row_order.specs.Iso.{Key}
-use Rattle.plan.specs.Op.{Op, source, filter, projection, union, repartition, coalesce, sortOp, mergeOp, globalLimit, localLimit, sortMergeJoin, hashJoin, outputRequirement, partialSort, Plan}
+use Rattle.plan.specs.Op.{Op, source, filter, projection, union, repartition, coalesce, sortOp, mergeOp, globalLimit, localLimit, sortMergeJoin, hashJoin, outputRequirement, partialSort, aggregate, Plan}
 use Rattle.plan.specs.Numbers.{code}
 use Rattle.plan.specs.declared.Fetch.{Fetch}
 use Rattle.plan_codec.specs.NodeRecord.{NodeRecord}
@@ -47,6 +47,7 @@ partial n (sortMergeJoin t on) = sortMergeJoin t on
 partial n (hashJoin t on) = hashJoin t on
 partial n (outputRequirement ks d f) = outputRequirement ks d f
 partial n (partialSort p ks k f) = partialSort p ks k f
+partial n (aggregate ks k) = aggregate ks k
 
 -- What the code's answer stands for, at a node o
 abbrev pub becoming : Op → Answer → Replaced
@@ -90,6 +91,7 @@ other-same (sortMergeJoin t on) c f = refl
 other-same (hashJoin t on) c f = refl
 other-same (outputRequirement ks d g) c f = refl
 other-same (partialSort p ks k g) c f = refl
+other-same (aggregate ks k) c f = refl
 
 -- the only child is unbounded, or not
 only-endless : (m ks : List ℕ) → length ks ≡ 1 → anyOf (endless (strip (forest m ks))) ≡ endlessOp (opT (treeOf m (getD ks 0 0)))

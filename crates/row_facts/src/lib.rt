@@ -14,6 +14,7 @@ use fact_slots::store;
 use fact_slots::word_row;
 use key_lists::Keys;
 use met_orders::normal_form;
+use node_facts::aggregated;
 use node_facts::hash_joined;
 use node_facts::projected;
 use node_facts::sort_merge_joined;
@@ -25,7 +26,7 @@ use record_keys::key_list;
 ghost use mathlib.Core.Path.{_≡_};
 ghost use mathlib.Core.Bool.{true, cond};
 ghost use mathlib.Core.List.{[], _++_, map};
-ghost use Prim.Native.Nat.{_≤_, _<_};
+ghost use Prim.Native.Nat.{_+_, _-_, _≤_, _<_};
 ghost use lib.ListN.{length, getD, take, drop};
 ghost use Rattle.row_order.specs.Packed.{keyOf};
 ghost use Rattle.semantics.specs.Facts as sem;
@@ -34,7 +35,7 @@ ghost use Rattle.fact_slots.specs.Slots.{loaded};
 ghost use Rattle.plan.specs.WellFormed.{below};
 ghost use Rattle.plan_codec.specs.Decode.{decode};
 ghost use Rattle.join_facts.specs.Joining.{Joinable};
-ghost use Rattle.node_facts.specs.Ready.{kidsOf, count, lentKeys, lentColumns, typeIn, onIn};
+ghost use Rattle.node_facts.specs.Ready.{kidsOf, count, groupsIn, lentKeys, lentColumns, typeIn, onIn};
 ghost use Rattle.key_lists.specs.Keys.{keysOf};
 ghost use Rattle.asked_facts.specs.Asked.{told, FactRow};
 ghost use Rattle.row_facts.specs.Over.{OverRows};
@@ -119,6 +120,19 @@ fn project(own: &mut [u8], r: &[u8], b: &[u8])
     store(own, g);
 }
 
+// An aggregate by the group columns of the record.
+fn aggregate(own: &mut [u8], r: &[u8], b: &[u8])
+    requires { ⌜ (length (now own) ≡ 112) × (length (now r) ≡ 64) × (count (now r) ≤ 8) × (48 ≤ length (now b)) × Coherent (loaded (now b))
+        × (below (loaded (now b) .width) (groupsIn (now r)) ≡ true) × (count (now r) + (getD (now r) 13 0 - count (now r)) ≤ 32)
+        × (loaded (now b) .streams < 65536) ⌝ }
+    ensures { λ _. ⌜ Says (sem.placed (sem.projFacts (known (loaded (now (b .entry)))) (groupsIn (now (r .entry))))
+        (getD (now (r .entry)) 13 0 - count (now (r .entry)))) (loaded (now (own .exit))) ⌝ }
+{
+    let f = load_row(b);
+    let g = aggregated(r, f);
+    store(own, g);
+}
+
 // A sort-merge join by the type and the key pairs of the record.
 fn join_sorted(own: &mut [u8], r: &[u8], a: &[u8], b: &[u8])
     requires { ⌜ (length (now own) ≡ 112) × (length (now r) ≡ 64) × (count (now r) ≤ 8) × (48 ≤ length (now a)) × (48 ≤ length (now b))
@@ -175,5 +189,6 @@ pub fn node_into(own: &mut [u8], r: &[u8], first: &[u8], second: &[u8])
         Kind::HashJoin => join_hashed(own, r, first, second),
         Kind::OutputRequirement => keep(own, first),
         Kind::PartialSort => sort(own, r, first, preserves(r)),
+        Kind::Aggregate => aggregate(own, r, first),
     }
 }

@@ -38,5 +38,6 @@ pub fn wants_met(r: &[u8], first: &[u8], second: &[u8]) -> bool
         Kind::HashJoin => true,
         Kind::OutputRequirement => meets(first, key_list(r)),
         Kind::PartialSort => meets(first, front(key_list(r), wide(r[ROLE]))),
+        Kind::Aggregate => true,
     }
 }

@@ -1,4 +1,4 @@
--- The rows of a plan that has no joins and cuts nothing off, one bag for each root. These are definitions.
+-- The rows of a plan that has no joins and no aggregates and cuts nothing off, one bag for each root. These are definitions.
 use mathlib.Core.Bool.{Bool, true, not, _&&_, _||_}
 use mathlib.Core.List.{List, [], _∷_, map}
 use Prim.Native.Nat.{ℕ}
@@ -7,7 +7,7 @@ use lib.ListN.{getD}
 use Rattle.row_order.specs.Iso.{Row}
 use Rattle.row_order.specs.Lists.{concat, Same, tab}
 use Rattle.plan.specs.Forest.{none, tree}
-use Rattle.plan.specs.Op.{Op, source, filter, projection, union, repartition, coalesce, sortOp, mergeOp, globalLimit, localLimit, sortMergeJoin, hashJoin, outputRequirement, partialSort, Plan}
+use Rattle.plan.specs.Op.{Op, source, filter, projection, union, repartition, coalesce, sortOp, mergeOp, globalLimit, localLimit, sortMergeJoin, hashJoin, outputRequirement, partialSort, aggregate, Plan}
 use Rattle.plan.specs.Numbers.{code}
 use Rattle.plan.specs.WellFormed.{someFetch}
 use Rattle.plan.specs.declared.Fetch.{Fetch}
@@ -15,7 +15,7 @@ use Rattle.semantics.specs.Properties.{Cut, cuts}
 use Rattle.semantics.specs.Joins.{keep}
 use Rattle.semantics.specs.Runs.{Streams, Env, nextS, nextF, past, proj}
 
--- A node that is no join, and cuts nothing off
+-- A node that is no join and no aggregate, and cuts nothing off
 abbrev pub isAll : Fetch → Bool
 isAll f = not (someFetch f)
 
@@ -25,14 +25,18 @@ whole k = eqb (k .skip) 0 && isAll (k .fetch)
 abbrev pub isJoin : Op → Bool
 isJoin o = eqb (code o) 11 || eqb (code o) 12
 
+-- 02, P1: "The sentence on lost rows stays for trees without aggregates."
+abbrev pub isAggregate : Op → Bool
+isAggregate o = eqb (code o) 15
+
 abbrev pub simpleOp : Op → Bool
-simpleOp o = whole (cuts o) && not (isJoin o)
+simpleOp o = whole (cuts o) && not (isJoin o || isAggregate o)
 
 abbrev pub simplePlan : Plan → Bool
 simplePlan none = true
 simplePlan (tree o c r) = simpleOp o && (simplePlan c && simplePlan r)
 
--- The rows of a node, from its children's: no kind but filters, projections and unions changes them. A join is left out here
+-- The rows of a node, from its children's: no kind but filters, projections and unions changes them. A join and an aggregate are left out here
 abbrev pub bagOp : Env → ℕ → ℕ → Op → List (List Row) → List Row
 bagOp E i j (source s) bs = concat (tab (s .streams) (E .rows i))
 bagOp E i j filter bs = keep (E .test j) (getD bs 0 [])
@@ -48,6 +52,7 @@ bagOp E i j (sortMergeJoin t on) bs = []
 bagOp E i j (hashJoin t on) bs = []
 bagOp E i j (outputRequirement ks d f) bs = getD bs 0 []
 bagOp E i j (partialSort p ks n f) bs = getD bs 0 []
+bagOp E i j (aggregate ks n) bs = []
 
 abbrev pub bags : Env → ℕ → ℕ → Plan → List (List Row)
 bags E i j none = []

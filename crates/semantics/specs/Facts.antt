@@ -8,8 +8,8 @@ use Rattle.row_order.specs.Iso.{Key}
 use Rattle.row_order.specs.Lists.{tab}
 use Rattle.row_order.specs.Packed.{bit}
 use Rattle.plan.specs.Forest.{Forest, none, tree}
-use Rattle.plan.specs.Op.{On, Op, source, filter, projection, union, repartition, coalesce, sortOp, mergeOp, globalLimit, localLimit, sortMergeJoin, hashJoin, outputRequirement, partialSort, Plan}
-use Rattle.plan.specs.WellFormed.{member}
+use Rattle.plan.specs.Op.{On, Op, source, filter, projection, union, repartition, coalesce, sortOp, mergeOp, globalLimit, localLimit, sortMergeJoin, hashJoin, outputRequirement, partialSort, aggregate, Plan}
+use Rattle.plan.specs.WellFormed.{member, columnsOf}
 use Rattle.plan.specs.declared.JoinType.{JoinType}
 use Rattle.plan.specs.declared.JoinType.the-variants.{Inner, Left, Right, Full, LeftSemi, LeftAnti, RightSemi, RightAnti}
 
@@ -143,6 +143,18 @@ projFacts F cols =
       order = projOrder F cols (F .order);
     }
 
+-- ---- aggregates: "knows order, constants and classes as a projection to its group columns would"; "Group columns come first in its output"
+
+-- A column is one of several, or equals one
+abbrev pub carriedBy : Facts → List ℕ → ℕ → Bool
+carriedBy F [] c = false
+carriedBy F (d ∷ cols) c = eqb (cl F d) (cl F c) || carriedBy F cols c
+
+-- "It maintains exactly when the first key of the child's known order is a group column or equals one"
+abbrev pub keepsGroups : Facts → List Key → List Key → Bool
+keepsGroups F ks [] = false
+keepsGroups F ks (k ∷ known) = carriedBy F (columnsOf ks) (k .col)
+
 -- ---- repartitions and sorts
 
 abbrev pub isNil : {A : Type 0} → List A → Bool
@@ -201,7 +213,7 @@ byRight LeftAnti = false
 byRight RightSemi = true
 byRight RightAnti = true
 
--- The left side's facts, before n columns of which nothing is known
+-- The left side's facts, before n columns of which nothing is known; so are an aggregate's group columns before its aggregate columns
 abbrev pub placed : Facts → ℕ → Facts
 placed F n =
     record {
@@ -328,6 +340,7 @@ factsOp (sortMergeJoin t on) fs = joinFacts t (smjKept t) on (at0 fs) (at1 fs) (
 factsOp (hashJoin t on) fs = joinFacts t (hashKept t) on (at0 fs) (at1 fs) (at1 fs .streams)
 factsOp (outputRequirement ks d f) fs = at0 fs
 factsOp (partialSort p ks n f) fs = ordered (at0 fs) (sortStreams p (at0 fs)) (nf (at0 fs) [] ks)
+factsOp (aggregate ks n) fs = placed (projFacts (at0 fs) (columnsOf ks)) n
 
 -- The facts of each root
 abbrev pub facts : Plan → List Facts

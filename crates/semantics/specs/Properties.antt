@@ -8,14 +8,14 @@ use lib.Bits.{bitOr}
 use lib.ListN.{length, getD, take}
 use Rattle.row_order.specs.Iso.{Key}
 use Rattle.plan.specs.Forest.{none, tree}
-use Rattle.plan.specs.Op.{On, Op, source, filter, projection, union, repartition, coalesce, sortOp, mergeOp, globalLimit, localLimit, sortMergeJoin, hashJoin, outputRequirement, partialSort, Plan}
+use Rattle.plan.specs.Op.{On, Op, source, filter, projection, union, repartition, coalesce, sortOp, mergeOp, globalLimit, localLimit, sortMergeJoin, hashJoin, outputRequirement, partialSort, aggregate, Plan}
 use Rattle.plan.specs.Numbers.{code}
 use Rattle.plan.specs.WellFormed.{someFetch, member}
 use Rattle.plan.specs.declared.Distribution.{Distribution}
 use Rattle.plan.specs.declared.Distribution.the-variants.{Unspecified, Single, Keyed}
 use Rattle.plan.specs.declared.Fetch.{Fetch}
 use Rattle.plan.specs.declared.Fetch.the-variants.{Unlimited}
-use Rattle.semantics.specs.Facts.{Facts, isC, met, nothing, unionFacts, isNil, counts, keepsOrder, Kept, kLeft, kRight, kNone, smjKept, hashKept, at0, knownOrder}
+use Rattle.semantics.specs.Facts.{Facts, isC, met, nothing, unionFacts, isNil, counts, keepsOrder, Kept, kLeft, kRight, kNone, smjKept, hashKept, at0, knownOrder, keepsGroups}
 
 -- ---- wanted orders
 
@@ -45,6 +45,8 @@ wantedOrders (sortMergeJoin t on) = joinKeys on
 wantedOrders (hashJoin t on) = []
 wantedOrders (outputRequirement ks d f) = ks ∷ []
 wantedOrders (partialSort p ks n f) = take n ks ∷ []
+-- 02, P1: an aggregate "wants nothing"
+wantedOrders (aggregate ks n) = []
 
 -- The order that a node wants of its child number i; the empty list is no order
 abbrev pub wanted : Op → ℕ → List Key
@@ -89,6 +91,7 @@ distOf (sortMergeJoin t on) i = bySide on i
 distOf (hashJoin t on) i = leftSingle i
 distOf (outputRequirement ks d f) i = d
 distOf (partialSort p ks n f) i = sortDist p
+distOf (aggregate ks n) i = Unspecified
 
 abbrev pub isSingle : Distribution → Bool
 isSingle Unspecified = false
@@ -122,6 +125,7 @@ maintains (sortMergeJoin t on) fs i = keptSide (smjKept t) i
 maintains (hashJoin t on) fs i = keptSide (hashKept t) i
 maintains (outputRequirement ks d f) fs i = true
 maintains (partialSort p ks n f) fs i = false
+maintains (aggregate ks n) fs i = keepsGroups (at0 fs) ks (knownOrder (at0 fs))
 
 -- ---- fetches
 
@@ -148,6 +152,7 @@ cuts (sortMergeJoin t on) = uncut
 cuts (hashJoin t on) = uncut
 cuts (outputRequirement ks d f) = record { skip = 0; fetch = f }
 cuts (partialSort p ks n f) = record { skip = 0; fetch = f }
+cuts (aggregate ks n) = uncut
 
 -- Reading 3: a projection's fetch is its input's
 abbrev pub fetchOp : Op → List Fetch → Fetch
@@ -187,6 +192,7 @@ sourceEndless (sortMergeJoin t on) = false
 sourceEndless (hashJoin t on) = false
 sourceEndless (outputRequirement ks d f) = false
 sourceEndless (partialSort p ks n f) = false
+sourceEndless (aggregate ks n) = false
 
 abbrev pub anyOf : List Bool → Bool
 anyOf [] = false
@@ -222,6 +228,7 @@ remark g (sortMergeJoin t on) = sortMergeJoin t on
 remark g (hashJoin t on) = hashJoin t on
 remark g (outputRequirement ks d f) = outputRequirement ks d f
 remark g (partialSort p ks n f) = partialSort p ks n f
+remark g (aggregate ks n) = aggregate ks n
 
 -- Reading 1: a preserve mark stays where it counts. "a rewrite clears it elsewhere when it rebuilds the node"
 abbrev pub rebuilt : Op → List Facts → Op

@@ -1,17 +1,18 @@
 -- Runs of a plan (01, 'Rows'): "A run chooses streams for every node". These are definitions.
 use mathlib.Core.Path.{_≡_}
-use mathlib.Core.Bool.{Bool, true, false, cond}
-use mathlib.Core.List.{List, [], _∷_, map}
+use mathlib.Core.Bool.{Bool, true, false, cond, not}
+use mathlib.Core.List.{List, [], _∷_, _++_, map}
 use Prim.Native.Nat.{ℕ, zero, suc}
 use lib.Dec.{eqb}
 use lib.ListN.{length, getD, take, drop}
-use Rattle.row_order.specs.Iso.{Cell, Row, Key, cell}
+use Rattle.row_order.specs.Iso.{Cell, Row, Key, cell, peers}
 use Rattle.row_order.specs.Lists.{All, Mixes, Same, concat, tab}
 use Rattle.row_order.specs.Packed.{bit}
 use Rattle.row_order.specs.Sorting.{Sorted}
 use Rattle.plan.specs.Forest.{Forest, none, tree, roots}
-use Rattle.plan.specs.Op.{On, SourceInfo, Op, source, filter, projection, union, repartition, coalesce, sortOp, mergeOp, globalLimit, localLimit, sortMergeJoin, hashJoin, outputRequirement, partialSort, Plan}
+use Rattle.plan.specs.Op.{On, SourceInfo, Op, source, filter, projection, union, repartition, coalesce, sortOp, mergeOp, globalLimit, localLimit, sortMergeJoin, hashJoin, outputRequirement, partialSort, aggregate, Plan}
 use Rattle.plan.specs.Numbers.{code}
+use Rattle.plan.specs.WellFormed.{every, columnsOf}
 use Rattle.plan.specs.declared.JoinType.{JoinType}
 use Rattle.plan.specs.declared.Fetch.{Fetch}
 use Rattle.plan.specs.declared.Fetch.the-variants.{Unlimited, AtMost}
@@ -79,6 +80,27 @@ pub record MergeOf (ks : List Key) (ins : Streams) (t : List Row) : Type 0 where
   pub mixed : Mixes ins t
   pub sorted : All (Sorted ks) ins → Sorted ks t
 
+-- ---- aggregates: "one row for each group of a stream, nulls in one group and aggregate cells of any value, in the order in which the
+-- groups begin"
+
+-- Two rows are of one group where they are peers by each group column: two nulls are
+abbrev pub oneGroup : List Key → Row → Row → Bool
+oneGroup ks x y = every (λ k. peers k x y) ks
+
+-- The first row of each group of a stream, in their order there
+abbrev pub begins : List Key → List Row → List Row
+begins ks [] = []
+begins ks (x ∷ l) = x ∷ keep (λ y. not (oneGroup ks x y)) (begins ks l)
+
+-- The row of the group that x begins: "Group columns come first in its output", then n cells of any value
+pub record GroupRow (ks : List Key) (n : ℕ) (x out : Row) : Type 0 where
+  pub cells : Row
+  pub many : length cells ≡ n
+  pub is : out ≡ proj (columnsOf ks) x ++ cells
+
+abbrev pub Grouping : List Key → ℕ → List Row → List Row → Type 0
+Grouping ks n s t = Each (GroupRow ks n) (begins ks s) t
+
 -- ---- joins: "like-numbered streams (hash: all left)"; "A missing stream is empty."
 
 abbrev pub Pair : Type 0
@@ -125,6 +147,7 @@ Made E i j (sortMergeJoin t on) fs css out = Each (Joined t (smjKept t) on (at0 
 Made E i j (hashJoin t on) fs css out = Each (Joined t (hashKept t) on (at0 fs .width) (at1 fs .width)) (map (withAll (concat (in0 css))) (in1 css)) out
 Made E i j (outputRequirement ks d f) fs css out = out ≡ in0 css
 Made E i j (partialSort p ks n f) fs css out = Sorting p ks (in0 css) out
+Made E i j (aggregate ks n) fs css out = Each (Grouping ks n) (in0 css) out
 
 -- "Fetch and skip cut each output stream." Reading 18: skip cuts before fetch
 abbrev pub front : Fetch → List Row → List Row
@@ -168,6 +191,7 @@ AtSource P (sortMergeJoin t on) = Unit {0}
 AtSource P (hashJoin t on) = Unit {0}
 AtSource P (outputRequirement ks d f) = Unit {0}
 AtSource P (partialSort p ks n f) = Unit {0}
+AtSource P (aggregate ks n) = Unit {0}
 
 -- P of every source, and of its number in node order
 abbrev pub EachSource : (ℕ → SourceInfo → Type 0) → ℕ → Plan → Type 0

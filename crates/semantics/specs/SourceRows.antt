@@ -11,7 +11,7 @@ use Rattle.row_order.specs.Iso.{num, Row, Key, cell}
 use Rattle.row_order.specs.Lists.{All, Pw, tab}
 use Rattle.row_order.specs.Packed.{bit}
 use Rattle.plan.specs.Forest.{none, tree}
-use Rattle.plan.specs.Op.{SourceInfo, Op, source, filter, projection, union, repartition, coalesce, sortOp, mergeOp, globalLimit, localLimit, sortMergeJoin, hashJoin, outputRequirement, partialSort, Plan}
+use Rattle.plan.specs.Op.{SourceInfo, Op, source, filter, projection, union, repartition, coalesce, sortOp, mergeOp, globalLimit, localLimit, sortMergeJoin, hashJoin, outputRequirement, partialSort, aggregate, Plan}
 use Rattle.semantics.specs.Runs.{Env, Wide}
 
 -- Any two rows have the same cell in each column of the set s
@@ -53,6 +53,7 @@ own (sortMergeJoin t on) l = l
 own (hashJoin t on) l = l
 own (outputRequirement ks d f) l = l
 own (partialSort p ks n f) l = l
+own (aggregate ks n) l = l
 
 abbrev pub sourcesOf : Plan → List SourceInfo → List SourceInfo
 sourcesOf none l = l

@@ -1,2 +1,3 @@
 pub mod SampleRows
 pub mod Examples
+pub mod Aggregates

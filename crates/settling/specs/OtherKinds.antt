@@ -6,7 +6,7 @@ use Prim.Native.Nat.{ℕ, zero, suc, _≤_, _<_}
 use native.Mathlib.Omega.{arith}
 use lib.ListN.{length, take, getD}
 use borrow.Author.Tests.{eqb-true}
-use Rattle.plan.specs.Op.{Op, source, filter, projection, union, repartition, coalesce, sortOp, mergeOp, globalLimit, localLimit, sortMergeJoin, hashJoin, outputRequirement, partialSort, kind}
+use Rattle.plan.specs.Op.{Op, source, filter, projection, union, repartition, coalesce, sortOp, mergeOp, globalLimit, localLimit, sortMergeJoin, hashJoin, outputRequirement, partialSort, aggregate, kind}
 use Rattle.plan.specs.Numbers.{kindOf}
 use Rattle.plan.specs.WellFormed.{childrenOk, width, nodeOk}
 use Rattle.plan.specs.declared.Kind.the-variants.{Union}
@@ -39,6 +39,7 @@ few-kids (sortMergeJoin t on) n f e = omega (arith, eqb-true n 2 e)
 few-kids (hashJoin t on) n f e = omega (arith, eqb-true n 2 e)
 few-kids (outputRequirement ks d t) n f e = omega (arith, eqb-true n 1 e)
 few-kids (partialSort p ks k t) n f e = omega (arith, eqb-true n 1 e)
+few-kids (aggregate ks k) n f e = omega (arith, eqb-true n 1 e)
 
 -- the children's facts, from the first two
 two-kids : (fs : List Facts) (n : ℕ) (F G : Facts) → length fs ≡ n → n ≤ 2 → (0 < length fs → F ≡ at0 fs) → (1 < length fs → G ≡ at1 fs)

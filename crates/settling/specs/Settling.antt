@@ -11,7 +11,7 @@ use lib.Seq.{length-take-le}
 use Rattle.row_order.specs.Packed.{keyOf}
 use Rattle.scan.specs.Bytes.{le32}
 use Rattle.scan.specs.Parts.{splice, part-same}
-use Rattle.plan.specs.Op.{Op, source, filter, projection, union, repartition, coalesce, sortOp, mergeOp, globalLimit, localLimit, sortMergeJoin, hashJoin, outputRequirement, partialSort, kind}
+use Rattle.plan.specs.Op.{Op, source, filter, projection, union, repartition, coalesce, sortOp, mergeOp, globalLimit, localLimit, sortMergeJoin, hashJoin, outputRequirement, partialSort, aggregate, kind}
 use Rattle.plan.specs.Numbers.{kindOf, kindNumber}
 use Rattle.plan.specs.WellFormed.{setFits, childrenOk}
 use Rattle.plan.specs.declared.Kind.{Kind}
@@ -166,6 +166,7 @@ some-kid (sortMergeJoin t on) n f g e = omega (arith, eqb-true n 2 e)
 some-kid (hashJoin t on) n f g e = omega (arith, eqb-true n 2 e)
 some-kid (outputRequirement ks d t) n f g e = omega (arith, eqb-true n 1 e)
 some-kid (partialSort p ks k t) n f g e = omega (arith, eqb-true n 1 e)
+some-kid (aggregate ks k) n f g e = omega (arith, eqb-true n 1 e)
 
 module _ (m r ks : List ℕ) (a : Over m r ks) where
   -- a union wants no order

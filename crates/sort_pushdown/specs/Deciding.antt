@@ -8,7 +8,7 @@ use lib.Dec.{ltb}
 use lib.ListN.{getD}
 use borrow.Author.Tests.{eqb-true}
 use Rattle.row_order.specs.Iso.{Key}
-use Rattle.plan.specs.Op.{Op, source, filter, projection, union, repartition, coalesce, sortOp, mergeOp, globalLimit, localLimit, sortMergeJoin, hashJoin, outputRequirement, partialSort, Plan}
+use Rattle.plan.specs.Op.{Op, source, filter, projection, union, repartition, coalesce, sortOp, mergeOp, globalLimit, localLimit, sortMergeJoin, hashJoin, outputRequirement, partialSort, aggregate, Plan}
 use Rattle.plan.specs.WellFormed.{childrenOk}
 use Rattle.plan.specs.declared.Distribution.{Distribution}
 use Rattle.plan.specs.declared.Distribution.the-variants.{Unspecified}
@@ -78,6 +78,7 @@ dist-rest (sortMergeJoin t on) i = refl
 dist-rest (hashJoin t on) i = refl
 dist-rest (outputRequirement ks d f) i = refl
 dist-rest (partialSort p ks n f) i = refl
+dist-rest (aggregate ks n) i = refl
 
 wanted-rest : (o : Op) (m : ℕ) → childrenOk o m ≡ true → (i : ℕ) → suc i < m → wanted o 1 ≡ wanted o (suc i)
 wanted-rest (source s) m c i l = refl
@@ -93,6 +94,7 @@ wanted-rest (localLimit f note) m c i l = refl
 wanted-rest (hashJoin t on) m c i l = refl
 wanted-rest (outputRequirement ks d f) m c i l = refl
 wanted-rest (partialSort p ks n f) m c i l = refl
+wanted-rest (aggregate ks n) m c i l = refl
 wanted-rest (sortMergeJoin t on) m c zero l = refl
 wanted-rest (sortMergeJoin t on) m c (suc i) l = let e = eqb-true m 2 c in absurd (omega arith)
 

@@ -8,7 +8,7 @@ use lib.Dec.{eqb, ltb}
 use Rattle.row_order.specs.Iso.{Key}
 use Rattle.row_order.specs.Order.{no-bool}
 use Rattle.row_order.specs.Lists.{All, all-nil, all-cons}
-use Rattle.plan.specs.Op.{Op, source, filter, projection, union, repartition, coalesce, sortOp, mergeOp, globalLimit, localLimit, sortMergeJoin, hashJoin, outputRequirement, partialSort, Plan}
+use Rattle.plan.specs.Op.{Op, source, filter, projection, union, repartition, coalesce, sortOp, mergeOp, globalLimit, localLimit, sortMergeJoin, hashJoin, outputRequirement, partialSort, aggregate, Plan}
 use Rattle.plan.specs.Numbers.{code}
 use Rattle.plan.specs.WellFormed.{childrenOk, member}
 use borrow.Author.Tests.{eqb-true}
@@ -134,6 +134,7 @@ remark-twice g h (sortMergeJoin t on) = refl
 remark-twice g h (hashJoin t on) = refl
 remark-twice g h (outputRequirement ks d f) = refl
 remark-twice g h (partialSort p ks n f) = refl
+remark-twice g h (aggregate ks n) = refl
 
 pub seen-again : (n o : Op) (fs : List Facts) (m : ℕ) (F L R : Facts) → SeenNode n o fs m F L R → SeenNode n (rebuilt o fs) fs m F L R
 seen-again n o fs m F L R s =
@@ -228,6 +229,7 @@ no-sort (sortMergeJoin t on) q x c e = refl
 no-sort (hashJoin t on) q x c e = refl
 no-sort (outputRequirement ks d f) q x c e = refl
 no-sort (partialSort p ks n f) q x c e = refl
+no-sort (aggregate ks n) q x c e = refl
 
 module _ (o : Op) (q : walk.Visit) (c : Plan) (r : Decision) where
   -- the node is rebuilt before it is looked at: rebuilt once more it is the same

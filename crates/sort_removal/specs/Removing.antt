@@ -9,7 +9,7 @@ use lib.ListN.{length, getD}
 use borrow.Author.Tests.{ne-eqb}
 use Rattle.row_order.specs.Iso.{Key}
 use Rattle.plan.specs.Forest.{Forest, none, tree, roots, size}
-use Rattle.plan.specs.Op.{Op, source, filter, projection, union, repartition, coalesce, sortOp, mergeOp, globalLimit, localLimit, sortMergeJoin, hashJoin, outputRequirement, partialSort}
+use Rattle.plan.specs.Op.{Op, source, filter, projection, union, repartition, coalesce, sortOp, mergeOp, globalLimit, localLimit, sortMergeJoin, hashJoin, outputRequirement, partialSort, aggregate}
 use Rattle.plan.specs.Numbers.{code}
 use Rattle.plan.specs.WellFormed.{nodeOk}
 use Rattle.plan.specs.declared.Fetch.{Fetch}
@@ -86,6 +86,7 @@ remark-twice (sortMergeJoin t on) g = refl
 remark-twice (hashJoin t on) g = refl
 remark-twice (outputRequirement ks d f) g = refl
 remark-twice (partialSort p ks n f) g = refl
+remark-twice (aggregate ks n) g = refl
 
 -- ---- kind by kind: y says whether the marks were put right
 
@@ -123,6 +124,7 @@ module _ (c d : Forest Marked) where
   by-other (hashJoin t on) x y z = again (hashJoin t on)
   by-other (outputRequirement ks v g) x y z = again (outputRequirement ks v g)
   by-other (partialSort p ks n g) x y z = again (partialSort p ks n g)
+  by-other (aggregate ks n) x y z = again (aggregate ks n)
 
 -- ---- the node at h, not a sort, over the children that became ks
 

@@ -10,7 +10,7 @@ use Rattle.row_order.specs.Packed.{bit}
 use Rattle.scan.specs.Bytes.{le32}
 use Rattle.plan.specs.Numbers.{kindNumber, kindOf}
 use Rattle.plan.specs.declared.Kind.{Kind}
-use Rattle.plan.specs.declared.Kind.the-variants.{Source, Filter, Projection, Union, Repartition, Coalesce, Sort, Merge, GlobalLimit, LocalLimit, SortMergeJoin, HashJoin, OutputRequirement, PartialSort}
+use Rattle.plan.specs.declared.Kind.the-variants.{Source, Filter, Projection, Union, Repartition, Coalesce, Sort, Merge, GlobalLimit, LocalLimit, SortMergeJoin, HashJoin, OutputRequirement, PartialSort, Aggregate}
 use Rattle.plan_codec.specs.NodeRecord.{NodeRecord}
 use Rattle.plan_codec.specs.Decode.{fromBytes, operatorOf, decode, fetchOf}
 use Rattle.plan_codec.specs.Encode.{encode}
@@ -26,10 +26,10 @@ kind-same r n e = code-byte r n e ∙ ap kindNumber (operator-kind (kindOf (getD
 -- ---- the fetch, 4294967295 for none
 
 abbrev hasFetch : ℕ → Bool
-hasFetch k = (ltb 5 k && ltb k 11) || ltb 12 k
+hasFetch k = (ltb 5 k && ltb k 11) || (ltb 12 k && ltb k 15)
 
 abbrev pub fetchIn : List ℕ → ℕ
-fetchIn r = cond ((ltb 5 (getD r 0 0) && ltb (getD r 0 0) 11) || ltb 12 (getD r 0 0)) (le32 r 4) 4294967295
+fetchIn r = cond ((ltb 5 (getD r 0 0) && ltb (getD r 0 0) 11) || (ltb 12 (getD r 0 0) && ltb (getD r 0 0) 15)) (le32 r 4) 4294967295
 
 fetch-by : (k : Kind) (x : NodeRecord) (n : ℕ) → x .fetch ≡ fetchOf n → fetchOf (cond (hasFetch (kindNumber k)) n 4294967295) ≡ cuts (operatorOf k x) .fetch
 fetch-by Source x n e = refl
@@ -46,6 +46,7 @@ fetch-by SortMergeJoin x n e = refl
 fetch-by HashJoin x n e = refl
 fetch-by OutputRequirement x n e = sym e
 fetch-by PartialSort x n e = sym e
+fetch-by Aggregate x n e = refl
 
 pub fetch-is : (r : List ℕ) (n : ℕ) → r ≡ encode n (decode r) → fetchOf (fetchIn r) ≡ cuts (decode r) .fetch
 unfolding decode
@@ -72,6 +73,7 @@ endless-by SortMergeJoin x = refl
 endless-by HashJoin x = refl
 endless-by OutputRequirement x = refl
 endless-by PartialSort x = refl
+endless-by Aggregate x = refl
 
 pub endless-is : (r : List ℕ) (n : ℕ) → r ≡ encode n (decode r) → endlessIn r ≡ sourceEndless (decode r)
 unfolding decode

@@ -20,7 +20,7 @@ fn own_fetch(r: &[u8]) -> u32
     ensures { λ n. ⌜ n ≡ fetchIn (now (r .entry)) ⌝ }
 {
     let k = r[0];
-    if ((5 < k) & (k < 11)) | (12 < k) {
+    if ((5 < k) & (k < 11)) | ((12 < k) & (k < 15)) {
         return scan::get32(r, 4);
     }
     4294967295

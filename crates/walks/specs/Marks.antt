@@ -4,7 +4,7 @@ use mathlib.Core.List.{List, [], _∷_}
 use Prim.Native.Nat.{ℕ, zero, suc}
 use Rattle.row_order.specs.Iso.{Key}
 use Rattle.plan.specs.Forest.{Forest, none, tree, size, mapF}
-use Rattle.plan.specs.Op.{Op, source, filter, projection, union, repartition, coalesce, sortOp, mergeOp, globalLimit, localLimit, sortMergeJoin, hashJoin, outputRequirement, partialSort, Plan}
+use Rattle.plan.specs.Op.{Op, source, filter, projection, union, repartition, coalesce, sortOp, mergeOp, globalLimit, localLimit, sortMergeJoin, hashJoin, outputRequirement, partialSort, aggregate, Plan}
 use Rattle.plan.specs.declared.Fetch.{Fetch}
 use Rattle.semantics.specs.Facts.{Facts, factsOp, facts}
 use Rattle.semantics.specs.Properties.{rebuilt, fetchOp, fetches}
@@ -133,6 +133,7 @@ shape (sortMergeJoin t on) = another
 shape (hashJoin t on) = another
 shape (outputRequirement ks d f) = another
 shape (partialSort p ks n f) = another
+shape (aggregate ks n) = another
 
 -- One kind's fields, or what holds of every other kind
 

@@ -1,15 +1,15 @@
 -- sort_pushdown.rs, first part: what is required of a node, and how a requirement goes past it: min_fetch, stronger_distribution,
 -- expr_source_side, try_pushdown_requirements_to_join, handle_hash_join, handle_custom_pushdown, handle_projection_pushdown,
--- pushdown_would_violate_requirements, pushdown_requirement_to_children. These are definitions.
+-- handle_aggregate_pushdown, pushdown_would_violate_requirements, pushdown_requirement_to_children. These are definitions.
 use mathlib.Core.Bool.{Bool, true, false, cond, not, _&&_, _||_}
 use mathlib.Core.List.{List, [], _∷_, map}
 use Prim.Native.Nat.{ℕ, zero, suc, _+_, _-_, min}
 use lib.Dec.{eqb, ltb, leb}
-use lib.ListN.{getD}
+use lib.ListN.{length, getD}
 use Rattle.row_order.specs.Iso.{Key}
-use Rattle.plan.specs.Op.{Op, source, filter, projection, union, repartition, coalesce, sortOp, mergeOp, globalLimit, localLimit, sortMergeJoin, hashJoin, outputRequirement, partialSort}
+use Rattle.plan.specs.Op.{Op, source, filter, projection, union, repartition, coalesce, sortOp, mergeOp, globalLimit, localLimit, sortMergeJoin, hashJoin, outputRequirement, partialSort, aggregate}
 use Rattle.plan.specs.Numbers.{code}
-use Rattle.plan.specs.WellFormed.{every, someFetch}
+use Rattle.plan.specs.WellFormed.{every, someFetch, columnsOf}
 use Rattle.plan.specs.declared.JoinType.{JoinType}
 use Rattle.plan.specs.declared.JoinType.the-variants.{Inner, Left, Right, Full, LeftSemi, LeftAnti, RightSemi, RightAnti}
 use Rattle.plan.specs.declared.Distribution.{Distribution}
@@ -177,6 +177,15 @@ handleCustomPushdown parent = goes (λ i. parent)
 abbrev pub handleProjectionPushdown : List ℕ → List Key → Pushed
 handleProjectionPushdown cols parent = goes (λ i. remapRequirementThroughProjection cols parent)
 
+-- ---- handle_aggregate_pushdown: "rewrites the parent required ordering in terms of the aggregate input if possible"; to the child, if the
+-- aggregate maintains it, every column is a group column, and "input ordering already satisfies the mapped requirement". Grouping sets are
+-- left out. groups: for each group column its child column
+
+abbrev pub handleAggregatePushdown : Op → List ℕ → List Facts → List Key → Pushed
+handleAggregatePushdown o groups fs parent =
+    let childRequirement : List Key = remapRequirementThroughProjection groups parent in
+    goIf (maintains o fs 0 && (every (λ k. ltb (k .col) (length groups)) parent && met (at0 fs) childRequirement)) (λ i. childRequirement)
+
 -- ---- a merge: "To reorder is to put a list's normal form in the known order's place; no change if they are equal. A merge without a
 -- fetch whose keys are all constant lets no order be pushed past it: the Rust panics there."
 
@@ -204,6 +213,7 @@ pushByKind (hashJoin t on) fs parent = handleHashJoin (hashJoin t on) (factsOp (
 pushByKind (outputRequirement ks d f) fs parent = cond (pushdownWouldViolateRequirements (outputRequirement ks d f) 1 parent) stop
     (handleCustomPushdown parent)
 pushByKind (partialSort p ks n f) fs parent = stop
+pushByKind (aggregate ks n) fs parent = handleAggregatePushdown (aggregate ks n) (columnsOf ks) fs parent
 
 abbrev pub allBelow : ℕ → (ℕ → Bool) → Bool
 allBelow n p = not (anyBelow n (λ i. not (p i)))

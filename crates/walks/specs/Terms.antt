@@ -57,7 +57,7 @@ pub data Added (a : Bool) : Plan → Plan → Type 0 where
 abbrev pub blank : Facts → Facts
 blank F = record { width = F .width; streams = 0; consts = F .consts; cls = F .cls; order = [] }
 
--- ---- no join, no limit, no fetch
+-- ---- no join, no aggregate, no limit, no fetch
 abbrev pub clearOp : Op → Bool
 clearOp o = simpleOp o && not (isLimit o)
 

@@ -74,6 +74,7 @@ pub fn wanted_order(r: &[u8], j: usize) -> Order
         Kind::HashJoin => Order::Unordered,
         Kind::OutputRequirement => of_first(key_list(r), j),
         Kind::PartialSort => of_first(front(key_list(r), wide(r[ROLE])), j),
+        Kind::Aggregate => Order::Unordered,
     }
 }
 
@@ -145,6 +146,7 @@ pub fn wanted_distribution(r: &[u8], j: usize) -> Distribution
         Kind::HashJoin => left_single(j),
         Kind::OutputRequirement => distribution_from(r[ROLE], scan::get32(r, TAIL)),
         Kind::PartialSort => sort_distribution(preserves(r)),
+        Kind::Aggregate => Distribution::Unspecified,
     }
 }
 

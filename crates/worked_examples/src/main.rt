@@ -1,4 +1,4 @@
-// Runs worked examples of document 01 ('Worked on paper') and one of docs/DECISIONS.md on the plan files of data/, which tools/worked_examples.py makes. Of
+// Runs worked examples of document 01 ('Worked on paper'), one of docs/DECISIONS.md and one of document 02 (P1) on the plan files of data/, which tools/worked_examples.py makes. Of
 // a check it writes a line: a refusal's number or that the plan is accepted, and whether a wanted order is met; of a rewrite the listing of the plan that
 // comes of it, or the refusal's number.
 use libc::STDOUT_FILENO;
@@ -136,6 +136,16 @@ fn main() {
     rewrite(
         b"ensure, reading 4's 125 nodes, 188 after the root's step: ",
         b"growing_125",
+        true,
+    );
+    rewrite(
+        b"ensure, projection [2], sort [1], aggregate [0,1] and one column more, one stream:\n",
+        b"surveyor",
+        true,
+    );
+    rewrite(
+        b"the same over two streams known [1]:\n",
+        b"surveyor_known",
         true,
     );
 }

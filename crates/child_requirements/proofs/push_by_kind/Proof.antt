@@ -2,7 +2,7 @@
 use borrow.Author.Needs.{needs}
 use native.Mathlib.Omega.{arith}
 use mathlib.Core.Path.{sym, _∙_}
-use Rattle.plan.specs.declared.Kind.the-variants.{Source, Filter, Projection, Union, Repartition, Coalesce, GlobalLimit, LocalLimit, PartialSort}
+use Rattle.plan.specs.declared.Kind.the-variants.{Source, Filter, Projection, Union, Repartition, Coalesce, GlobalLimit, LocalLimit, PartialSort, Aggregate}
 use Rattle.record_fields.specs.Kinds.{op-of}
 use Rattle.push_requirements.specs.Joins.{hash-room}
 use Rattle.child_requirements.specs.Children.{by-kind, by-sort, by-merge, by-requirement, by-join, by-hash}
@@ -109,6 +109,13 @@ push-past-output-requirement-requires c κs = let s = c .before .before .before 
 enum-told-14 : tie.Need-enum-told-14
 enum-told-14 c = search needs
 
+enum-told-15 : tie.Need-enum-told-15
+enum-told-15 c = search needs
+
+handle-aggregate-pushdown-requires : tie.Need-handle-aggregate-pushdown-requires
+handle-aggregate-pushdown-requires c κs = let s = c .before .before .before .before .before .before .before .before in
+    (s .pre .proper, (sym (c .before .before .kind-of .ensures) ∙ c .enum-told15 .given .1), s .pre .here, s .pre .first, s .pre .few)
+
 returns : tie.Need-returns
 returns c = λ o fs m s. let r = c .before .before .before .before .before .before .before .before .args .r .now in
     by-kind r fs m _ _ Source (sym (c .before .before .kind-of .ensures) ∙ c .enum-told .given .1) tt
@@ -174,6 +181,9 @@ returns-14 : tie.Need-returns-14
 returns-14 c = λ o fs m s. let r = c .before .before .before .before .before .before .before .before .args .r .now in
     by-kind r fs m _ _ PartialSort (sym (c .before .before .kind-of .ensures) ∙ c .enum-told14 .given .1) tt
 
+returns-15 : tie.Need-returns-15
+returns-15 c = λ o fs m s. c .handle-aggregate-pushdown .ensures o fs m _ s
+
 pub push-by-kind-spec : {M : Type 1} → statement M
 push-by-kind-spec =
     tie.close
@@ -207,6 +217,8 @@ push-by-kind-spec =
     enum-told-13
     push-past-output-requirement-requires
     enum-told-14
+    enum-told-15
+    handle-aggregate-pushdown-requires
     returns
     returns-2
     returns-3
@@ -220,4 +232,5 @@ push-by-kind-spec =
     returns-11
     returns-12
     returns-13
-    returns-14)
+    returns-14
+    returns-15)

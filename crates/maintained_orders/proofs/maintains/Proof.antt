@@ -1,12 +1,12 @@
 -- `node_properties::maintains` meets its contract. Assumes nothing.
 use borrow.Author.Needs.{needs}
 use mathlib.Core.Path.{refl, sym, ap, _∙_}
-use Rattle.plan.specs.declared.Kind.the-variants.{Source, Filter, Projection, Coalesce, Sort, Merge, GlobalLimit, LocalLimit, SortMergeJoin, HashJoin, OutputRequirement, PartialSort}
+use Rattle.plan.specs.declared.Kind.the-variants.{Source, Filter, Projection, Coalesce, Sort, Merge, GlobalLimit, LocalLimit, SortMergeJoin, HashJoin, OutputRequirement, PartialSort, Aggregate}
 use Rattle.semantics.specs.Facts.{smjKept, hashKept}
 use Rattle.semantics.specs.Properties.{maintains, keptSide}
 use Rattle.asked_facts.specs.Asked.{told}
 use Rattle.record_fields.specs.Kinds.{asked-of}
-use Rattle.maintained_orders.specs.Maintaining.{union-maintains, repartition-maintains}
+use Rattle.maintained_orders.specs.Maintaining.{union-maintains, repartition-maintains, aggregate-maintains}
 use Rattle.maintained_orders.proofs.maintains.Statement.{statement}
 use Rattle.maintained_orders.proofs.maintains.Tie as tie
 
@@ -88,6 +88,12 @@ enum-told-13 c = search needs
 enum-told-14 : tie.Need-enum-told-14
 enum-told-14 c = search needs
 
+enum-told-15 : tie.Need-enum-told-15
+enum-told-15 c = search needs
+
+is-ordered-requires-2 : tie.Need-is-ordered-requires-2
+is-ordered-requires-2 c κs = search needs
+
 returns : tie.Need-returns
 returns c fs a = let s = (c .before .before .before .before .before .before .before) in let r = s .args .r .now in
     let e = (sym (c .before .before .kind-of .ensures) ∙ c .enum-told .given .1) in asked-of (λ o. maintains o fs (s .args .j)) r Source e _ refl
@@ -153,6 +159,11 @@ returns-14 : tie.Need-returns-14
 returns-14 c fs a = let s = (c .before .before .before .before .before .before .before) in let r = s .args .r .now in
     let e = (sym (c .before .before .kind-of .ensures) ∙ c .enum-told14 .given .1) in asked-of (λ o. maintains o fs (s .args .j)) r PartialSort e _ refl
 
+returns-15 : tie.Need-returns-15
+returns-15 c fs a = let s = (c .before .before .before .before .before .before .before .before) in let r = s .args .r .now in
+    let e = (sym (c .before .before .before .kind-of .ensures) ∙ c .before .enum-told15 .given .1) in
+    aggregate-maintains r fs (s .args .j) (told (s .args .own .now)) (told (s .args .child .now)) a e (c .is-ordered2 .result) (c .is-ordered2 .ensures)
+
 pub maintains-spec : {M : Type 1} → statement M
 maintains-spec =
     tie.close
@@ -183,6 +194,8 @@ maintains-spec =
     hash-keeps-requires
     enum-told-13
     enum-told-14
+    enum-told-15
+    is-ordered-requires-2
     returns
     returns-2
     returns-3
@@ -196,4 +209,5 @@ maintains-spec =
     returns-11
     returns-12
     returns-13
-    returns-14)
+    returns-14
+    returns-15)

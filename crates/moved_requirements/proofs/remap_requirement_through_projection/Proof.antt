@@ -1,12 +1,10 @@
--- `join_sides::remap_requirement_through_projection` meets its contract. Assumes nothing.
+-- `moved_requirements::remap_requirement_through_projection` meets its contract. Assumes nothing.
 use borrow.Author.Needs.{needs}
 use mathlib.Core.Path.{ap, subst}
 use mathlib.Core.List.{List, []}
 use Rattle.row_order.specs.Iso.{Key}
-use Rattle.plan.specs.declared.Kind.the-variants.{Projection}
 use Rattle.semantics.specs.Facts.{dropRepeats}
 use Rattle.key_lists.specs.Keys.{Keyed}
-use Rattle.record_fields.specs.Kinds.{op-of}
 use Rattle.moved_requirements.proofs.remap_requirement_through_projection.Statement.{statement}
 use Rattle.moved_requirements.proofs.remap_requirement_through_projection.Tie as tie
 
@@ -14,10 +12,10 @@ at-child-columns-requires : tie.Need-at-child-columns-requires
 at-child-columns-requires c κs = search needs
 
 drop-repeats-requires : tie.Need-drop-repeats-requires
-drop-repeats-requires c κs = let s = (c .before .before) in c .at-child-columns .ensures _ (op-of (s .args .r .now) Projection (s .pre .1)) .few
+drop-repeats-requires c κs = c .at-child-columns .ensures .few
 
 returns : tie.Need-returns
-returns c cols e = subst (λ (l : List Key). Keyed l (c .drop-repeats .result)) (ap (dropRepeats []) (c .before .at-child-columns .ensures cols e .is))
+returns c = subst (λ (l : List Key). Keyed l (c .drop-repeats .result)) (ap (dropRepeats []) (c .before .at-child-columns .ensures .is))
     (c .drop-repeats .ensures)
 
 pub remap-requirement-through-projection-spec : {M : Type 1} → statement M

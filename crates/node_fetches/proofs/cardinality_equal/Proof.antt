@@ -1,7 +1,7 @@
 -- `node_properties::cardinality_equal` meets its contract. Assumes nothing.
 use borrow.Author.Needs.{needs}
 use mathlib.Core.Path.{refl, sym, ap, _∙_}
-use Rattle.plan.specs.declared.Kind.the-variants.{Source, Filter, Projection, Union, Repartition, Coalesce, Sort, Merge, GlobalLimit, LocalLimit, SortMergeJoin, HashJoin, OutputRequirement, PartialSort}
+use Rattle.plan.specs.declared.Kind.the-variants.{Source, Filter, Projection, Union, Repartition, Coalesce, Sort, Merge, GlobalLimit, LocalLimit, SortMergeJoin, HashJoin, OutputRequirement, PartialSort, Aggregate}
 use Rattle.record_fields.specs.Kinds.{asked-of}
 use mathlib.Core.Bool.{not}
 use Rattle.plan.specs.WellFormed.{someFetch}
@@ -69,6 +69,9 @@ enum-told-13 c = search needs
 enum-told-14 : tie.Need-enum-told-14
 enum-told-14 c = search needs
 
+enum-told-15 : tie.Need-enum-told-15
+enum-told-15 c = search needs
+
 returns : tie.Need-returns
 returns c = let r = (c .before .before .before .before .before) .args .r .now in
     asked-of cardinalityEqual r Source (sym (c .before .before .kind-of .ensures) ∙ c .enum-told .given .1) _ refl
@@ -127,6 +130,10 @@ returns-14 : tie.Need-returns-14
 returns-14 c = let r = (c .before .before .before .before .before) .args .r .now in
     asked-of cardinalityEqual r PartialSort (sym (c .before .before .kind-of .ensures) ∙ c .enum-told14 .given .1) _ refl
 
+returns-15 : tie.Need-returns-15
+returns-15 c = let r = (c .before .before .before .before .before) .args .r .now in
+    asked-of cardinalityEqual r Aggregate (sym (c .before .before .kind-of .ensures) ∙ c .enum-told15 .given .1) _ refl
+
 pub cardinality-equal-spec : {M : Type 1} → statement M
 cardinality-equal-spec =
     tie.close
@@ -151,6 +158,7 @@ cardinality-equal-spec =
     enum-told-12
     enum-told-13
     enum-told-14
+    enum-told-15
     returns
     returns-2
     returns-3
@@ -164,4 +172,5 @@ cardinality-equal-spec =
     returns-11
     returns-12
     returns-13
-    returns-14)
+    returns-14
+    returns-15)

@@ -1,7 +1,7 @@
 -- `node_properties::fetch` meets its contract. Assumes nothing.
 use borrow.Author.Needs.{needs}
 use mathlib.Core.Path.{refl, sym, _∙_}
-use Rattle.plan.specs.declared.Kind.the-variants.{Source, Filter, Projection, Union, Repartition, Coalesce, Sort, Merge, GlobalLimit, LocalLimit, SortMergeJoin, HashJoin, OutputRequirement, PartialSort}
+use Rattle.plan.specs.declared.Kind.the-variants.{Source, Filter, Projection, Union, Repartition, Coalesce, Sort, Merge, GlobalLimit, LocalLimit, SortMergeJoin, HashJoin, OutputRequirement, PartialSort, Aggregate}
 use Rattle.record_fields.specs.Kinds.{asked-of}
 use Rattle.semantics.specs.Properties.{cuts}
 use Rattle.node_fetches.proofs.fetch.Statement.{statement}
@@ -76,6 +76,9 @@ enum-told-14 c = search needs
 fetch-field-requires-7 : tie.Need-fetch-field-requires-7
 fetch-field-requires-7 c κs = search needs
 
+enum-told-15 : tie.Need-enum-told-15
+enum-told-15 c = search needs
+
 returns : tie.Need-returns
 returns c = let r = (c .before .before .before .before .before) .args .r .now in
     asked-of (λ o. cuts o .fetch) r Source (sym (c .before .before .kind-of .ensures) ∙ c .enum-told .given .1) _ refl
@@ -137,6 +140,10 @@ returns-14 c = let r = (c .before .before .before .before .before .before) .args
     asked-of (λ o. cuts o .fetch) r PartialSort (sym (c .before .before .before .kind-of .ensures) ∙ c .before .enum-told14 .given .1) _
     (c .fetch-field7 .ensures)
 
+returns-15 : tie.Need-returns-15
+returns-15 c = let r = (c .before .before .before .before .before) .args .r .now in
+    asked-of (λ o. cuts o .fetch) r Aggregate (sym (c .before .before .kind-of .ensures) ∙ c .enum-told15 .given .1) _ refl
+
 pub fetch-spec : {M : Type 1} → statement M
 fetch-spec =
     tie.close
@@ -164,6 +171,7 @@ fetch-spec =
     fetch-field-requires-6
     enum-told-14
     fetch-field-requires-7
+    enum-told-15
     returns
     returns-2
     returns-3
@@ -177,4 +185,5 @@ fetch-spec =
     returns-11
     returns-12
     returns-13
-    returns-14)
+    returns-14
+    returns-15)

@@ -1,7 +1,7 @@
 -- `node_properties::supports_limit_pushdown` meets its contract. Assumes nothing.
 use borrow.Author.Needs.{needs}
 use mathlib.Core.Path.{refl, sym, _∙_}
-use Rattle.plan.specs.declared.Kind.the-variants.{Source, Filter, Projection, Union, Repartition, Coalesce, Sort, Merge, GlobalLimit, LocalLimit, SortMergeJoin, HashJoin, OutputRequirement, PartialSort}
+use Rattle.plan.specs.declared.Kind.the-variants.{Source, Filter, Projection, Union, Repartition, Coalesce, Sort, Merge, GlobalLimit, LocalLimit, SortMergeJoin, HashJoin, OutputRequirement, PartialSort, Aggregate}
 use Rattle.record_fields.specs.Kinds.{asked-of}
 use Rattle.semantics.specs.Properties.{supportsLimitPushdown}
 use Rattle.node_fetches.proofs.supports_limit_pushdown.Statement.{statement}
@@ -54,6 +54,9 @@ enum-told-13 c = search needs
 
 enum-told-14 : tie.Need-enum-told-14
 enum-told-14 c = search needs
+
+enum-told-15 : tie.Need-enum-told-15
+enum-told-15 c = search needs
 
 returns : tie.Need-returns
 returns c = let r = (c .before .before .before .before .before) .args .r .now in
@@ -111,6 +114,10 @@ returns-14 : tie.Need-returns-14
 returns-14 c = let r = (c .before .before .before .before .before) .args .r .now in
     asked-of supportsLimitPushdown r PartialSort (sym (c .before .before .kind-of .ensures) ∙ c .enum-told14 .given .1) _ refl
 
+returns-15 : tie.Need-returns-15
+returns-15 c = let r = (c .before .before .before .before .before) .args .r .now in
+    asked-of supportsLimitPushdown r Aggregate (sym (c .before .before .kind-of .ensures) ∙ c .enum-told15 .given .1) _ refl
+
 pub supports-limit-pushdown-spec : {M : Type 1} → statement M
 supports-limit-pushdown-spec =
     tie.close
@@ -131,6 +138,7 @@ supports-limit-pushdown-spec =
     enum-told-12
     enum-told-13
     enum-told-14
+    enum-told-15
     returns
     returns-2
     returns-3
@@ -144,4 +152,5 @@ supports-limit-pushdown-spec =
     returns-11
     returns-12
     returns-13
-    returns-14)
+    returns-14
+    returns-15)

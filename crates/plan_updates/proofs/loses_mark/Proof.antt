@@ -51,7 +51,7 @@ returns-2 : tie.Need-returns-2
 returns-2 c = let s = c .before .before .before .before .before .before in let m = s .args .m .now in let r = s .args .r .now in
     let ks = s .args .ks .now in let a = s .pre in
     not-losing m r ks a (λ e. let x : c .before .kind-of .result ≡ Repartition = c .before .kind-of .ensures ∙ e in
-    miss (0 ∷ 1 ∷ 2 ∷ 3 ∷ 5 ∷ 6 ∷ 7 ∷ 8 ∷ 9 ∷ 10 ∷ 11 ∷ 12 ∷ 13 ∷ []) 4 tt (rw x at (c .match .keys2)))
+    miss (0 ∷ 1 ∷ 2 ∷ 3 ∷ 5 ∷ 6 ∷ 7 ∷ 8 ∷ 9 ∷ 10 ∷ 11 ∷ 12 ∷ 13 ∷ 14 ∷ []) 4 tt (rw x at (c .match .keys2)))
 
 pub loses-mark-spec : {M : Type 1} → statement M
 loses-mark-spec =

@@ -11,7 +11,7 @@ use Rattle.record_fields.proofs.Tables.{down}
 use Rattle.record_fields.proofs.kind_of.Statement.{statement}
 use Rattle.record_fields.proofs.kind_of.Tie as tie
 
-last : (k : ℕ) → Dec (k < 14) → (k < 14 → k ≡ 0) → PartialSort ≡ kindOf k
+last : (k : ℕ) → Dec (k < 16) → (k < 16 → k ≡ 0) → PartialSort ≡ kindOf k
 unfolding kindOf
 last k (yes h) z = ap kindOf (sym (z h))
 last k (no h) z = sym (List·getD-eq-default kinds PartialSort {n = k} (omega arith))
@@ -69,17 +69,17 @@ unfolding kindOf
 returns-13 c = ap kindOf (sym (c .match .keys13))
 
 returns-14 : tie.Need-returns-14
-returns-14 c = let r = c .match .rest in
-    last (c .before .args .k) (decLt (c .before .args .k) 14)
-    (λ h. lt-one (down 1 (r .0 .0 .0 .0 .0 .0 .0 .0 .0 .0 .0 .0 .1)
-    (down 2 (r .0 .0 .0 .0 .0 .0 .0 .0 .0 .0 .0 .1)
-    (down 3 (r .0 .0 .0 .0 .0 .0 .0 .0 .0 .0 .1)
-    (down 4 (r .0 .0 .0 .0 .0 .0 .0 .0 .0 .1)
-    (down 5 (r .0 .0 .0 .0 .0 .0 .0 .0 .1)
-    (down 6 (r .0 .0 .0 .0 .0 .0 .0 .1)
-    (down 7 (r .0 .0 .0 .0 .0 .0 .1)
-    (down 8 (r .0 .0 .0 .0 .0 .1)
-    (down 9 (r .0 .0 .0 .0 .1) (down 10 (r .0 .0 .0 .1) (down 11 (r .0 .0 .1) (down 12 (r .0 .1) (down 13 (r .1) h))))))))))))))
+unfolding kindOf
+returns-14 c = ap kindOf (sym (c .match .keys14))
+
+returns-15 : tie.Need-returns-15
+unfolding kindOf
+returns-15 c = ap kindOf (sym (c .match .keys15))
+
+returns-16 : tie.Need-returns-16
+returns-16 c = let r = c .match .rest in
+    last (c .before .args .k) (decLt (c .before .args .k) 16)
+    (λ h. lt-one (down 1 (r .0 .0 .0 .0 .0 .0 .0 .0 .0 .0 .0 .0 .0 .0 .1) (down 2 (r .0 .0 .0 .0 .0 .0 .0 .0 .0 .0 .0 .0 .0 .1) (down 3 (r .0 .0 .0 .0 .0 .0 .0 .0 .0 .0 .0 .0 .1) (down 4 (r .0 .0 .0 .0 .0 .0 .0 .0 .0 .0 .0 .1) (down 5 (r .0 .0 .0 .0 .0 .0 .0 .0 .0 .0 .1) (down 6 (r .0 .0 .0 .0 .0 .0 .0 .0 .0 .1) (down 7 (r .0 .0 .0 .0 .0 .0 .0 .0 .1) (down 8 (r .0 .0 .0 .0 .0 .0 .0 .1) (down 9 (r .0 .0 .0 .0 .0 .0 .1) (down 10 (r .0 .0 .0 .0 .0 .1) (down 11 (r .0 .0 .0 .0 .1) (down 12 (r .0 .0 .0 .1) (down 13 (r .0 .0 .1) (down 14 (r .0 .1) (down 15 (r .1) h))))))))))))))))
 
 pub kind-of-spec : {M : Type 1} → statement M
 kind-of-spec =
@@ -98,4 +98,6 @@ kind-of-spec =
     returns-11
     returns-12
     returns-13
-    returns-14)
+    returns-14
+    returns-15
+    returns-16)

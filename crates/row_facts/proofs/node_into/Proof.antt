@@ -5,7 +5,7 @@ use mathlib.Core.Bool.{cond}
 use mathlib.Core.List.{[]}
 use lib.ListN.{getD, drop}
 use Rattle.row_order.specs.Packed.{bit}
-use Rattle.plan.specs.declared.Kind.the-variants.{Filter, Projection, Coalesce, Sort, Merge, GlobalLimit, LocalLimit, SortMergeJoin, HashJoin, OutputRequirement, PartialSort}
+use Rattle.plan.specs.declared.Kind.the-variants.{Filter, Projection, Coalesce, Sort, Merge, GlobalLimit, LocalLimit, SortMergeJoin, HashJoin, OutputRequirement, PartialSort, Aggregate}
 use Rattle.semantics.specs.Facts as sem
 use Rattle.plan_codec.specs.Decode.{decode}
 use Rattle.facts.specs.Known.{known, Says}
@@ -13,7 +13,7 @@ use Rattle.fact_slots.specs.Slots.{loaded}
 use Rattle.node_facts.specs.Ready.{kidsOf}
 use Rattle.node_facts.specs.Rules.{few, small, unary}
 use Rattle.node_facts.specs.Joins.{joinable}
-use Rattle.node_facts.specs.Kinds.{projected-below, sorted-says, repartition-says, sort-merge-says, hash-says}
+use Rattle.node_facts.specs.Kinds.{projected-below, sorted-says, repartition-says, grouped-below, grouped-wide, aggregate-says, sort-merge-says, hash-says}
 use Rattle.fact_slots.specs.Copies.{kept-says}
 use Rattle.row_facts.proofs.node_into.Statement.{statement}
 use Rattle.row_facts.proofs.node_into.Tie as tie
@@ -152,6 +152,23 @@ preserves-requires-3 c κs = search needs
 sort-requires-3 : tie.Need-sort-requires-3
 sort-requires-3 c κs = let s = (c .before .before .before .before .before .before .before .before .before .before) in let r = s .args .r .now in
     let h = s .pre .ready in (s .pre .room, h .long, few r (h .rules), record { long = s .pre .first; fine = h .first })
+
+enum-told-15 : tie.Need-enum-told-15
+enum-told-15 c = search needs
+
+aggregate-requires : tie.Need-aggregate-requires
+aggregate-requires c κs = let s = (c .before .before .before .before .before .before .before .before .before) in let r = s .args .r .now in
+    let f = loaded (s .args .first .now) in let g = loaded (s .args .second .now) in let h = s .pre .ready in
+    let e = sym (c .before .before .before .kind-of .ensures) ∙ c .before .enum-told15 .given .1 in (
+      s .pre .room,
+      h .long,
+      few r (h .rules),
+      s .pre .first,
+      h .first,
+      grouped-below r f g h e,
+      grouped-wide r f g h e,
+      s .pre .few,
+    )
 
 same-length : tie.Need-same-length
 same-length c = search needs
@@ -296,6 +313,15 @@ returns-14 c = let s = (c .before .before .before .before .before .before .befor
     (sem.sortStreams (bit (getD r 3 0) 0) (known f)) (ap (λ p. sem.sortStreams p (known f)) (c .before .before .before .preserves3 .ensures)) refl
     (loaded (c .before .before .sort3 .last .0)) (c .before .before .sort3 .ensures)
 
+same-length-15 : tie.Need-same-length-15
+same-length-15 c = search needs
+
+returns-15 : tie.Need-returns-15
+returns-15 c = let s = (c .before .before .before .before .before .before .before .before .before .before .before .before) in let r = s .args .r .now in
+    let f = loaded (s .args .first .now) in let g = loaded (s .args .second .now) in let h = s .pre .ready in
+    let e = sym (c .before .before .before .before .before .before .kind-of .ensures) ∙ c .before .before .before .before .enum-told15 .given .1 in
+    aggregate-says r f g h e (loaded (c .before .before .aggregate .last .0)) (c .before .before .aggregate .ensures)
+
 pub node-into-spec : {M : Type 1} → statement M
 node-into-spec =
     tie.close
@@ -336,6 +362,8 @@ node-into-spec =
     enum-told-14
     preserves-requires-3
     sort-requires-3
+    enum-told-15
+    aggregate-requires
     same-length
     returns
     same-length-2
@@ -363,4 +391,6 @@ node-into-spec =
     same-length-13
     returns-13
     same-length-14
-    returns-14)
+    returns-14
+    same-length-15
+    returns-15)

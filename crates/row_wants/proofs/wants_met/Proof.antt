@@ -4,7 +4,7 @@ use native.Mathlib.Omega.{arith}
 use mathlib.Core.Path.{refl, sym, ap, _∙_}
 use Rattle.scan.specs.Below.{and-left}
 use Rattle.plan.specs.WellFormed.{keysFit}
-use Rattle.plan.specs.declared.Kind.the-variants.{Source, Filter, Projection, Union, Repartition, Coalesce, Sort, Merge, GlobalLimit, LocalLimit, HashJoin, OutputRequirement, PartialSort}
+use Rattle.plan.specs.declared.Kind.the-variants.{Source, Filter, Projection, Union, Repartition, Coalesce, Sort, Merge, GlobalLimit, LocalLimit, HashJoin, OutputRequirement, PartialSort, Aggregate}
 use lib.ListN.{length, take}
 use Rattle.semantics.specs.Facts as sem
 use Rattle.plan_codec.specs.Decode.{fromBytes}
@@ -119,6 +119,9 @@ meets-requires-5 : tie.Need-meets-requires-5
 meets-requires-5 c κs = let s = c .before .before .before .before .before .before .before .before .before .before .before in
     record { long = s .pre .0; fine = s .pre .2 .first }
 
+enum-told-15 : tie.Need-enum-told-15
+enum-told-15 c = search needs
+
 returns : tie.Need-returns
 returns c = let s = (c .before .before .before .before .before .before .before) in let r = s .args .r .now in let f = loaded (s .args .first .now) in
     let g = loaded (s .args .second .now) in let h = s .pre .2 in let e = sym (c .before .before .kind-of .ensures) ∙ c .enum-told .given .1 in
@@ -201,6 +204,11 @@ returns-14 c = let s = (c .before .before .before .before .before .before .befor
     (c .meets5 .ensures ∙ ap (sem.met (known f)) (c .before .front .ensures .is) ∙ ap (λ n. sem.met (known f) (take n k))
     (c .before .before .wide .ensures))
 
+returns-15 : tie.Need-returns-15
+returns-15 c = let s = (c .before .before .before .before .before .before .before) in let r = s .args .r .now in let f = loaded (s .args .first .now) in
+    let g = loaded (s .args .second .now) in let h = s .pre .2 in let e = sym (c .before .before .kind-of .ensures) ∙ c .enum-told15 .given .1 in
+    no-want r f g h Aggregate e refl
+
 pub wants-met-spec : {M : Type 1} → statement M
 wants-met-spec =
     tie.close
@@ -234,6 +242,7 @@ wants-met-spec =
     wide-requires
     front-requires
     meets-requires-5
+    enum-told-15
     returns
     returns-2
     returns-3
@@ -247,4 +256,5 @@ wants-met-spec =
     returns-11
     returns-12
     returns-13
-    returns-14)
+    returns-14
+    returns-15)

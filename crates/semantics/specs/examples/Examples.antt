@@ -2,13 +2,13 @@
 -- streams, cuts, which kinds let a limit pass or keep the number of rows, whose order a node maintains, wanted orders, boundedness, and
 -- distributions.
 use mathlib.Core.Path.{_≡_, refl}
-use mathlib.Core.Bool.{Bool, true, false}
+use mathlib.Core.Bool.{Bool, true, false, _||_}
 use mathlib.Core.List.{List, [], _∷_, map}
 use Prim.Native.Nat.{ℕ}
 use lib.IntN.{pos}
 use Rattle.row_order.specs.Iso.{null, num, Row, Key}
 use Rattle.plan.specs.Forest.{none, tree}
-use Rattle.plan.specs.Op.{On, Op, filter, projection, union, repartition, coalesce, sortOp, mergeOp, globalLimit, localLimit, sortMergeJoin, hashJoin, outputRequirement, partialSort, Plan}
+use Rattle.plan.specs.Op.{On, Op, filter, projection, union, repartition, coalesce, sortOp, mergeOp, globalLimit, localLimit, sortMergeJoin, hashJoin, outputRequirement, partialSort, aggregate, Plan}
 use Rattle.plan.specs.Samples.{up, sourceOf}
 use Rattle.plan.specs.declared.JoinType.{JoinType}
 use Rattle.plan.specs.declared.JoinType.the-variants.{Inner, Left, Right, Full, LeftSemi, LeftAnti, RightSemi, RightAnti}
@@ -19,6 +19,7 @@ use Rattle.semantics.specs.Properties.{wanted, cuts, maintains, supports
 use Rattle.semantics.specs.Check.{check}
 use Rattle.semantics.specs.Joins.{sql}
 use Rattle.semantics.specs.Runs.{cutRows, zipLeft, zipRight}
+use Rattle.semantics.specs.Bags.{isJoin, isAggregate}
 use Rattle.semantics.specs.examples.SampleRows.{row, pair}
 
 abbrev byFirst : List On
@@ -73,29 +74,41 @@ kinds =
     sourceOf 2 1 0 [] false ∷ filter ∷ projection (0 ∷ []) ∷ union ∷ repartition false 2 false [] ∷ coalesce Unlimited ∷ sortOp false (up 0 ∷ []) Unlimited
     ∷ mergeOp (up 0 ∷ []) Unlimited
     ∷ globalLimit 0 Unlimited [] ∷ localLimit (AtMost 1) [] ∷ sortMergeJoin Inner byFirst ∷ hashJoin Inner byFirst ∷ outputRequirement [] Single Unlimited
-    ∷ partialSort false (up 0 ∷ up 1 ∷ []) 1 Unlimited ∷ []
+    ∷ partialSort false (up 0 ∷ up 1 ∷ []) 1 Unlimited ∷ aggregate (up 0 ∷ []) 1 ∷ []
+
+-- no other kind cuts, nor does one of these without a fetch: of two rows only the local limit's fetch takes one
+abbrev two : List Row
+two = row 1 ∷ row 2 ∷ []
+
+pub cut-nothing : map (λ o. cutRows (cuts o) two) kinds ≡ two ∷ two ∷ two ∷ two ∷ two ∷ two ∷ two ∷ two ∷ two ∷ (row 1 ∷ []) ∷ two ∷ two ∷ two ∷ two ∷ two ∷ []
+cut-nothing = refl
+
+-- whose rows are not promised, whatever they cut: the two joins' and an aggregate's
+pub no-bag : map (λ o. isJoin o || isAggregate o) kinds ≡ false ∷ false ∷ false ∷ false ∷ false ∷ false ∷ false ∷ false ∷ false ∷ false ∷ true ∷ true
+    ∷ false ∷ false ∷ true ∷ []
+no-bag = refl
 
 -- who lets a limit pass: projection, union, coalesce, merge and limits
 pub limit-pushdown : map supportsLimitPushdown kinds ≡ false ∷ false ∷ true ∷ true ∷ false ∷ true ∷ false ∷ true ∷ true ∷ true ∷ false ∷ false ∷ false
-    ∷ false ∷ []
+    ∷ false ∷ false ∷ []
 limit-pushdown = refl
 
 -- who keeps the number of rows: projection, and coalesce and merge without a fetch
 pub cardinality : (map cardinalityEqual kinds ≡ false ∷ false ∷ true ∷ false ∷ false ∷ true ∷ false ∷ true ∷ false ∷ false ∷ false ∷ false ∷ false ∷ false
-    ∷ []) × (map cardinalityEqual (coalesce (AtMost 1) ∷ mergeOp (up 0 ∷ []) (AtMost 1) ∷ []) ≡ false ∷ false ∷ [])
+    ∷ false ∷ []) × (map cardinalityEqual (coalesce (AtMost 1) ∷ mergeOp (up 0 ∷ []) (AtMost 1) ∷ []) ≡ false ∷ false ∷ [])
 cardinality = (refl, refl)
 
 -- a source known ks, endless if u, and its right siblings
 abbrev scan : List Key → Bool → Plan → Plan
 scan ks u r = tree (sourceOf 2 1 0 ks u) none r
 
--- who maintains its first child, among the kinds: filter, projection, repartition of one stream, merge, limits, sort-merge join, kind 13; a
--- union only a child whose order is as long as its own
+-- who maintains its first child, among the kinds: filter, projection, repartition of one stream, merge, limits, sort-merge join, kind 13, an
+-- aggregate whose group column is the first key; a union only a child whose order is as long as its own
 abbrev twoScans : Plan
 twoScans = scan (up 0 ∷ up 1 ∷ []) false (scan (up 0 ∷ []) false none)
 
 pub maintained : map (λ o. maintains o (facts twoScans) 0) kinds ≡ false ∷ true ∷ true ∷ false ∷ true ∷ false ∷ false ∷ true ∷ true ∷ true ∷ true ∷ false
-    ∷ true ∷ false ∷ []
+    ∷ true ∷ false ∷ true ∷ []
 maintained = refl
 
 abbrev joinTypes : List JoinType
@@ -136,7 +149,7 @@ pub wanted-orders :
     × (map (wanted (mergeOp (down 0 ∷ []) Unlimited)) (0 ∷ 1 ∷ []) ≡ (down 0 ∷ []) ∷ [] ∷ [])
     × (map (wanted (outputRequirement (down 0 ∷ []) Single Unlimited)) (0 ∷ 1 ∷ []) ≡ (down 0 ∷ []) ∷ [] ∷ [])
     × (map (wanted (partialSort false (down 0 ∷ up 1 ∷ []) 1 Unlimited)) (0 ∷ 1 ∷ []) ≡ (down 0 ∷ []) ∷ [] ∷ [])
-    × (map (λ o. isNil (wanted o 0)) kinds ≡ true ∷ true ∷ true ∷ true ∷ true ∷ true ∷ true ∷ false ∷ true ∷ true ∷ false ∷ true ∷ true ∷ false ∷ [])
+    × (map (λ o. isNil (wanted o 0)) kinds ≡ true ∷ true ∷ true ∷ true ∷ true ∷ true ∷ true ∷ false ∷ true ∷ true ∷ false ∷ true ∷ true ∷ false ∷ true ∷ [])
 wanted-orders = (refl, refl, refl, refl, refl)
 
 pub right-options :
@@ -155,5 +168,5 @@ pub distributions :
     (map (distOf (sortMergeJoin Inner (record { key = up 0; other = 1 } ∷ []))) (0 ∷ 1 ∷ []) ≡ Keyed 1 ∷ Keyed 2 ∷ [])
     × (map (distOf (hashJoin Inner byFirst)) (0 ∷ 1 ∷ []) ≡ Single ∷ Unspecified ∷ [])
     × (map (λ o. distOf o 0) kinds ≡ Unspecified ∷ Unspecified ∷ Unspecified ∷ Unspecified ∷ Unspecified ∷ Unspecified ∷ Single ∷ Unspecified ∷ Single
-    ∷ Unspecified ∷ Keyed 1 ∷ Single ∷ Single ∷ Single ∷ [])
+    ∷ Unspecified ∷ Keyed 1 ∷ Single ∷ Single ∷ Single ∷ Unspecified ∷ [])
 distributions = (refl, refl, refl)

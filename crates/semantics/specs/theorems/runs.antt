@@ -5,3 +5,4 @@ pub mod Widths
 pub mod NotNarrower
 pub mod Splits
 pub mod SharedTables
+pub mod Groups

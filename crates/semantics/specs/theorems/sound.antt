@@ -1,5 +1,6 @@
 pub mod JoinsHold
 pub mod KindsHold
+pub mod GroupsHold
 pub mod Sound
 pub mod PassingPlan
 pub mod DeclaredKept

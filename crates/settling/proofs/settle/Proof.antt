@@ -63,9 +63,9 @@ settle-inner-requires c κs = let q = c .before .before .before .kind-of .ensure
     (c .before .before .before .before .before .record-at .ensures) in (
       c .before .before .before .before .before .before .before .before .before .before .pre,
       (λ e. let x : c .before .before .before .kind-of .result ≡ Union = q ∙ e in
-          miss (0 ∷ 1 ∷ 2 ∷ 4 ∷ 5 ∷ 6 ∷ 7 ∷ 8 ∷ 9 ∷ 10 ∷ 11 ∷ 12 ∷ 13 ∷ []) 3 tt (rw x at (c .before .before .match .keys2))),
+          miss (0 ∷ 1 ∷ 2 ∷ 4 ∷ 5 ∷ 6 ∷ 7 ∷ 8 ∷ 9 ∷ 10 ∷ 11 ∷ 12 ∷ 13 ∷ 14 ∷ []) 3 tt (rw x at (c .before .before .match .keys2))),
       (λ e. let x : c .before .before .before .kind-of .result ≡ Source = q ∙ e in
-          miss (1 ∷ 2 ∷ 3 ∷ 4 ∷ 5 ∷ 6 ∷ 7 ∷ 8 ∷ 9 ∷ 10 ∷ 11 ∷ 12 ∷ 13 ∷ []) 0 tt (rw x at (c .before .match2 .keys2))),
+          miss (1 ∷ 2 ∷ 3 ∷ 4 ∷ 5 ∷ 6 ∷ 7 ∷ 8 ∷ 9 ∷ 10 ∷ 11 ∷ 12 ∷ 13 ∷ 14 ∷ []) 0 tt (rw x at (c .before .match2 .keys2))),
       c .before .before .before .before .before .before .before .below .ensures,
     )
 

@@ -8,7 +8,7 @@ use mathlib.Core.List.{[], _∷_}
 use Prim.Native.Nat.{ℕ}
 use Rattle.row_order.specs.Iso.{Key}
 use Rattle.plan.specs.Forest.{none, size, tree}
-use Rattle.plan.specs.Op.{coalesce, filter, hashJoin, localLimit, mergeOp, Op, outputRequirement, partialSort, Plan, projection, repartition, sortOp}
+use Rattle.plan.specs.Op.{coalesce, filter, hashJoin, localLimit, mergeOp, Op, outputRequirement, partialSort, aggregate, Plan, projection, repartition, sortOp}
 use Rattle.plan.specs.Samples.{by, sourceOf, up}
 use Rattle.plan.specs.WellFormed.{wellFormed}
 use Rattle.plan.specs.declared.Distribution.the-variants.{Single, Unspecified}

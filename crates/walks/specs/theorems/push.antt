@@ -1,3 +1,4 @@
 pub mod Kept
 pub mod ChildOrders
 pub mod WellFormed
+pub mod Aggregates

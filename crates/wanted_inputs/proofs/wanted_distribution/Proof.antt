@@ -1,7 +1,7 @@
 -- `wanted_inputs::wanted_distribution` meets its contract. Assumes nothing.
 use borrow.Author.Needs.{needs}
 use mathlib.Core.Path.{refl, sym, ap, _∙_}
-use Rattle.plan.specs.declared.Kind.the-variants.{Source, Filter, Projection, Union, Repartition, Coalesce, Sort, Merge, GlobalLimit, LocalLimit, SortMergeJoin, HashJoin, OutputRequirement, PartialSort}
+use Rattle.plan.specs.declared.Kind.the-variants.{Source, Filter, Projection, Union, Repartition, Coalesce, Sort, Merge, GlobalLimit, LocalLimit, SortMergeJoin, HashJoin, OutputRequirement, PartialSort, Aggregate}
 use Rattle.record_fields.specs.Kinds.{asked-of}
 use Rattle.semantics.specs.Properties.{distOf, sortDist}
 use Rattle.plan_codec.specs.Decode.{distributionOf}
@@ -85,6 +85,9 @@ preserves-requires-2 c κs = search needs
 sort-distribution-requires-2 : tie.Need-sort-distribution-requires-2
 sort-distribution-requires-2 c κs = search needs
 
+enum-told-15 : tie.Need-enum-told-15
+enum-told-15 c = search needs
+
 returns : tie.Need-returns
 returns c = let r = (c .before .before .before .before .before) .args .r .now in
     asked-of (λ o. distOf o ((c .before .before .before .before .before) .args .j)) r Source
@@ -158,6 +161,11 @@ returns-14 c = let r = (c .before .before .before .before .before .before .befor
     (sym (c .before .before .before .before .kind-of .ensures) ∙ c .before .before .enum-told14 .given .1) _
     (c .sort-distribution2 .ensures ∙ ap sortDist (c .before .preserves2 .ensures))
 
+returns-15 : tie.Need-returns-15
+returns-15 c = let r = (c .before .before .before .before .before) .args .r .now in
+    asked-of (λ o. distOf o ((c .before .before .before .before .before) .args .j)) r Aggregate
+    (sym (c .before .before .kind-of .ensures) ∙ c .enum-told15 .given .1) _ refl
+
 pub wanted-distribution-spec : {M : Type 1} → statement M
 wanted-distribution-spec =
     tie.close
@@ -187,6 +195,7 @@ wanted-distribution-spec =
     enum-told-14
     preserves-requires-2
     sort-distribution-requires-2
+    enum-told-15
     returns
     returns-2
     returns-3
@@ -200,4 +209,5 @@ wanted-distribution-spec =
     returns-11
     returns-12
     returns-13
-    returns-14)
+    returns-14
+    returns-15)

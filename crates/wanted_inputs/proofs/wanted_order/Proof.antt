@@ -3,7 +3,7 @@ use borrow.Author.Needs.{needs}
 use native.Mathlib.Omega.{arith}
 use mathlib.Core.Path.{refl, sym, ap₂, _∙_}
 use lib.ListN.{getD, take}
-use Rattle.plan.specs.declared.Kind.the-variants.{Source, Filter, Projection, Union, Repartition, Coalesce, Sort, Merge, GlobalLimit, LocalLimit, SortMergeJoin, HashJoin, OutputRequirement, PartialSort}
+use Rattle.plan.specs.declared.Kind.the-variants.{Source, Filter, Projection, Union, Repartition, Coalesce, Sort, Merge, GlobalLimit, LocalLimit, SortMergeJoin, HashJoin, OutputRequirement, PartialSort, Aggregate}
 use Rattle.plan_codec.specs.Decode.{fromBytes}
 use Rattle.key_lists.specs.Keys.{keysOf}
 use Rattle.wanted_inputs.specs.Wanted.{keys-count, prefix-inside, wants-this, wants-none, wants-first}
@@ -98,6 +98,9 @@ front-requires c κs = let s = (c .before .before .before .before .before .befor
 of-first-requires-3 : tie.Need-of-first-requires-3
 of-first-requires-3 c κs = search needs
 
+enum-told-15 : tie.Need-enum-told-15
+enum-told-15 c = search needs
+
 returns : tie.Need-returns
 returns c = let s = (c .before .before .before .before .before) in let r = s .args .r .now in
     let e = (sym (c .before .before .kind-of .ensures) ∙ c .enum-told .given .1) in wants-none r Source e (s .args .j) refl
@@ -163,6 +166,10 @@ returns-14 c = let s = (c .before .before .before .before .before .before .befor
     (c .before .front .ensures .is ∙ ap₂ take (c .before .before .wide .ensures) (c .before .before .before .before .key-list3 .ensures .is
     ∙ keys-are r (s .pre))) refl (c .of-first3 .ensures)
 
+returns-15 : tie.Need-returns-15
+returns-15 c = let s = (c .before .before .before .before .before) in let r = s .args .r .now in
+    let e = (sym (c .before .before .kind-of .ensures) ∙ c .enum-told15 .given .1) in wants-none r Aggregate e (s .args .j) refl
+
 pub wanted-order-spec : {M : Type 1} → statement M
 wanted-order-spec =
     tie.close
@@ -193,6 +200,7 @@ wanted-order-spec =
     wide-requires
     front-requires
     of-first-requires-3
+    enum-told-15
     returns
     returns-2
     returns-3
@@ -206,4 +214,5 @@ wanted-order-spec =
     returns-11
     returns-12
     returns-13
-    returns-14)
+    returns-14
+    returns-15)

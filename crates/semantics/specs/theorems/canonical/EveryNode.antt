@@ -8,18 +8,20 @@ use native.Mathlib.Omega.{arith}
 use borrow.Author.Tests.{ltb-true, ltb-false, leb-true, eqb-true, lt-ltb, le-ltb, le-leb, eq-eqb}
 use lib.Dec.{eqb, ltb, leb}
 use lib.ListN.{length, getD}
+use Rattle.row_order.specs.Iso.{Key}
 use Rattle.row_order.specs.Order.{which}
-use Rattle.row_order.specs.Lists.{All, all-nil, all-cons, all-map, tab, length-tab, getD-tab}
+use Rattle.row_order.specs.Lists.{All, all-nil, all-cons, all-head, all-tail, all-map, tab, length-tab, getD-tab}
 use Rattle.plan.specs.Forest.{none, tree}
-use Rattle.plan.specs.Op.{On, Op, source, filter, projection, union, repartition, coalesce, sortOp, mergeOp, globalLimit, localLimit, sortMergeJoin, hashJoin, outputRequirement, partialSort, Plan}
+use Rattle.plan.specs.Op.{On, Op, source, filter, projection, union, repartition, coalesce, sortOp, mergeOp, globalLimit, localLimit, sortMergeJoin, hashJoin, outputRequirement, partialSort, aggregate, Plan}
 use Rattle.plan.specs.declared.JoinType.{JoinType}
 use Rattle.plan.specs.declared.JoinType.the-variants.{Inner, Left, Right, Full, LeftSemi, LeftAnti, RightSemi, RightAnti}
-use Rattle.semantics.specs.Facts.{Facts, cl, isC, nf, nothing, sourceFacts, keepsOrder, sortStreams, Kept, smjKept, hashKept, byRight, placed, shifted, beside, inClass, linked, linkAll, joinBase, joinOrder, joinFacts, at0, at1, factsOp, facts}
-use Rattle.semantics.specs.Canonical.{n-nil, Classes, Canon}
+use Rattle.plan.specs.WellFormed.{columnsOf}
+use Rattle.semantics.specs.Facts.{Facts, cl, isC, nf, nothing, sourceFacts, keepsOrder, sortStreams, Kept, smjKept, hashKept, byRight, placed, shifted, beside, inClass, linked, linkAll, joinBase, joinOrder, joinFacts, at0, at1, factsOp, facts, projFacts}
+use Rattle.semantics.specs.Canonical.{Normal, n-nil, n-cons, Classes, Canon}
 use Rattle.semantics.specs.theorems.common.Bools.{or-cases, or-right}
 use Rattle.semantics.specs.theorems.common.Lowest.{tab-cases, min-cases}
 use Rattle.semantics.specs.theorems.orders.NormalForms.{normal-nf}
-use Rattle.semantics.specs.theorems.canonical.UnionsProjections.{ordered-canon, nf-canon, kept-canon, unknown-classes, nothing-canon, source-classes, union-canon, proj-canon}
+use Rattle.semantics.specs.theorems.canonical.UnionsProjections.{ordered-canon, nf-canon, kept-canon, unknown-classes, nothing-canon, source-classes, union-canon, proj-canon, proj-fits}
 
 -- ---- classes and constants by tables of one size
 module _ (F : Facts) (f : ℕ → ℕ) (g : ℕ → Bool) (lo : (c : ℕ) → c < F .width → f c ≤ c) (id : (c : ℕ) → c < F .width → f (f c) ≡ f c)
@@ -87,6 +89,18 @@ module _ (F : Facts) (h : Classes F) where
             ∙ sym (gL-near c (ltb-true c (F .width) e))
         | false ↦ λ e. refl
       ]) refl
+
+  -- an order whose columns are the left side's stays in normal form
+  placed-normal : (n : ℕ) {seen : List ℕ} {ks : List Key} → Normal (isC F) (cl F) seen ks → All (λ k. k .col < F .width) ks →
+      Normal (isC (placed F n)) (cl (placed F n)) seen ks
+  placed-normal n n-nil fits = n-nil
+  placed-normal n (n-cons {k = k} a b c m) fits =
+      let l : k .col < F .width = all-head fits in
+      n-cons (getD-tab (F .width + n) fL (k .col) (k .col) (omega arith) ∙ fL-near (k .col) l ∙ a)
+      (getD-tab (F .width + n) gL false (k .col) (omega arith) ∙ gL-near (k .col) l ∙ b) c (placed-normal n m (all-tail fits))
+
+placed-canon : (F : Facts) → Canon F → All (λ k. k .col < F .width) (F .order) → (n : ℕ) → Canon (placed F n)
+placed-canon F h fits n = record { classes = placed-classes F (h .classes) n; normal = placed-normal F (h .classes) n (h .normal) fits }
 
 -- ---- the right side
 module _ (w : ℕ) (G : Facts) (h : Classes G) where
@@ -301,6 +315,8 @@ op-canon (sortMergeJoin t on) fs hs = join-canon t (smjKept t) on (at0 fs) (at1 
 op-canon (hashJoin t on) fs hs = join-canon t (hashKept t) on (at0 fs) (at1 fs) (at1 fs .streams) (nth-canon fs hs 0) (nth-canon fs hs 1)
 op-canon (outputRequirement ks d f) fs hs = nth-canon fs hs 0
 op-canon (partialSort p ks n f) fs hs = nf-canon (at0 fs) (sortStreams p (at0 fs)) ks (nth-canon fs hs 0 .classes)
+op-canon (aggregate ks n) fs hs = placed-canon (projFacts (at0 fs) (columnsOf ks)) (proj-canon (at0 fs) (nth-canon fs hs 0) (columnsOf ks))
+    (proj-fits (at0 fs) (columnsOf ks) (at0 fs .order)) n
 
 pub canon : (f : Plan) → All Canon (facts f)
 canon none = all-nil

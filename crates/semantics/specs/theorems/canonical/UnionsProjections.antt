@@ -230,3 +230,16 @@ module _ (F : Facts) (hF : Canon F) (cols : List ℕ) where
             };
         normal = order-normal [] [] (F .order) all-nil (hF .normal);
       }
+
+-- the keys of a projected order fit the projection's width
+pub proj-fits : (F : Facts) (cols : List ℕ) (ks : List Key) → All (λ k. k .col < length cols) (projOrder F cols ks)
+proj-fits F cols [] = all-nil
+proj-fits F cols (k ∷ ks) = go (ltb j (length cols)) refl (proj-fits F cols ks)
+  where
+    j : ℕ
+    j = carried F cols (k .col)
+
+    go : (b : Bool) → ltb j (length cols) ≡ b → All (λ l. l .col < length cols) (projOrder F cols ks) → All (λ l. l .col < length cols)
+        (cond b (withColumn j k ∷ projOrder F cols ks) [])
+    go true e ih = all-cons (ltb-true j (length cols) e) ih
+    go false e ih = all-nil

@@ -6,7 +6,7 @@ use Prim.Native.Nat.{ℕ, zero, suc}
 use lib.ListN.{length, getD, take, drop}
 use Rattle.row_order.specs.Iso.{Row, Key}
 use Rattle.row_order.specs.Order.{le}
-use Rattle.row_order.specs.Lists.{concat, All, all-nil, all-cons, all-map, all-zip, all-left, all-right, Pw, pw-nil, pw-cons, pw-map, tab}
+use Rattle.row_order.specs.Lists.{concat, All, all-nil, all-cons, all-head, all-tail, all-map, all-zip, all-left, all-right, Pw, pw-nil, pw-cons, pw-head, pw-tail, pw-map, tab}
 use Rattle.row_order.specs.Sorting.{Rel, Sorted}
 use Rattle.semantics.specs.Joins.{keep}
 use Rattle.semantics.specs.Runs.{Streams, Each, each-nil, each-cons}
@@ -49,6 +49,17 @@ streams-map ks ls h ps ss = all-map (λ l pr. pw-map h (pr .0) (pr .1)) (all-zip
 pub each-length : {A B : Type 0} {R : A → B → Type 0} {l : List A} {m : List B} → Each R l m → length m ≡ length l
 each-length each-nil = refl
 each-length (each-cons r h) = ap suc (each-length h)
+
+-- what holds of the rows of one list, or of two in their order, holds of what they are related to
+pub each-all : {A B : Type 0} {P : A → Type 0} {Q : B → Type 0} {R : A → B → Type 0} → ((x : A) (a : B) → P x → R x a → Q a) → {l : List A} {m : List B} →
+    All P l → Each R l m → All Q m
+each-all f ps each-nil = all-nil
+each-all f ps (each-cons {x = x} {y = a} r h) = all-cons (f x a (all-head ps) r) (each-all f (all-tail ps) h)
+
+pub each-pw : {A B : Type 0} {R : A → B → Type 0} {S : A → A → Type 0} {T : B → B → Type 0} → ((x y : A) (a b : B) → R x a → R y b → S x y → T a b) →
+    {l : List A} {m : List B} → Pw S l → Each R l m → Pw T m
+each-pw f ss each-nil = pw-nil
+each-pw f ss (each-cons {x = x} {y = a} r h) = pw-cons (each-all (λ y b s q. f x y a b r q s) (pw-head ss) h) (each-pw f (pw-tail ss) h)
 
 -- a place by its number
 pub each-at : {A B : Type 0} {R : A → B → Type 0} {l : List A} {m : List B} (d : A) (e : B) → R d e → Each R l m → (n : ℕ) → R (getD l n d) (getD m n e)

@@ -6,19 +6,19 @@ use Prim.Native.Nat.{ℕ, zero, suc, _+_, _<_}
 use native.Mathlib.Omega.{arith}
 use borrow.Author.Tests.{ltb-true, lt-ltb}
 use lib.Dec.{eqb, ltb}
-use lib.ListN.{length, getD}
+use lib.ListN.{length, getD, length-map}
 use Rattle.row_order.specs.Iso.{Key}
 use Rattle.row_order.specs.Lists.{All, all-nil, all-cons, all-head, all-tail, all-map, all-over}
 use Rattle.plan.specs.Forest.{none, tree}
-use Rattle.plan.specs.Op.{On, Op, source, filter, projection, union, repartition, coalesce, sortOp, mergeOp, globalLimit, localLimit, sortMergeJoin, hashJoin, outputRequirement, partialSort, Plan}
-use Rattle.plan.specs.WellFormed.{joinWidth, width, widths, below, keysFit, columnsOk, nodesOk}
+use Rattle.plan.specs.Op.{On, Op, source, filter, projection, union, repartition, coalesce, sortOp, mergeOp, globalLimit, localLimit, sortMergeJoin, hashJoin, outputRequirement, partialSort, aggregate, Plan}
+use Rattle.plan.specs.WellFormed.{joinWidth, width, widths, below, keysFit, columnsOk, nodesOk, columnsOf}
 use Rattle.plan.specs.declared.JoinType.{JoinType}
 use Rattle.plan.specs.declared.JoinType.the-variants.{Inner, Left, Right, Full, LeftSemi, LeftAnti, RightSemi, RightAnti}
 use Rattle.semantics.specs.Facts.{Facts, cl, isC, withColumn, nf, eqKey, common, nothing, sourceFacts, unionFacts, carried, projOrder, keepsOrder, Kept, kLeft, kRight, kNone, smjKept, hashKept, byRight, beside, linked, linkAll, joinBase, within, moved, leftOrder, rightOrder, joinOrder, joinFacts, at0, at1, factsOp, facts}
 use Rattle.semantics.specs.Canonical.{Classes, Canon}
 use Rattle.semantics.specs.theorems.common.Bools.{and-left, and-right}
 use Rattle.semantics.specs.theorems.orders.NormalForms.{nf-all}
-use Rattle.semantics.specs.theorems.canonical.UnionsProjections.{source-classes}
+use Rattle.semantics.specs.theorems.canonical.UnionsProjections.{source-classes, proj-fits}
 use Rattle.semantics.specs.theorems.canonical.EveryNode.{join-classes, nth-canon, canon}
 
 abbrev pub Fits : Facts → Type 0
@@ -72,6 +72,7 @@ op-width (sortMergeJoin t on) fs = sides-width t on fs
 op-width (hashJoin t on) fs = sides-width t on fs
 op-width (outputRequirement ks d f) fs = child-width fs 0
 op-width (partialSort p ks n f) fs = child-width fs 0
+op-width (aggregate ks n) fs = ap (λ (w : ℕ). w + n) (length-map ks (λ k. k .col))
 
 pub facts-widths : (f : Plan) → map (λ F. F .width) (facts f) ≡ widths f
 facts-widths none = refl
@@ -101,18 +102,6 @@ union-fits : (fs : List Facts) → All Fits fs → Fits (unionFacts fs)
 union-fits [] hs = all-nil
 union-fits (F ∷ []) hs = all-head hs
 union-fits (F ∷ G ∷ fs) hs = common-fits (F .order) (unionFacts (G ∷ fs) .order) (all-head hs)
-
-proj-fits : (F : Facts) (cols : List ℕ) (ks : List Key) → All (λ k. k .col < length cols) (projOrder F cols ks)
-proj-fits F cols [] = all-nil
-proj-fits F cols (k ∷ ks) = go (ltb j (length cols)) refl (proj-fits F cols ks)
-  where
-    j : ℕ
-    j = carried F cols (k .col)
-
-    go : (b : Bool) → ltb j (length cols) ≡ b → All (λ l. l .col < length cols) (projOrder F cols ks) → All (λ l. l .col < length cols)
-        (cond b (withColumn j k ∷ projOrder F cols ks) [])
-    go true e ih = all-cons (ltb-true j (length cols) e) ih
-    go false e ih = all-nil
 
 kept-fits : {P : Key → Type 0} (b : Bool) {ks : List Key} → All P ks → All P (cond b ks [])
 kept-fits true ps = ps
@@ -197,6 +186,7 @@ op-fits (hashJoin t on) fs e cs hs = join-fits (at0 fs) (at1 fs) (nth-fits fs hs
     (nth-canon fs cs 0 .classes) (nth-canon fs cs 1 .classes)
 op-fits (outputRequirement ks d f) fs e cs hs = nth-fits fs hs 0
 op-fits (partialSort p ks n f) fs e cs hs = sort-fits fs cs ks e
+op-fits (aggregate ks n) fs e cs hs = all-map (λ k l. omega arith) (proj-fits (at0 fs) (columnsOf ks) (at0 fs .order))
 
 pub fits : (f : Plan) → nodesOk f ≡ true → All Fits (facts f)
 fits none e = all-nil

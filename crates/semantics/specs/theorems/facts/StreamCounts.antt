@@ -9,7 +9,7 @@ use lib.Dec.{eqb}
 use lib.ListN.{length, getD}
 use Rattle.row_order.specs.Lists.{sum, All, all-nil, all-cons, all-head}
 use Rattle.plan.specs.Forest.{none, tree, size}
-use Rattle.plan.specs.Op.{Op, source, filter, projection, union, repartition, coalesce, sortOp, mergeOp, globalLimit, localLimit, sortMergeJoin, hashJoin, outputRequirement, partialSort, Plan}
+use Rattle.plan.specs.Op.{Op, source, filter, projection, union, repartition, coalesce, sortOp, mergeOp, globalLimit, localLimit, sortMergeJoin, hashJoin, outputRequirement, partialSort, aggregate, Plan}
 use Rattle.plan.specs.WellFormed.{fieldsOk, childrenOk, widths, nodesOk}
 use Rattle.semantics.specs.Facts.{Facts, nothing, unionFacts, sortStreams, byRight, at0, at1, factsOp, facts}
 use Rattle.semantics.specs.theorems.common.Bools.{and-left, and-right}
@@ -60,6 +60,7 @@ module _ (fs : List Facts) (hs : All Some fs) where
   op-some (hashJoin t on) e k = let l = eqb-true (length fs) 2 k in nth-some fs hs 1 (omega arith)
   op-some (outputRequirement ks d f) e k = only k
   op-some (partialSort p ks n f) e k = sort-some p (at0 fs) (only k)
+  op-some (aggregate ks n) e k = only k
 
 -- the children that the rule on child counts counts
 kids : (c : Plan) → length (widths c) ≡ length (facts c)
@@ -108,6 +109,7 @@ op-few (sortMergeJoin t on) fs e = side-few (byRight t) (at0 fs .streams) (at1 f
 op-few (hashJoin t on) fs e = omega (arith, nth-few fs 1)
 op-few (outputRequirement ks d f) fs e = omega (arith, nth-few fs 0)
 op-few (partialSort p ks n f) fs e = sort-few p (at0 fs) (total fs) (nth-few fs 0)
+op-few (aggregate ks n) fs e = omega (arith, nth-few fs 0)
 
 pub streams-few : (f : Plan) → nodesOk f ≡ true → total (facts f) ≤ 64 * size f
 streams-few none e = omega arith

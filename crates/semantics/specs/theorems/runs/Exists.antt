@@ -6,18 +6,18 @@ use Prim.Native.Nat.{ℕ, zero, suc, _≤_}
 use native.Mathlib.Omega.{arith}
 use borrow.Author.Tests.{leb-true}
 use lib.ListN.{length, getD}
-use Rattle.row_order.specs.Iso.{Row, Key}
+use Rattle.row_order.specs.Iso.{null, Row, Key}
 use Rattle.row_order.specs.Lists.{sum, concat, sum-append, Same, same-refl, all-cons, pw-nil, mixes-sum, tab, length-tab}
 use Rattle.row_order.specs.Sorting.{Sorted, merges, merges-mixes, merges-sorted, sort, sort-same, sort-sorted}
 use Rattle.plan.specs.Forest.{Forest, none, tree, roots}
-use Rattle.plan.specs.Op.{On, Op, source, filter, projection, union, repartition, coalesce, sortOp, mergeOp, globalLimit, localLimit, sortMergeJoin, hashJoin, outputRequirement, partialSort, Plan}
+use Rattle.plan.specs.Op.{On, Op, source, filter, projection, union, repartition, coalesce, sortOp, mergeOp, globalLimit, localLimit, sortMergeJoin, hashJoin, outputRequirement, partialSort, aggregate, Plan}
 use Rattle.plan.specs.WellFormed.{fieldsOk, nodesOk, wellFormed}
 use Rattle.plan.specs.declared.JoinType.{JoinType}
 use Rattle.plan.specs.declared.JoinType.the-variants.{Inner, Left, Right, Full, LeftSemi, LeftAnti, RightSemi, RightAnti}
 use Rattle.semantics.specs.Facts.{Facts, keepsOrder, smjKept, hashKept, at0, at1, facts}
 use Rattle.semantics.specs.Properties.{cuts}
-use Rattle.semantics.specs.Joins.{Gives, matched, padded, semi, anti, gLeft, gRight, sql, Grouped, grouped-nil, grouped-cons, Joined}
-use Rattle.semantics.specs.Runs.{Streams, Env, nextS, nextF, past, Each, each-nil, each-cons, Split, SortOf, Sorting, Pair, likeNumbered, withAll, in0, in1, Made, cutRows, Run, run-none, run-tree}
+use Rattle.semantics.specs.Joins.{nulls, Gives, matched, padded, semi, anti, gLeft, gRight, sql, Grouped, grouped-nil, grouped-cons, Joined}
+use Rattle.semantics.specs.Runs.{Streams, Env, nextS, nextF, past, Each, each-nil, each-cons, Split, SortOf, Sorting, Pair, likeNumbered, withAll, in0, in1, Made, cutRows, Run, run-none, run-tree, begins, Grouping}
 use Rattle.semantics.specs.theorems.common.Bools.{and-left, and-right}
 use Rattle.semantics.specs.theorems.common.Streams.{all-tab}
 
@@ -79,12 +79,17 @@ module _ (on : List On) (w v : ℕ) (p : Pair) where
   hash-joined RightSemi = by-right semi
   hash-joined RightAnti = by-right anti
 
-joins : {J : Pair → List Row → Type 0} → ((p : Pair) → (out : List Row) × J p out) → (ps : List Pair) → (out : Streams) × Each J ps out
-joins f [] = ([], each-nil)
-joins f (p ∷ ps) =
+-- one thing for each of several
+eachOf : {A B : Type 0} {J : A → B → Type 0} → ((p : A) → (out : B) × J p out) → (ps : List A) → (out : List B) × Each J ps out
+eachOf f [] = ([], each-nil)
+eachOf f (p ∷ ps) =
     let a = f p in
-    let b = joins f ps in
+    let b = eachOf f ps in
     (a .0 ∷ b .0, each-cons (a .1) (b .1))
+
+-- a group's row, with nulls for its aggregate cells
+grouping : (ks : List Key) (n : ℕ) (s : List Row) → (out : List Row) × Grouping ks n s out
+grouping ks n s = eachOf (λ x. (_, record { cells = nulls n; many = length-tab n (λ c. null); is = refl })) (begins ks s)
 
 sorting : (p : Bool) (ks : List Key) (s : Streams) → (out : Streams) × Sorting p ks s out
 sorting true ks s = (_, sorts ks s)
@@ -110,10 +115,11 @@ made-exists E i j (mergeOp ks f) ok fs css =
     (_, record { one = merges ks (in0 css); is = refl; that = record { mixed = merges-mixes ks (in0 css); sorted = merges-sorted ks (in0 css) } })
 made-exists E i j (globalLimit s f note) ok fs css = (_, record { one = merges [] (in0 css); is = refl; that = merges-mixes [] (in0 css) })
 made-exists E i j (localLimit f note) ok fs css = (_, refl)
-made-exists E i j (sortMergeJoin t on) ok fs css = joins (λ p. smj-joined on (at0 fs .width) (at1 fs .width) p t) (likeNumbered t (in0 css) (in1 css))
-made-exists E i j (hashJoin t on) ok fs css = joins (λ p. hash-joined on (at0 fs .width) (at1 fs .width) p t) (map (withAll (concat (in0 css))) (in1 css))
+made-exists E i j (sortMergeJoin t on) ok fs css = eachOf (λ p. smj-joined on (at0 fs .width) (at1 fs .width) p t) (likeNumbered t (in0 css) (in1 css))
+made-exists E i j (hashJoin t on) ok fs css = eachOf (λ p. hash-joined on (at0 fs .width) (at1 fs .width) p t) (map (withAll (concat (in0 css))) (in1 css))
 made-exists E i j (outputRequirement ks d f) ok fs css = (_, refl)
 made-exists E i j (partialSort p ks n f) ok fs css = sorting p ks (in0 css)
+made-exists E i j (aggregate ks n) ok fs css = eachOf (grouping ks n) (in0 css)
 
 forest-runs : (E : Env) (i j : ℕ) (f : Plan) → nodesOk f ≡ true → (out : Forest Streams) × Run E i j f out
 forest-runs E i j none e = (none, run-none)

@@ -13,7 +13,7 @@ use Rattle.row_order.specs.Order.{le, no-bool}
 use Rattle.row_order.specs.Lists.{concat, Same, All, all-nil, all-cons, pw-nil, pw-cons, mix-nil, mix-left, mix-right, Mixes, mixes-nil, mixes-cons, tab}
 use Rattle.row_order.specs.Sorting.{Sorted}
 use Rattle.plan.specs.Forest.{Forest, none, tree}
-use Rattle.plan.specs.Op.{On, Op, filter, union, repartition, coalesce, sortOp, mergeOp, globalLimit, sortMergeJoin, hashJoin, Plan}
+use Rattle.plan.specs.Op.{On, Op, filter, union, repartition, coalesce, sortOp, mergeOp, globalLimit, sortMergeJoin, hashJoin, aggregate, Plan}
 use Rattle.plan.specs.Samples.{sourceOf}
 use Rattle.plan.specs.declared.Fetch.the-variants.{Unlimited}
 use Rattle.plan.specs.declared.JoinType.{JoinType}
@@ -21,7 +21,7 @@ use Rattle.plan.specs.declared.JoinType.the-variants.{Inner, Left, Full, LeftSe
 use Rattle.semantics.specs.Facts.{Facts, keepsOrder, at0, facts}
 use Rattle.semantics.specs.Properties.{cuts}
 use Rattle.semantics.specs.Joins.{grouped-cons, grouped-nil, joinRow, keep, matches, sql}
-use Rattle.semantics.specs.Runs.{Streams, Env, nextS, Each, each-nil, each-cons, SortOf, Made, cutRows, Run, run-none, run-tree, SameInputs}
+use Rattle.semantics.specs.Runs.{Streams, Env, nextS, Each, each-nil, each-cons, SortOf, Made, cutRows, Run, run-none, run-tree, SameInputs, Grouping}
 use Rattle.semantics.specs.Sending.{Sends}
 use Rattle.semantics.specs.examples.SampleRows.{Has}
 use Rattle.semantics.specs.theorems.common.Streams.{all-sorted-nil}
@@ -29,18 +29,18 @@ use Rattle.semantics.specs.theorems.runs.Splits.{sends-split}
 use Rattle.semantics.specs.theorems.runs.Rows.{map-id}
 
 -- A source of two columns and n streams, with declared keys, and a node over it
-abbrev from : ℕ → List Key → Plan
+abbrev pub from : ℕ → List Key → Plan
 from n ks = tree (sourceOf 2 n 0 ks false) none none
 
-abbrev over : Op → ℕ → List Key → Plan
+abbrev pub over : Op → ℕ → List Key → Plan
 over o n ks = tree o (from n ks) none
 
 -- The streams of the two nodes
-abbrev gives : Streams → Streams → Forest Streams
+abbrev pub gives : Streams → Streams → Forest Streams
 gives out ins = tree out (tree ins none none) none
 
 -- A run of such a plan: what a node that cuts nothing off makes of the source's streams
-over-run : (E : Env) (o : Op) (ks : List Key) (ins out : Streams) → Has E 0 ins → nextS o 0 ≡ 0 → ((l : List Row) → cutRows (cuts o) l ≡ l) →
+pub over-run : (E : Env) (o : Op) (ks : List Key) (ins out : Streams) → Has E 0 ins → nextS o 0 ≡ 0 → ((l : List Row) → cutRows (cuts o) l ≡ l) →
     Made E 0 0 o (facts (from (length ins) ks)) (ins ∷ []) out →
     Run E 0 0 (over o (length ins) ks) (gives out ins)
 over-run E o ks ins out e z u m =
@@ -148,6 +148,11 @@ peers-swapped E ks x y h p = sort-any E ks [] ((x ∷ y ∷ []) ∷ []) (y ∷ x
 pub sort-each : (E : Env) (ks ls : List Key) (ins out : Streams) → Has E 0 ins → Each (SortOf ks) ins out →
     Run E 0 0 (over (sortOp true ks Unlimited) (length ins) ls) (gives out ins)
 sort-each E ks ls ins out p s = over-run E (sortOp true ks Unlimited) ls ins out p refl (λ l. refl) s
+
+-- ---- aggregate: for each group of a stream, in the order in which they begin, a row with any aggregate cells (Groups)
+pub aggregate-any : (E : Env) (gs ls : List Key) (n : ℕ) (ins out : Streams) → Has E 0 ins → Each (Grouping gs n) ins out →
+    Run E 0 0 (over (aggregate gs n) (length ins) ls) (gives out ins)
+aggregate-any E gs ls n ins out p g = over-run E (aggregate gs n) ls ins out p refl (λ l. refl) g
 
 -- ---- joins, of two sources with one stream each
 abbrev sides : Plan

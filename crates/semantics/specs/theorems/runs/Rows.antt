@@ -1,7 +1,7 @@
--- The rows of any run of a plan that has no joins and cuts nothing off are those of its bag, in some order: `run-rows`. So runs of two
+-- The rows of any run of a plan that has no joins and no aggregates and cuts nothing off are those of its bag, in some order: `run-rows`. So runs of two
 -- such plans with the same bags, given the same, deliver the same rows: `same-rows`.
 use mathlib.Core.Path.{_≡_, refl, sym, ap, ap₂, _∙_, subst}
-use mathlib.Core.Bool.{Bool, true, false, cond, not, _&&_}
+use mathlib.Core.Bool.{Bool, true, false, cond, not, _&&_, _||_}
 use mathlib.Core.List.{List, [], _∷_, map}
 use Prim.Native.Nat.{ℕ}
 use borrow.Author.Tests.{eqb-true}
@@ -11,7 +11,7 @@ use Rattle.row_order.specs.Iso.{Row, Key}
 use Rattle.row_order.specs.Order.{no-bool}
 use Rattle.row_order.specs.Lists.{sum, concat, sum-append, Same, same-refl, same-sym, same-trans, same-append, mixes-sum}
 use Rattle.plan.specs.Forest.{Forest, none, tree, roots}
-use Rattle.plan.specs.Op.{Op, source, filter, projection, union, repartition, coalesce, sortOp, mergeOp, globalLimit, localLimit, sortMergeJoin, hashJoin, outputRequirement, partialSort, Plan}
+use Rattle.plan.specs.Op.{Op, source, filter, projection, union, repartition, coalesce, sortOp, mergeOp, globalLimit, localLimit, sortMergeJoin, hashJoin, outputRequirement, partialSort, aggregate, Plan}
 use Rattle.plan.specs.declared.Fetch.{Fetch}
 use Rattle.plan.specs.declared.Fetch.the-variants.{Unlimited, AtMost}
 use Rattle.semantics.specs.Facts.{Facts, facts}
@@ -20,7 +20,7 @@ use Rattle.semantics.specs.Runs.{Streams, Env, nextS, nextF, past, Each,
 use Rattle.semantics.specs.theorems.common.Bools.{and-left, and-right}
 use Rattle.semantics.specs.theorems.common.Streams.{each-at}
 use Rattle.semantics.specs.theorems.common.Sums.{sum-concat-append, sum-map, sum-keep, sum-concat-map, sum-concat-keep, sum-sorts, sum-single, sum-ext}
-use Rattle.semantics.specs.Bags.{isAll, whole, isJoin, simpleOp, simplePlan, bagOp, bags, Fills, SameRows}
+use Rattle.semantics.specs.Bags.{isAll, whole, isJoin, isAggregate, simpleOp, simplePlan, bagOp, bags, Fills, SameRows}
 
 fills-concat : {css : List Streams} {bs : List (List Row)} → Each Fills css bs → Same (concat (concat css)) (concat bs)
 fills-concat each-nil = same-refl []
@@ -35,7 +35,7 @@ sorting-rows : (p : Bool) (ks : List Key) (s out : Streams) → Sorting p ks s o
 sorting-rows true ks s out e = record { sums = λ w. sum-sorts w ks e }
 sorting-rows false ks s out e = record { sums = λ w. sum-single w e ∙ e .that .same .sums w }
 
-made-rows : (E : Env) (i j : ℕ) (o : Op) (fs : List Facts) (css : List Streams) (bs : List (List Row)) (out : Streams) → not (isJoin o) ≡ true
+made-rows : (E : Env) (i j : ℕ) (o : Op) (fs : List Facts) (css : List Streams) (bs : List (List Row)) (out : Streams) → not (isJoin o || isAggregate o) ≡ true
     → Made E i j o fs css out → Each Fills css bs → Same (concat out) (bagOp E i j o bs)
 made-rows E i j (source s) fs css bs out nj e hs = same-of (ap concat e)
 made-rows E i j filter fs css bs out nj e hs =
@@ -64,6 +64,7 @@ made-rows E i j (sortMergeJoin t on) fs css bs out nj e hs = no-bool nj
 made-rows E i j (hashJoin t on) fs css bs out nj e hs = no-bool nj
 made-rows E i j (outputRequirement ks d f) fs css bs out nj e hs = same-trans (same-of (ap concat e)) (each-at [] [] (same-refl []) hs 0)
 made-rows E i j (partialSort p ks n f) fs css bs out nj e hs = same-trans (sorting-rows p ks (in0 css) out e) (each-at [] [] (same-refl []) hs 0)
+made-rows E i j (aggregate ks n) fs css bs out nj e hs = no-bool nj
 
 front-whole : (f : Fetch) (l : List Row) → isAll f ≡ true → front f l ≡ l
 front-whole Unlimited l e = refl
@@ -83,9 +84,9 @@ run-rows run-none e = each-nil
 run-rows {E} (run-tree {i = i} {j = j} {o = o} {c = c} {r = r} {s = s} {cs = cs} {rs = rs} st h k) e =
     let p : simpleOp o ≡ true = and-left (simpleOp o) (simplePlan c && simplePlan r) e in
     let q = and-right (simpleOp o) (simplePlan c && simplePlan r) e in
-    let whole-cut : s ≡ st .raw = st .is ∙ map-id (cutRows (cuts o)) (cut-whole (cuts o) (and-left (whole (cuts o)) (not (isJoin o)) p)) (st .raw) in
+    let whole-cut : s ≡ st .raw = st .is ∙ map-id (cutRows (cuts o)) (cut-whole (cuts o) (and-left (whole (cuts o)) (not (isJoin o || isAggregate o)) p)) (st .raw) in
     each-cons (same-trans (same-of (ap concat whole-cut))
-    (made-rows E i j o (facts c) (roots cs) _ (st .raw) (and-right (whole (cuts o)) (not (isJoin o)) p) (st .made)
+    (made-rows E i j o (facts c) (roots cs) _ (st .raw) (and-right (whole (cuts o)) (not (isJoin o || isAggregate o)) p) (st .made)
     (run-rows h (and-left (simplePlan c) (simplePlan r) q))))
     (run-rows k (and-right (simplePlan c) (simplePlan r) q))
 
@@ -117,6 +118,7 @@ module _ (E E′ : Env) (tests : (j : ℕ) (r : Row) → E .test j r ≡ E′ .t
   same-bag i j (hashJoin t on) bs ds h hs = same-refl []
   same-bag i j (outputRequirement ks d f) bs ds h hs = each-at [] [] (same-refl []) hs 0
   same-bag i j (partialSort p ks n f) bs ds h hs = each-at [] [] (same-refl []) hs 0
+  same-bag i j (aggregate ks n) bs ds h hs = same-refl []
 
   same-bags : (i j : ℕ) (f : Plan) → EachSource (SameSource E E′) i f → Each Same (bags E i j f) (bags E′ i j f)
   same-bags i j none h = each-nil

@@ -8,7 +8,7 @@ use lib.ListN.{length, drop, length-append, length-map}
 use Rattle.row_order.specs.Iso.{Row, Key}
 use Rattle.row_order.specs.Lists.{concat, length-tab}
 use Rattle.plan.specs.Forest.{Forest, roots}
-use Rattle.plan.specs.Op.{Op, source, filter, projection, union, repartition, coalesce, sortOp, mergeOp, globalLimit, localLimit, sortMergeJoin, hashJoin, outputRequirement, partialSort, Plan}
+use Rattle.plan.specs.Op.{Op, source, filter, projection, union, repartition, coalesce, sortOp, mergeOp, globalLimit, localLimit, sortMergeJoin, hashJoin, outputRequirement, partialSort, aggregate, Plan}
 use Rattle.semantics.specs.Facts.{Facts, nothing, unionFacts, sortStreams, byRight, at0, at1, factsOp, facts}
 use Rattle.semantics.specs.Properties.{cuts}
 use Rattle.semantics.specs.Joins.{keep}
@@ -80,6 +80,7 @@ made-many E i j o fs css out hs e = go o e
     go (hashJoin t on) e = each-length e ∙ length-map (in1 css) (withAll (concat (in0 css))) ∙ second
     go (outputRequirement ks d f) e = ap length e ∙ first
     go (partialSort p ks n f) e = sorting-many p ks (at0 fs) (in0 css) out first e
+    go (aggregate ks n) e = each-length e ∙ first
 
 -- ---- every node
 pub run-streams : {E : Env} {i j : ℕ} {f : Plan} {out : Forest Streams} → Run E i j f out → Everywhere (λ o c css s. AsMany (factsOp o (facts c)) s) f out

@@ -48,7 +48,7 @@ abbrev pub Delivers : Env → Plan → Streams → Type 0
 Delivers E f s = (out : Forest Streams) → Run E 0 0 f out → roots out ≡ s ∷ []
 
 -- a node that cuts nothing off, over children of whose streams all runs tell the same
-over-made : (E : Env) (o : Op) (c : Plan) (css : List Streams) → nextS o 0 ≡ 0 → ((j : ℕ) (cs : Forest Streams) → Run E 0 j c cs → roots cs ≡ css) →
+pub over-made : (E : Env) (o : Op) (c : Plan) (css : List Streams) → nextS o 0 ≡ 0 → ((j : ℕ) (cs : Forest Streams) → Run E 0 j c cs → roots cs ≡ css) →
     ((l : List Row) → cutRows (cuts o) l ≡ l) →
     (P : Streams → Type 0) → ((raw : Streams) → Made E 0 0 o (facts c) css raw → P raw) → (out : Forest Streams) → Run E 0 0 (tree o c none) out →
     (s : Streams) × (roots out ≡ s ∷ []) × P s

@@ -1,5 +1,5 @@
 -- In a run of a plan, over source rows as wide as their source, every row of every stream is as wide as its node: `run-wide`.
-use mathlib.Core.Path.{_≡_, refl, sym, ap, _∙_, subst, subst₂}
+use mathlib.Core.Path.{_≡_, refl, sym, ap, ap₂, _∙_, subst, subst₂}
 use mathlib.Core.Bool.{Bool, true, false}
 use mathlib.Core.List.{List, [], _∷_, map}
 use Prim.Native.Nat.{ℕ, _+_}
@@ -11,18 +11,18 @@ use Rattle.row_order.specs.Iso.{null, Row, Key, cell}
 use Rattle.row_order.specs.Order.{row-discrete}
 use Rattle.row_order.specs.Lists.{concat, All, all-nil, all-cons, all-append, all-map, all-over, all-concat, same-all, mixes-all, tab, length-tab}
 use Rattle.plan.specs.Forest.{Forest, roots}
-use Rattle.plan.specs.Op.{On, Op, source, filter, projection, union, repartition, coalesce, sortOp, mergeOp, globalLimit, localLimit, sortMergeJoin, hashJoin, outputRequirement, partialSort, Plan}
-use Rattle.plan.specs.WellFormed.{every, joinWidth, width, widths, unionOk, nodesOk}
+use Rattle.plan.specs.Op.{On, Op, source, filter, projection, union, repartition, coalesce, sortOp, mergeOp, globalLimit, localLimit, sortMergeJoin, hashJoin, outputRequirement, partialSort, aggregate, Plan}
+use Rattle.plan.specs.WellFormed.{every, joinWidth, width, widths, unionOk, nodesOk, columnsOf}
 use Rattle.plan.specs.declared.JoinType.{JoinType}
 use Rattle.plan.specs.declared.JoinType.the-variants.{Inner, Left, Right, Full, LeftSemi, LeftAnti, RightSemi, RightAnti}
 use Rattle.semantics.specs.Facts.{Facts, nothing, Kept, at0, at1, facts, smjKept, hashKept}
 use Rattle.semantics.specs.Properties.{cuts}
 use Rattle.semantics.specs.Joins.{keep, joinRow, nulls, matches, leftPairs, rightPairs, matched, padded, semi, anti, gLeft, gRight, unmatched, sql, Joined}
-use Rattle.semantics.specs.Runs.{Streams, Env, Each, each-nil, each-cons, proj, Sorting, Pair, likeNumbered, withAll, in0, in1, Made, Run, run-none, run-tree, AtSource, EachSource, Wide, WideSource}
+use Rattle.semantics.specs.Runs.{Streams, Env, Each, each-nil, each-cons, proj, Sorting, Pair, likeNumbered, withAll, in0, in1, Made, Run, run-none, run-tree, AtSource, EachSource, Wide, WideSource, begins, GroupRow}
 use Rattle.semantics.specs.Holds.{Everywhere, nowhere, node}
 use Rattle.semantics.specs.theorems.common.Bools.{and-left, and-right}
-use Rattle.semantics.specs.theorems.common.Streams.{keep-all, concat-each, each-at}
-use Rattle.semantics.specs.theorems.joins.Cells.{orElse-all, ifAny-all, map-all, concat-all}
+use Rattle.semantics.specs.theorems.common.Streams.{keep-all, concat-each, each-at, each-all}
+use Rattle.semantics.specs.theorems.joins.Cells.{orElse-all, ifAny-all, any-all, map-all, concat-all}
 use Rattle.semantics.specs.theorems.joins.AllRows.{joined-sql}
 use Rattle.semantics.specs.theorems.sound.KindsHold.{sorts-rows, cut-all}
 use Rattle.semantics.specs.theorems.sound.Sound.{numbered-all, joins-rows}
@@ -74,6 +74,11 @@ union-wide w e each-nil = all-nil
 union-wide w e (each-cons {x = v} {y = s} {l = ws} h hs) = all-cons (subst (λ (n : ℕ). Wide n s) (eqb-true v w (search and-left)) h)
     (union-wide w (search (and-left, and-right)) hs)
 
+-- a group's row is as wide as the group columns and the aggregate columns together
+group-long : (ks : List Key) (n : ℕ) (x y : Row) → GroupRow ks n x y → Long (length ks + n) y
+group-long ks n x y g = ap length (g .is) ∙ length-append (proj (columnsOf ks) x) (g .cells)
+    ∙ ap₂ _+_ (length-map (columnsOf ks) (cell x) ∙ length-map ks (λ k. k .col)) (g .many)
+
 -- of children whose facts are fs, widths ws and streams css
 module _ (E : Env) (i j : ℕ) (fs : List Facts) (ws : List ℕ) (css : List Streams) (ok : map (λ F. F .width) fs ≡ ws) (hs : Each Wide ws css)
     (out : Streams) where
@@ -110,6 +115,8 @@ module _ (E : Env) (i j : ℕ) (fs : List Facts) (ws : List ℕ) (css : List Str
       (all-over (withAll (concat (in0 css))) (λ r q. (all-concat (in0 css) first, q)) second) e
   made-wide (outputRequirement ks dist f) d u e = subst (Wide (getD ws 0 0)) (sym e) first
   made-wide (partialSort p ks n f) d u e = sorting-wide (getD ws 0 0) p ks (in0 css) out first e
+  made-wide (aggregate ks n) d u e = each-all (λ s t _ g. each-all (λ x y _. group-long ks n x y) (any-all (λ x. tt {0}) (begins ks s)) g)
+      (any-all (λ s. tt {0}) (in0 css)) e
 
 -- ---- every node
 wide-roots : {f : Plan} {out : Forest Streams} → Everywhere (λ o c css s. Wide (width o (widths c)) s) f out → Each Wide (widths f) (roots out)

@@ -17,7 +17,7 @@ use Rattle.row_order.specs.Sorting.{Sorted}
 use Rattle.row_order.specs.Forms.{Ordered, ordered-sorted, sorted-ordered, at-pw}
 use Rattle.row_order.specs.Packed.{bit}
 use Rattle.plan.specs.Forest.{none, tree}
-use Rattle.plan.specs.Op.{SourceInfo, Op, source, filter, projection, union, repartition, coalesce, sortOp, mergeOp, globalLimit, localLimit, sortMergeJoin, hashJoin, outputRequirement, partialSort, Plan}
+use Rattle.plan.specs.Op.{SourceInfo, Op, source, filter, projection, union, repartition, coalesce, sortOp, mergeOp, globalLimit, localLimit, sortMergeJoin, hashJoin, outputRequirement, partialSort, aggregate, Plan}
 use Rattle.semantics.specs.Runs.{Streams, Env, nextS, past, AtSource, EachSource, Declared, Sources}
 use Rattle.semantics.specs.SourceRows.{Agree, varies, descends, counted, sourceRow, own, sourcesOf, noSource, rowsFor, Filled}
 use Rattle.semantics.specs.theorems.common.Bools.{and-left, and-right}
@@ -133,6 +133,7 @@ own-source P i (sortMergeJoin t on) l h = (tt, h)
 own-source P i (hashJoin t on) l h = (tt, h)
 own-source P i (outputRequirement ks d f) l h = (tt, h)
 own-source P i (partialSort p ks n f) l h = (tt, h)
+own-source P i (aggregate ks n) l h = (tt, h)
 
 each-source : (P : ℕ → SourceInfo → Type 0) (i : ℕ) (f : Plan) (l : List SourceInfo) → Numbered P i (sourcesOf f l) →
     EachSource P i f × Numbered P (past nextS f i) l

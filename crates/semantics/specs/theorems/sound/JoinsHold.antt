@@ -35,7 +35,7 @@ module _ (F : Facts) (low : (c : ℕ) → cl F c ≤ c) (l r : Row) where
   left-class : (v : ℕ → Cell) → RowOK F v l → (c : ℕ) → c < w → cell x (cl F c) ≡ cell x c
   left-class v p c h = cell-left w l r (cl F c) (omega (arith, low c)) ∙ p .class c ∙ sym (cell-left w l r c h)
 
-  placed-row : (n : ℕ) (v : ℕ → Cell) → RowOK F v l → RowOK (placed F n) v x
+  pub placed-row : (n : ℕ) (v : ℕ → Cell) → RowOK F v l → RowOK (placed F n) v x
   placed-row n v p =
       record {
         const = λ c e. let t = tab-true (w + n) (λ d. ltb d w && isC F d) c e in cell-left w l r c (ltb-true c w (and-left (ltb c w) (isC F c) (t .1)))
@@ -180,7 +180,7 @@ module _ (on : List On) (F G : Facts) (low : (c : ℕ) → cl F c ≤ c) (u v : 
   joined-rows t k p out ps qs j = same-all row-discrete out (joined-sql on (F .width) (G .width) p out t k j) (sql-rows t (p .0) (p .1) ps qs)
 
 -- ---- the order of the kept side
-within-le : (w : ℕ) (ks : List Key) (x y r s : Row) → le ks x y ≡ true → le (within w ks) (joinRow w x r) (joinRow w y s) ≡ true
+pub within-le : (w : ℕ) (ks : List Key) (x y r s : Row) → le ks x y ≡ true → le (within w ks) (joinRow w x r) (joinRow w y s) ≡ true
 within-le w [] x y r s h = refl
 within-le w (k ∷ ks) x y r s h = go (ltb (k .col) w) refl (λ a. within-le w ks x y r s a)
   where

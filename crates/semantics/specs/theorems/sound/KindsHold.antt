@@ -97,7 +97,7 @@ module _ (F : Facts) (v : ℕ → Cell) (cols : List ℕ) where
           carries F v cols r p (lowest (q j) j) (getD cols j 0) (omega (arith, lowest-le (q j) j))
           (lowest-ok (q j) j (inr (eq-eqb (cl F (getD cols j 0)) (cl F (getD cols j 0)) refl))) ∙ sym (cell-proj cols r j lt)
 
-  proj-row : (r : Row) → RowOK F v r → RowOK (projFacts F cols) (λ j. v (getD cols j 0)) (proj cols r)
+  pub proj-row : (r : Row) → RowOK F v r → RowOK (projFacts F cols) (λ j. v (getD cols j 0)) (proj cols r)
   proj-row r p =
       record {
         const = λ j e. let t = tab-true (length cols) (λ k. isC F (getD cols k 0)) j e in cell-proj cols r j (t .0) ∙ p .const (getD cols j 0) (t .1);

@@ -11,9 +11,10 @@ use Rattle.row_order.specs.Lists.{concat, All, all-nil, all-cons, all-head, all
 use Rattle.row_order.specs.Sorting.{Sorted}
 use Rattle.row_order.specs.Packed.{bit}
 use Rattle.plan.specs.Forest.{Forest, roots}
-use Rattle.plan.specs.Op.{On, Op, source, filter, projection, union, repartition, coalesce, sortOp, mergeOp, globalLimit, localLimit, sortMergeJoin, hashJoin, outputRequirement, partialSort, Plan}
+use Rattle.plan.specs.Op.{On, Op, source, filter, projection, union, repartition, coalesce, sortOp, mergeOp, globalLimit, localLimit, sortMergeJoin, hashJoin, outputRequirement, partialSort, aggregate, Plan}
 use Rattle.plan.specs.declared.JoinType.{JoinType}
 use Rattle.plan.specs.declared.JoinType.the-variants.{Inner, Left, Right, Full, LeftSemi, LeftAnti, RightSemi, RightAnti}
+use Rattle.plan.specs.WellFormed.{columnsOf}
 use Rattle.semantics.specs.Facts.{Facts, cl, nf, ordered, nothing, sourceFacts, unionFacts, projFacts, keepsOrder, Kept, kLeft, kRight, kNone, smjKept, hashKept, byRight, joinBase, joinOrder, joinFacts, at0, at1, factsOp, facts}
 use Rattle.semantics.specs.Properties.{wanted, cuts}
 use Rattle.semantics.specs.Check.{wantsMet, check}
@@ -23,11 +24,13 @@ use Rattle.semantics.specs.Holds.{RowOK, Holds, AsMany, Wanted, nowhere,
 use Rattle.semantics.specs.Canonical.{Canon}
 use Rattle.semantics.specs.theorems.common.Bools.{and-left, and-right}
 use Rattle.semantics.specs.theorems.common.Lowest.{tab-same}
+use Rattle.semantics.specs.theorems.canonical.UnionsProjections.{proj-canon}
 use Rattle.semantics.specs.theorems.canonical.EveryNode.{nth-canon, canon}
 use Rattle.semantics.specs.theorems.check.CheckIsMet.{wants-met}
 use Rattle.semantics.specs.theorems.common.Streams.{sorted-nil, each-at, all-drop}
 use Rattle.semantics.specs.theorems.runs.RunStreams.{everywhere-map, each-root, run-streams}
 use Rattle.semantics.specs.theorems.sound.KindsHold.{nf-sorted, met-sorted, nf-one, union-holds, filter-holds, projection-holds, single-holds, repartition-holds, limit-sorted, sorting-holds, cut-holds}
+use Rattle.semantics.specs.theorems.sound.GroupsHold.{aggregate-holds}
 use Rattle.semantics.specs.theorems.sound.JoinsHold.{joinValue, joined-rows, KeptSorted, joined-sorted}
 
 -- ---- a child by its number
@@ -157,6 +160,8 @@ made-holds E i j (hashJoin t on) fs css out d cs ns hs wt e =
     (hash-kept (at0 fs) (at1 fs) (h .sorted) (k .sorted) (concat (in0 css)) t) e
 made-holds E i j (outputRequirement ks dist f) fs css out d cs ns hs wt e = subst (Holds (at0 fs)) (sym e) (child-holds hs 0)
 made-holds E i j (partialSort p ks n f) fs css out d cs ns hs wt e = sorting-holds (at0 fs) p ks (in0 css) out (child-holds hs 0) e
+made-holds E i j (aggregate ks n) fs css out d cs ns hs wt e =
+    aggregate-holds (at0 fs) ks n (proj-canon (at0 fs) (nth-canon fs cs 0) (columnsOf ks) .classes .low) (child-holds hs 0) e
 
 -- ---- every node
 pub good-roots : {f : Plan} {out : Forest Streams} → Good f out → Each Holds (facts f) (roots out)

@@ -6,9 +6,10 @@ use Prim.Native.Nat.{ℕ, zero, suc, _+_}
 use lib.Dec.{ltb}
 use lib.ListN.{getD}
 use Rattle.row_order.specs.Order.{no-bool}
-use Rattle.plan.specs.Op.{coalesce, filter, globalLimit, hashJoin, localLimit, mergeOp, On, Op, outputRequirement, partialSort, projection, repartition, sortMergeJoin, sortOp, source, union}
+use Rattle.plan.specs.Op.{coalesce, filter, globalLimit, hashJoin, localLimit, mergeOp, On, Op, outputRequirement, partialSort, aggregate, projection, repartition, sortMergeJoin, sortOp, source, union}
 use Rattle.plan.specs.declared.JoinType.{JoinType}
 use Rattle.plan.specs.declared.JoinType.the-variants.{Full, Inner, Left, LeftAnti, LeftSemi, Right, RightAnti, RightSemi}
+use Rattle.plan.specs.WellFormed.{columnsOf}
 use Rattle.semantics.specs.Facts.{at0, at1, beside, both, Facts, factsOp, joinBase, linkAll, linked, nothing, placed, projFacts, shifted, unionFacts, unknown}
 use Rattle.walks.specs.Terms.{blank, easing}
 
@@ -69,6 +70,7 @@ op-blank (sortMergeJoin t on) fs gs e = join-blank t on (at0 fs) (at1 fs) (at0 g
 op-blank (hashJoin t on) fs gs e = join-blank t on (at0 fs) (at1 fs) (at0 gs) (at1 gs) (blank-at fs gs 0 e) (blank-at fs gs 1 e)
 op-blank (outputRequirement ks d f) fs gs e = blank-at fs gs 0 e
 op-blank (partialSort p ks n f) fs gs e = blank-at fs gs 0 e
+op-blank (aggregate ks n) fs gs e = ap (λ (B : Facts). blank (placed (projFacts B (columnsOf ks)) n)) (blank-at fs gs 0 e)
 
 -- Kinds 5 to 10 have their child's
 pub ease-blank : (o : Op) (fs : List Facts) → easing o ≡ true → blank (factsOp o fs) ≡ blank (at0 fs)
@@ -86,3 +88,4 @@ ease-blank (sortMergeJoin t on) fs e = no-bool e
 ease-blank (hashJoin t on) fs e = no-bool e
 ease-blank (outputRequirement ks d f) fs e = refl
 ease-blank (partialSort p ks n f) fs e = refl
+ease-blank (aggregate ks n) fs e = no-bool e

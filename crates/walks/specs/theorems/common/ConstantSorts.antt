@@ -8,7 +8,7 @@ use Rattle.row_order.specs.Iso.{Key}
 use Rattle.row_order.specs.Order.{no-bool}
 use Rattle.row_order.specs.Lists.{all-head}
 use Rattle.plan.specs.Forest.{none, tree}
-use Rattle.plan.specs.Op.{coalesce, filter, globalLimit, hashJoin, localLimit, mergeOp, Op, outputRequirement, partialSort, projection, repartition, sortMergeJoin, sortOp, source, union}
+use Rattle.plan.specs.Op.{coalesce, filter, globalLimit, hashJoin, localLimit, mergeOp, Op, outputRequirement, partialSort, aggregate, projection, repartition, sortMergeJoin, sortOp, source, union}
 use Rattle.plan.specs.WellFormed.{member}
 use Rattle.plan.specs.declared.Fetch.{Fetch}
 use Rattle.semantics.specs.Facts.{cl, Facts, factsOp, isC, isNil, knownOrder, nf, withColumn}
@@ -47,6 +47,7 @@ constant-blank (sortMergeJoin t on) fs gs e = refl
 constant-blank (hashJoin t on) fs gs e = refl
 constant-blank (outputRequirement ks d f) fs gs e = refl
 constant-blank (partialSort p ks n f) fs gs e = refl
+constant-blank (aggregate ks n) fs gs e = refl
 
 pub alive-blank : (F G : Facts) (o : Op) → blank F ≡ blank G → Alive F o → Alive G o
 alive-blank F G o e h = constant-blank o (G ∷ []) (F ∷ []) (ap (λ (B : Facts). B ∷ []) (sym e)) ∙ h

@@ -11,7 +11,7 @@ use Rattle.row_order.specs.Iso.{Key}
 use Rattle.row_order.specs.Order.{no-bool}
 use Rattle.row_order.specs.Lists.{All, all-cons, all-nil}
 use Rattle.plan.specs.Forest.{Forest, none, tree}
-use Rattle.plan.specs.Op.{coalesce, filter, globalLimit, hashJoin, localLimit, mergeOp, Op, outputRequirement, partialSort, Plan, projection, repartition, sortMergeJoin, sortOp, source, union}
+use Rattle.plan.specs.Op.{coalesce, filter, globalLimit, hashJoin, localLimit, mergeOp, Op, outputRequirement, partialSort, aggregate, Plan, projection, repartition, sortMergeJoin, sortOp, source, union}
 use Rattle.plan.specs.Numbers.{code}
 use Rattle.plan.specs.WellFormed.{fetchOk, nodeOk}
 use Rattle.plan.specs.declared.Fetch.{Fetch}
@@ -161,6 +161,7 @@ remark-like g (sortMergeJoin t on) = like-refl (sortMergeJoin t on)
 remark-like g (hashJoin t on) = like-refl (hashJoin t on)
 remark-like g (outputRequirement ks d f) = like-refl (outputRequirement ks d f)
 remark-like g (partialSort p ks n f) = like-refl (partialSort p ks n f)
+remark-like g (aggregate ks n) = like-refl (aggregate ks n)
 
 -- What does not see a repartition's mark does not see it change
 pub remark-same : {A : Type 0} (v : Op → A) (g : Bool → Bool)
@@ -179,6 +180,7 @@ remark-same v g e (sortMergeJoin t on) = refl
 remark-same v g e (hashJoin t on) = refl
 remark-same v g e (outputRequirement ks d f) = refl
 remark-same v g e (partialSort p ks n f) = refl
+remark-same v g e (aggregate ks n) = refl
 
 -- Over children that are handed something: b′ and h′ say when that cuts nothing off, and fits
 pub kept-under : {a b h : Bool} (b′ h′ : Bool) (o p : Op) (x y : Bool) (c d : Forest Marked) → Like o p → (clearOp o ≡ true → b′ ≡ true)
@@ -240,6 +242,7 @@ ease-one (sortMergeJoin t on) e = no-bool e
 ease-one (hashJoin t on) e = no-bool e
 ease-one (outputRequirement ks d f) e = refl
 ease-one (partialSort p ks n f) e = refl
+ease-one (aggregate ks n) e = refl
 
 pub pass-one : (o : Op) → passing o ≡ true → arity o ≡ oneKid
 pass-one o e = ease-one o (pass-ease o e)
@@ -332,6 +335,7 @@ shape-ind P s m r c q (sortMergeJoin t on) = q (sortMergeJoin t on) refl
 shape-ind P s m r c q (hashJoin t on) = q (hashJoin t on) refl
 shape-ind P s m r c q (outputRequirement ks d f) = q (outputRequirement ks d f) refl
 shape-ind P s m r c q (partialSort p ks n f) = q (partialSort p ks n f) refl
+shape-ind P s m r c q (aggregate ks n) = q (aggregate ks n) refl
 
 -- ---- fetches of a plan that cuts nothing off
 pub op-fetch : (o : Op) → clearOp o ≡ true → isAll (cuts o .fetch) ≡ true

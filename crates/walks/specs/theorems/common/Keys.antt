@@ -128,7 +128,7 @@ module _ (F : Facts) where
   fresh-keys w ks f = fresh-fits w ks (f .short) (f .inside)
 
 -- ---- later repeats dropped, and nothing is constant
-repeats-fresh : (seen : List ℕ) (ks : List Key) → freshKeys nothing seen ks ≡ dropRepeats seen ks
+pub repeats-fresh : (seen : List ℕ) (ks : List Key) → freshKeys nothing seen ks ≡ dropRepeats seen ks
 repeats-fresh seen [] = refl
 repeats-fresh seen (k ∷ ks) = ap₂ (λ (l m : List Key). cond (member (k .col) seen) l (k ∷ m)) (repeats-fresh seen ks) (repeats-fresh (k .col ∷ seen) ks)
 

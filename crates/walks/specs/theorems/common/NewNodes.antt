@@ -11,9 +11,9 @@ use Rattle.row_order.specs.Iso.{Key}
 use Rattle.row_order.specs.Order.{no-bool}
 use Rattle.row_order.specs.Lists.{All, all-cons, all-head, all-nil}
 use Rattle.plan.specs.Forest.{none, tree}
-use Rattle.plan.specs.Op.{coalesce, filter, globalLimit, hashJoin, localLimit, mergeOp, On, Op, outputRequirement, partialSort, Plan, projection, repartition, sortMergeJoin, sortOp, source, union}
+use Rattle.plan.specs.Op.{coalesce, filter, globalLimit, hashJoin, localLimit, mergeOp, On, Op, outputRequirement, partialSort, aggregate, Plan, projection, repartition, sortMergeJoin, sortOp, source, union}
 use Rattle.plan.specs.Numbers.{code}
-use Rattle.plan.specs.WellFormed.{columnsFit, columnsOk, distinct, distributionFits, fetchOk, few, fieldsOk, keysFit, member, nodeOk, onFit, some}
+use Rattle.plan.specs.WellFormed.{columnsFit, columnsOk, distinct, distributionFits, fetchOk, few, fieldsOk, keysFit, member, nodeOk, onFit, some, columnsOf}
 use Rattle.plan.specs.declared.Fetch.{Fetch}
 use Rattle.plan.specs.declared.Fetch.the-variants.{AtMost, Unlimited}
 use Rattle.plan.specs.declared.JoinType.{JoinType}
@@ -124,6 +124,7 @@ op-short (hashJoin t on) fs e hs = nf-short (joinBase t on (at0 fs) (at1 fs)) (j
     (join-length t (hashKept t) (at0 fs) (at1 fs) (all-nth nothing none-short hs 0) (all-nth nothing none-short hs 1))
 op-short (outputRequirement ks d f) fs e hs = all-nth nothing none-short hs 0
 op-short (partialSort p ks n f) fs e hs = nf-short (at0 fs) ks (some-short ks (search (and-left, and-right)))
+op-short (aggregate ks n) fs e hs = omega (arith, proj-length (at0 fs) (columnsOf ks) (at0 fs .order), all-nth nothing none-short hs 0)
 
 shorts : (f : Plan) → Ok f → All Short (facts f)
 shorts none h = all-nil
@@ -160,6 +161,7 @@ op-fetch-ok (sortMergeJoin t on) e = refl
 op-fetch-ok (hashJoin t on) e = refl
 op-fetch-ok (outputRequirement ks d f) e = search (and-left, and-right)
 op-fetch-ok (partialSort p ks n f) e = search (and-left, and-right)
+op-fetch-ok (aggregate ks n) e = refl
 
 pub node-fetch : (o : Op) (ws : List ℕ) → nodeOk o ws ≡ true → fetchOk (cuts o .fetch) ≡ true
 node-fetch o ws e = op-fetch-ok o (search (and-left, and-right))
@@ -232,6 +234,7 @@ over-of (sortMergeJoin t on) ws e h = no-bool e
 over-of (hashJoin t on) ws e h = no-bool e
 over-of (outputRequirement ks d f) ws e h = no-bool e
 over-of (partialSort p ks n f) ws e h = no-bool e
+over-of (aggregate ks n) ws e h = no-bool e
 
 -- ---- what a node wants of a child fits that child
 on-keys : (w v : ℕ) (on : List On) → some on ≡ true → onFit w v on ≡ true → KeysFit w (map (λ k. k .key) on) × KeysFit v (map rightKey on)
@@ -329,3 +332,4 @@ wanted-fits (outputRequirement ks d f) fs e =
     (and-left (keysFit (getD (map (λ F. F .width) fs) 0 0) ks) (distributionFits (getD (map (λ F. F .width) fs) 0 0) d) c))
 wanted-fits (partialSort p ks n f) fs e = only-first (wanted (partialSort p ks n f)) fs (one-child fs (search (and-left, and-right)))
     (take-keys n (at0 fs .width) ks (sort-keys ks fs (some-short ks (search (and-left, and-right))) (search (and-left, and-right))))
+wanted-fits (aggregate ks n) fs e = nothing-wanted fs

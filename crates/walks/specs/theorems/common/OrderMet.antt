@@ -10,16 +10,17 @@ use lib.Dec.{eqb}
 use lib.ListN.{length, getD, take}
 use Rattle.row_order.specs.Iso.{Key}
 use Rattle.row_order.specs.Order.{no-bool}
-use Rattle.plan.specs.Op.{coalesce, filter, globalLimit, hashJoin, localLimit, mergeOp, On, Op, outputRequirement, partialSort, projection, repartition, sortMergeJoin, sortOp, source, union}
+use Rattle.plan.specs.Op.{coalesce, filter, globalLimit, hashJoin, localLimit, mergeOp, On, Op, outputRequirement, partialSort, aggregate, projection, repartition, sortMergeJoin, sortOp, source, union}
 use Rattle.plan.specs.WellFormed.{member}
-use Rattle.semantics.specs.Facts.{cl, Facts, isC, isNil, met, nf, nothing, prefixb, withColumn}
+use Rattle.semantics.specs.Facts.{cl, dropRepeats, Facts, isC, isNil, met, nf, nothing, prefixb, withColumn}
 use Rattle.semantics.specs.Properties.{freshKeys, joinKeys, remark, rightKey, wanted, wantedOrders}
 use Rattle.semantics.specs.Check.{ordersMet, wantsMet}
 use Rattle.semantics.specs.Canonical.{Canon}
-use Rattle.semantics.specs.theorems.common.Bools.{or-cases, or-false, or-right}
+use Rattle.semantics.specs.theorems.common.Bools.{or-cases, or-right}
 use Rattle.semantics.specs.theorems.orders.NormalForms.{nf-idem, normal-nf}
 use Rattle.walks.specs.theorems.common.Trees.{arity, FitsA}
 use Rattle.walks.specs.theorems.common.Keeps.{remark-same}
+use Rattle.walks.specs.theorems.common.Keys.{repeats-fresh}
 
 -- ---- lists of keys
 pub prefix-refl : (p : List Key) → prefixb p p ≡ true
@@ -46,60 +47,67 @@ pub prefix-some : (l q : List Key) → prefixb l q ≡ false → isNil l ≡ fal
 prefix-some [] q e = e
 prefix-some (k ∷ l) q e = refl
 
--- constants and later repeats drop out of a normal form
-module _ (F : Facts) (hF : Canon F) where
-  abbrev Seen : List ℕ → List ℕ → Type 0
-  Seen raw low = (c : ℕ) → member c raw ≡ true → member (cl F c) low ≡ true
+-- constants and later repeats drop out of a normal form; E: facts that know no constants but those of F
+module _ (F : Facts) (hF : Canon F) (E : Facts) (fewer : (c : ℕ) → isC E c ≡ true → isC F c ≡ true) where
+  -- a normal form drops what stands in raw, behind the columns low
+  abbrev Dropped : List ℕ → List ℕ → Type 0
+  Dropped raw low = (c : ℕ) → member c raw ≡ true → (isC F (cl F c) || member (cl F c) low) ≡ true
 
-  seen-more : (d : ℕ) (raw low : List ℕ) → Seen raw low → member (cl F d) low ≡ true → Seen (d ∷ raw) low
-  seen-more d raw low h e c m = go (or-cases (eqb c d) (member c raw) m)
+  dropped-more : (d : ℕ) (raw low : List ℕ) → Dropped raw low → (isC F (cl F d) || member (cl F d) low) ≡ true → Dropped (d ∷ raw) low
+  dropped-more d raw low h e c m = go (or-cases (eqb c d) (member c raw) m)
     where
-      go : (eqb c d ≡ true) ⊎ (member c raw ≡ true) → member (cl F c) low ≡ true
-      go (inl q) = ap (λ (x : ℕ). member (cl F x) low) (eqb-true c d q) ∙ e
+      go : (eqb c d ≡ true) ⊎ (member c raw ≡ true) → (isC F (cl F c) || member (cl F c) low) ≡ true
+      go (inl q) = ap (λ (x : ℕ). isC F (cl F x) || member (cl F x) low) (eqb-true c d q) ∙ e
       go (inr q) = h c q
 
-  pub fresh-nf : (raw low : List ℕ) (ks : List Key) → Seen raw low → nf F low (freshKeys F raw ks) ≡ nf F low ks
+  dropped-wider : (a : ℕ) (raw low : List ℕ) → Dropped raw low → Dropped raw (a ∷ low)
+  dropped-wider a raw low h c m = wider (isC F (cl F c)) (eqb (cl F c) a) (member (cl F c) low) (h c m)
+    where
+      wider : (x y z : Bool) → x || z ≡ true → x || (y || z) ≡ true
+      wider true y z e = refl
+      wider false y z e = or-right y z e
+
+  fresh-nf : (raw low : List ℕ) (ks : List Key) → Dropped raw low → nf F low (freshKeys E raw ks) ≡ nf F low ks
   fresh-nf raw low [] h = refl
   fresh-nf raw low (k ∷ ks) h =
-      go (isC F (k .col) || member (k .col) raw) refl (isC F c || member c low) refl (fresh-nf raw low ks h) (λ g. fresh-nf (k .col ∷ raw) low ks g)
-      (λ g. fresh-nf (k .col ∷ raw) (c ∷ low) ks g)
+      go (isC E (k .col) || member (k .col) raw) refl (isC F a || member a low) refl (fresh-nf raw low ks h) (λ g. fresh-nf (k .col ∷ raw) low ks g)
+      (λ g. fresh-nf (k .col ∷ raw) (a ∷ low) ks g)
     where
-      c : ℕ
-      c = cl F (k .col)
+      a : ℕ
+      a = cl F (k .col)
 
       k′ : Key
-      k′ = withColumn c k
+      k′ = withColumn a k
 
-      drops : (isC F (k .col) || member (k .col) raw) ≡ true → (isC F c || member c low) ≡ true
-      drops e = cases (or-cases (isC F (k .col)) (member (k .col) raw) e)
+      later : List Key
+      later = freshKeys E (k .col ∷ raw) ks
+
+      drops : (isC E (k .col) || member (k .col) raw) ≡ true → (isC F a || member a low) ≡ true
+      drops e = cases (or-cases (isC E (k .col)) (member (k .col) raw) e)
         where
-          cases : (isC F (k .col) ≡ true) ⊎ (member (k .col) raw ≡ true) → (isC F c || member c low) ≡ true
-          cases (inl q) = ap (λ (x : Bool). x || member c low) (hF .classes .const (k .col) ∙ q)
-          cases (inr q) = or-right (isC F c) (member c low) (h (k .col) q)
+          cases : (isC E (k .col) ≡ true) ⊎ (member (k .col) raw ≡ true) → (isC F a || member a low) ≡ true
+          cases (inl q) = ap (λ (x : Bool). x || member a low) (hF .classes .const (k .col) ∙ fewer (k .col) q)
+          cases (inr q) = h (k .col) q
 
-      go : (a : Bool) → (isC F (k .col) || member (k .col) raw) ≡ a → (b : Bool) → (isC F c || member c low) ≡ b →
-          nf F low (freshKeys F raw ks) ≡ nf F low ks →
-          (Seen (k .col ∷ raw) low → nf F low (freshKeys F (k .col ∷ raw) ks) ≡ nf F low ks) →
-          (Seen (k .col ∷ raw) (c ∷ low) → nf F (c ∷ low) (freshKeys F (k .col ∷ raw) ks) ≡ nf F (c ∷ low) ks) →
-          nf F low (cond a (freshKeys F raw ks) (k ∷ freshKeys F (k .col ∷ raw) ks)) ≡ cond b (nf F low ks) (k′ ∷ nf F (c ∷ low) ks)
+      go : (x : Bool) → (isC E (k .col) || member (k .col) raw) ≡ x → (y : Bool) → (isC F a || member a low) ≡ y →
+          nf F low (freshKeys E raw ks) ≡ nf F low ks →
+          (Dropped (k .col ∷ raw) low → nf F low later ≡ nf F low ks) →
+          (Dropped (k .col ∷ raw) (a ∷ low) → nf F (a ∷ low) later ≡ nf F (a ∷ low) ks) →
+          nf F low (cond x (freshKeys E raw ks) (k ∷ later)) ≡ cond y (nf F low ks) (k′ ∷ nf F (a ∷ low) ks)
       go true e true q ih _ _ = ih
       go true e false q ih _ _ = no-bool (sym q ∙ drops e)
-      go false e true q _ ih _ =
-          ap (λ (x : Bool). cond x (nf F low (freshKeys F (k .col ∷ raw) ks)) (k′ ∷ nf F (c ∷ low) (freshKeys F (k .col ∷ raw) ks))) q
-          ∙ ih (seen-more (k .col) raw low h
-          (in-low (isC F c) (member c low) q (hF .classes .const (k .col) ∙ or-false (isC F (k .col)) (member (k .col) raw) e .0)))
-        where
-          in-low : (x y : Bool) → x || y ≡ true → x ≡ false → y ≡ true
-          in-low true y p r = no-bool (sym r)
-          in-low false y p r = p
+      go false e true q _ ih _ = ap (λ (x : Bool). cond x (nf F low later) (k′ ∷ nf F (a ∷ low) later)) q ∙ ih (dropped-more (k .col) raw low h q)
       go false e false q _ _ ih =
-          ap (λ (x : Bool). cond x (nf F low (freshKeys F (k .col ∷ raw) ks)) (k′ ∷ nf F (c ∷ low) (freshKeys F (k .col ∷ raw) ks))) q
+          ap (λ (x : Bool). cond x (nf F low later) (k′ ∷ nf F (a ∷ low) later)) q
           ∙ ap (λ (l : List Key). k′ ∷ l)
-          (ih (seen-more (k .col) raw (c ∷ low) (λ x m. or-right (eqb (cl F x) c) (member (cl F x) low) (h x m))
-          (ap (λ (x : Bool). x || member c low) (eq-eqb c c refl))))
+          (ih (dropped-more (k .col) raw (a ∷ low) (dropped-wider a raw low h)
+          (or-right (isC F a) (eqb a a || member a low) (ap (λ (x : Bool). x || member a low) (eq-eqb a a refl)))))
 
 pub fresh-same : (F : Facts) → Canon F → (ks : List Key) → nf F [] (freshKeys F [] ks) ≡ nf F [] ks
-fresh-same F h ks = fresh-nf F h [] [] ks (λ c e. no-bool e)
+fresh-same F h ks = fresh-nf F h F (λ c e. e) [] [] ks (λ c e. no-bool e)
+
+pub repeats-same : (F : Facts) → Canon F → (ks : List Key) → nf F [] (dropRepeats [] ks) ≡ nf F [] ks
+repeats-same F h ks = ap (nf F []) (sym (repeats-fresh [] ks)) ∙ fresh-nf F h nothing (λ c e. no-bool e) [] [] ks (λ c e. no-bool e)
 
 pub fresh-some : (F : Facts) → Canon F → (ks : List Key) → isNil (nf F [] ks) ≡ false → isNil (freshKeys F [] ks) ≡ false
 fresh-some F h ks e = go (freshKeys F [] ks) (fresh-same F h ks)
@@ -132,6 +140,7 @@ no-orders-met (sortMergeJoin t on) fs e = no-pairs-met on (λ i. getD fs i nothi
 no-orders-met (hashJoin t on) fs e = refl
 no-orders-met (outputRequirement ks d f) fs e = nil-met (getD fs 0 nothing) ks e
 no-orders-met (partialSort p ks n f) fs e = nil-met (getD fs 0 nothing) (take n ks) e
+no-orders-met (aggregate ks n) fs e = refl
 
 -- of the number of its children that a node can have, what is wanted of some child is nothing only if nothing is wanted of the first
 keys-nil : (on : List On) → isNil (map rightKey on) ≡ true → isNil (map (λ k. k .key) on) ≡ true
@@ -158,6 +167,7 @@ nil-zero (outputRequirement ks d g) n zero f l e = e
 nil-zero (outputRequirement ks d g) n (suc i) f l e = absurd (omega arith)
 nil-zero (partialSort p ks m g) n zero f l e = e
 nil-zero (partialSort p ks m g) n (suc i) f l e = absurd (omega arith)
+nil-zero (aggregate ks m) n i f l e = refl
 
 abbrev pub Granted : Op → List Facts → Type 0
 Granted o fs = (i : ℕ) → i < length fs → met (getD fs i nothing) (wanted o i) ≡ true
@@ -177,6 +187,7 @@ wants-in (sortMergeJoin t on) fs f h = ap₂ _&&_ (h 0 (omega arith)) (ap₂ _&&
 wants-in (hashJoin t on) fs f h = refl
 wants-in (outputRequirement ks dist most) fs f h = ap₂ _&&_ (h 0 (omega arith)) refl
 wants-in (partialSort p ks n g) fs f h = ap₂ _&&_ (h 0 (omega arith)) refl
+wants-in (aggregate ks n) fs f h = refl
 
 pub wants-remark : (g : Bool → Bool) (o : Op) (fs : List Facts) → wantsMet (remark g o) fs ≡ wantsMet o fs
 wants-remark g o fs = ap (λ (l : List (List Key)). ordersMet l (λ i. getD fs i nothing)) (remark-same wantedOrders g (λ p q n h ks. refl) o)

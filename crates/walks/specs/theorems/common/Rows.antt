@@ -11,7 +11,7 @@ use lib.ListN.{getD}
 use Rattle.row_order.specs.Iso.{Row}
 use Rattle.row_order.specs.Order.{no-bool}
 use Rattle.plan.specs.Forest.{Forest, none, roots, tree}
-use Rattle.plan.specs.Op.{coalesce, filter, globalLimit, hashJoin, localLimit, mergeOp, Op, outputRequirement, partialSort, Plan, projection, repartition, sortMergeJoin, sortOp, source, union}
+use Rattle.plan.specs.Op.{coalesce, filter, globalLimit, hashJoin, localLimit, mergeOp, Op, outputRequirement, partialSort, aggregate, Plan, projection, repartition, sortMergeJoin, sortOp, source, union}
 use Rattle.plan.specs.Numbers.{code}
 use Rattle.semantics.specs.Facts.{facts}
 use Rattle.semantics.specs.Runs.{Each, Env, nextF, nextS, past, Run, SameInputs, Streams}
@@ -61,6 +61,7 @@ eased-bag E i j (sortMergeJoin t on) bs e = no-bool e
 eased-bag E i j (hashJoin t on) bs e = no-bool e
 eased-bag E i j (outputRequirement ks d f) bs e = no-bool e
 eased-bag E i j (partialSort p ks n f) bs e = no-bool e
+eased-bag E i j (aggregate ks n) bs e = no-bool e
 
 -- ---- numbers of sources and filters
 pub skeleton-past : (n : Op → ℕ → ℕ) → ((o : Op) (i : ℕ) → easing o ≡ true → n o i ≡ i) → (f : Plan) (i : ℕ) → past n (prune easing f) i ≡ past n f i

@@ -7,7 +7,7 @@ use Prim.Native.Nat.{ℕ, suc, _+_, _≤_}
 use borrow.Author.Tests.{eqb-true, leb-true}
 use lib.ListN.{length}
 use Rattle.plan.specs.Forest.{Forest, none, roots, size, tree}
-use Rattle.plan.specs.Op.{coalesce, filter, globalLimit, hashJoin, localLimit, mergeOp, Op, outputRequirement, partialSort, Plan, projection, repartition, sortMergeJoin, sortOp, source, union}
+use Rattle.plan.specs.Op.{coalesce, filter, globalLimit, hashJoin, localLimit, mergeOp, Op, outputRequirement, partialSort, aggregate, Plan, projection, repartition, sortMergeJoin, sortOp, source, union}
 use Rattle.plan.specs.WellFormed.{between, childrenOk, nodeOk, nodesOk}
 use Rattle.semantics.specs.Facts.{facts}
 use Rattle.semantics.specs.Properties.{isLimit}
@@ -38,6 +38,7 @@ arity (sortMergeJoin t on) = twoKids
 arity (hashJoin t on) = twoKids
 arity (outputRequirement ks d f) = oneKid
 arity (partialSort p ks n f) = oneKid
+arity (aggregate ks n) = oneKid
 
 abbrev pub FitsA : Arity → ℕ → Type 0
 FitsA noKid n = n ≡ 0
@@ -118,6 +119,7 @@ children-fit (sortMergeJoin t on) n e = eqb-true n 2 e
 children-fit (hashJoin t on) n e = eqb-true n 2 e
 children-fit (outputRequirement ks d f) n e = eqb-true n 1 e
 children-fit (partialSort p ks m f) n e = eqb-true n 1 e
+children-fit (aggregate ks m) n e = eqb-true n 1 e
 
 pub facts-count : (f : Plan) → length (facts f) ≡ count f
 facts-count none = refl

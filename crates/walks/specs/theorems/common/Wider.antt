@@ -13,13 +13,13 @@ use Rattle.row_order.specs.Iso.{Key}
 use Rattle.row_order.specs.Order.{no-bool}
 use Rattle.row_order.specs.Lists.{All, all-cons}
 use Rattle.plan.specs.Forest.{none}
-use Rattle.plan.specs.Op.{coalesce, filter, globalLimit, hashJoin, localLimit, mergeOp, On, Op, outputRequirement, partialSort, projection, repartition, sortMergeJoin, sortOp, source, union}
+use Rattle.plan.specs.Op.{coalesce, filter, globalLimit, hashJoin, localLimit, mergeOp, On, Op, outputRequirement, partialSort, aggregate, projection, repartition, sortMergeJoin, sortOp, source, union}
 use Rattle.plan.specs.Numbers.{code}
-use Rattle.plan.specs.WellFormed.{member}
+use Rattle.plan.specs.WellFormed.{member, columnsOf}
 use Rattle.plan.specs.declared.Fetch.{Fetch}
 use Rattle.plan.specs.declared.JoinType.{JoinType}
 use Rattle.plan.specs.declared.JoinType.the-variants.{Full, Inner, Left, LeftAnti, LeftSemi, Right, RightAnti, RightSemi}
-use Rattle.semantics.specs.Facts.{at0, at1, both, byRight, carried, cl, common, counts, eqKey, Facts, factsOp, hashKept, isC, isNil, joinBase, joinFacts, joinOrder, keepsOrder, Kept, kLeft, kNone, kRight, leftOrder, met, moved, nf, nfBy, nothing, ordered, prefixb, projFacts, projOrder, rightOrder, smjKept, sortStreams, unionFacts, withColumn, within}
+use Rattle.semantics.specs.Facts.{at0, at1, both, byRight, carried, cl, common, counts, eqKey, Facts, factsOp, hashKept, isC, isNil, joinBase, joinFacts, joinOrder, keepsOrder, Kept, kLeft, kNone, kRight, leftOrder, met, moved, nf, nfBy, nothing, ordered, placed, prefixb, projFacts, projOrder, rightOrder, smjKept, sortStreams, unionFacts, withColumn, within}
 use Rattle.semantics.specs.Properties.{wantedOrders}
 use Rattle.semantics.specs.Check.{ordersMet, wantsMet}
 use Rattle.semantics.specs.Runs.{Each, each-cons, each-nil}
@@ -148,6 +148,10 @@ module _ (F G : Facts) (w : Wider F G) where
       none-projected : (F .order ≡ []) ⊎ (G .streams ≡ 1) → (projOrder F cols (F .order) ≡ []) ⊎ (G .streams ≡ 1)
       none-projected (inl e) = inl (ap (projOrder F cols) e)
       none-projected (inr e) = inr e
+
+-- an aggregate's columns behind its group columns
+placed-wider : (n : ℕ) (F G : Facts) → Wider F G → Wider (placed F n) (placed G n)
+placed-wider n F G w = record { base = ap (λ (B : Facts). blank (placed B n)) (w .base); order = w .order; alone = w .alone; several = w .several }
 
 -- ---- unions: children have a stream at least
 abbrev pub Some : Facts → Type 0
@@ -328,6 +332,7 @@ module _ {fs gs : List Facts} (ws : Each Wider fs gs) (hs : All Some fs) (ks : A
   op-wider (hashJoin t on) h = hash-join t on
   op-wider (outputRequirement l d f) h = w0
   op-wider (partialSort p l n f) h = no-bool (sym (h .1))
+  op-wider (aggregate l n) h = placed-wider n (projFacts (at0 fs) (columnsOf l)) (projFacts (at0 gs) (columnsOf l)) (projected (at0 fs) (at0 gs) w0 (columnsOf l))
 
 -- ---- wanted orders stay met
 orders-wider : (l : List (List Key)) (F G : ℕ → Facts) → ((i : ℕ) → Wider (F i) (G i)) → ordersMet l F ≡ true → ordersMet l G ≡ true

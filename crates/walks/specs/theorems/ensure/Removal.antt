@@ -12,7 +12,7 @@ use lib.ListN.{length}
 use Rattle.row_order.specs.Iso.{Key}
 use Rattle.row_order.specs.Order.{no-bool}
 use Rattle.plan.specs.Forest.{Forest, none, roots, tree}
-use Rattle.plan.specs.Op.{coalesce, filter, globalLimit, hashJoin, localLimit, mergeOp, Op, outputRequirement, partialSort, projection, repartition, sortMergeJoin, sortOp, source, union}
+use Rattle.plan.specs.Op.{coalesce, filter, globalLimit, hashJoin, localLimit, mergeOp, Op, outputRequirement, partialSort, aggregate, projection, repartition, sortMergeJoin, sortOp, source, union}
 use Rattle.plan.specs.Numbers.{code}
 use Rattle.plan.specs.declared.Fetch.{Fetch}
 use Rattle.plan.specs.declared.Fetch.the-variants.{AtMost, Unlimited}
@@ -190,6 +190,7 @@ other-code = shape-ind (λ o. isOther (shape o) ≡ true → (eqb (code o) 7 ≡
     last (hashJoin t on) e h = (refl, refl)
     last (outputRequirement ks dist most) e h = (refl, refl)
     last (partialSort p ks n f) e h = (refl, refl)
+    last (aggregate ks n) e h = (refl, refl)
 
 -- a node that wants nothing, over any children
 free-good : (b : Bool) (o : Op) (x : Bool) (d : Forest Marked) → isNil (wanted o 0) ≡ true → Checked d

@@ -5,7 +5,7 @@ use mathlib.Core.Bool.{Bool, true, false, cond}
 use Prim.Native.Nat.{ℕ}
 use Rattle.row_order.specs.Order.{no-bool}
 use Rattle.plan.specs.Forest.{Forest, none, tree}
-use Rattle.plan.specs.Op.{coalesce, filter, globalLimit, hashJoin, localLimit, mergeOp, Op, outputRequirement, partialSort, Plan, projection, repartition, sortMergeJoin, sortOp, source, union}
+use Rattle.plan.specs.Op.{coalesce, filter, globalLimit, hashJoin, localLimit, mergeOp, Op, outputRequirement, partialSort, aggregate, Plan, projection, repartition, sortMergeJoin, sortOp, source, union}
 use Rattle.semantics.specs.Runs.{Env, nextS, past, Run, SourceOK, Sources, Streams}
 use Rattle.semantics.specs.Holds.{Good}
 use Rattle.semantics.specs.theorems.sound.Sound.{sound}
@@ -31,6 +31,7 @@ ease-source E i (sortMergeJoin t on) e = tt
 ease-source E i (hashJoin t on) e = tt
 ease-source E i (outputRequirement ks dist most) e = tt
 ease-source E i (partialSort p ks n f) e = tt
+ease-source E i (aggregate ks n) e = tt
 
 sources-join : (E : Env) (i : ℕ) (a b : Plan) → Sources E i a → Sources E (past nextS a i) b → Sources E i (a ⊕ b)
 sources-join E i none b h k = k

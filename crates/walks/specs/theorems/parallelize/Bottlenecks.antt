@@ -11,7 +11,7 @@ use Rattle.row_order.specs.Iso.{Key}
 use Rattle.row_order.specs.Order.{no-bool}
 use Rattle.row_order.specs.Lists.{All}
 use Rattle.plan.specs.Forest.{Forest, none, tree}
-use Rattle.plan.specs.Op.{coalesce, filter, globalLimit, hashJoin, localLimit, mergeOp, Op, outputRequirement, partialSort, projection, repartition, sortMergeJoin, sortOp, source, union}
+use Rattle.plan.specs.Op.{coalesce, filter, globalLimit, hashJoin, localLimit, mergeOp, Op, outputRequirement, partialSort, aggregate, projection, repartition, sortMergeJoin, sortOp, source, union}
 use Rattle.plan.specs.Numbers.{code}
 use Rattle.semantics.specs.Facts.{at0, Facts, factsOp, isNil, keepsOrder, ordered}
 use Rattle.semantics.specs.Properties.{rebuilt, singles}
@@ -75,6 +75,7 @@ rebuilt-facts (sortMergeJoin t on) fs = refl
 rebuilt-facts (hashJoin t on) fs = refl
 rebuilt-facts (outputRequirement ks d f) fs = refl
 rebuilt-facts (partialSort p ks n f) fs = refl
+rebuilt-facts (aggregate ks n) fs = refl
 
 -- and what is rebuilt stays
 pub rebuilt-twice : (o : Op) (fs : List Facts) → rebuilt (rebuilt o fs) fs ≡ rebuilt o fs
@@ -97,6 +98,7 @@ rebuilt-twice (sortMergeJoin t on) fs = refl
 rebuilt-twice (hashJoin t on) fs = refl
 rebuilt-twice (outputRequirement ks d f) fs = refl
 rebuilt-twice (partialSort p ks n f) fs = refl
+rebuilt-twice (aggregate ks n) fs = refl
 
 -- ---- a subplan opened
 pub record Widened (c d : Forest Marked) : Type 0 where
@@ -135,6 +137,7 @@ coalesce-facts (sortMergeJoin t on) fs e = no-bool e
 coalesce-facts (hashJoin t on) fs e = no-bool e
 coalesce-facts (outputRequirement ks d f) fs e = no-bool e
 coalesce-facts (partialSort p ks n f) fs e = no-bool e
+coalesce-facts (aggregate ks n) fs e = no-bool e
 
 lift-opens : (o : Op) (c : Forest Marked) → firstIs bottleneck c ≡ true → Fit (strip c) → check (strip c) ≡ true → Widened c (liftFirst o c)
 lift-opens o none b f e = record { wider = each-nil; passes = refl }

@@ -10,7 +10,7 @@ use lib.ListN.{length}
 use Rattle.row_order.specs.Iso.{Key}
 use Rattle.row_order.specs.Order.{no-bool}
 use Rattle.plan.specs.Forest.{Forest, none, roots, tree}
-use Rattle.plan.specs.Op.{coalesce, filter, globalLimit, hashJoin, localLimit, mergeOp, Op, outputRequirement, partialSort, Plan, projection, repartition, sortMergeJoin, sortOp, source, union}
+use Rattle.plan.specs.Op.{coalesce, filter, globalLimit, hashJoin, localLimit, mergeOp, Op, outputRequirement, partialSort, aggregate, Plan, projection, repartition, sortMergeJoin, sortOp, source, union}
 use Rattle.plan.specs.Numbers.{code}
 use Rattle.plan.specs.WellFormed.{fetchOk, keysFit, nodeOk}
 use Rattle.plan.specs.declared.Fetch.{Fetch}
@@ -54,6 +54,7 @@ part-pass o p e = go (partitioning (shape o)) p e
     go a (hashJoin t on) e = no-bool (sym (no a) ∙ e)
     go a (outputRequirement ks d f) e = no-bool (sym (no a) ∙ e)
     go a (partialSort p ks n f) e = no-bool (sym (no a) ∙ e)
+    go a (aggregate ks n) e = no-bool (sym (no a) ∙ e)
 
 pub skip-kept : {b h : Bool} (o p : Op) (x : Bool) (c : Forest Marked) → passing p ≡ true → FitsA (arity p) (count (strip c)) → Fit (strip c)
     → Keeps false b h (node p x c) (skipSame o (node p x c) c)

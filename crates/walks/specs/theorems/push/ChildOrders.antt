@@ -10,8 +10,8 @@ use lib.ListN.{length, getD}
 use Rattle.row_order.specs.Iso.{Key}
 use Rattle.row_order.specs.Order.{no-bool}
 use Rattle.row_order.specs.Lists.{All, all-cons, all-map, all-nil, all-over, all-zip}
-use Rattle.plan.specs.Op.{coalesce, filter, globalLimit, hashJoin, localLimit, mergeOp, Op, outputRequirement, partialSort, projection, repartition, sortMergeJoin, sortOp, source, union}
-use Rattle.plan.specs.WellFormed.{below, distinct, every, joinWidth, member, nodeOk, someFetch, unionOk}
+use Rattle.plan.specs.Op.{coalesce, filter, globalLimit, hashJoin, localLimit, mergeOp, Op, outputRequirement, partialSort, aggregate, projection, repartition, sortMergeJoin, sortOp, source, union}
+use Rattle.plan.specs.WellFormed.{below, columnsFit, distinct, every, joinWidth, member, nodeOk, someFetch, unionOk, columnsOf}
 use Rattle.plan.specs.declared.Fetch.{Fetch}
 use Rattle.plan.specs.declared.Fetch.the-variants.{AtMost, Unlimited}
 use Rattle.plan.specs.declared.JoinType.{JoinType}
@@ -20,7 +20,7 @@ use Rattle.semantics.specs.Facts.{at0, at1, cl, compatible, dropRepeats, Facts,
 use Rattle.semantics.specs.Properties.{maintains, wanted}
 use Rattle.semantics.specs.theorems.common.Bools.{and-left, and-right, or-false}
 use Rattle.semantics.specs.theorems.facts.Fits.{join-width, op-width}
-use Rattle.walks.specs.SortPushdown.{andKey, atColumn, addOffsetToPhysicalSortExprs, childRequired, eitherSide, exprSourceSide, fetchBlocks, goes, goIf, handleCustomPushdown, handleFetch, handleHashJoin, handleMerge, invalid, JoinSide, leftFirst, leftSide, newOutputOrdering, noSide, onRight, onSide, pushByKind, pushdownRequirementToChildren, pushdownWouldViolateRequirements, Pushed, pushToSide, remapRequirementThroughProjection, reorderTo, rightSide, sideOrder, stop, throughFetch, Valid, valid}
+use Rattle.walks.specs.SortPushdown.{andKey, atColumn, addOffsetToPhysicalSortExprs, childRequired, eitherSide, exprSourceSide, fetchBlocks, goes, goIf, handleCustomPushdown, handleAggregatePushdown, handleFetch, handleHashJoin, handleMerge, invalid, JoinSide, leftFirst, leftSide, newOutputOrdering, noSide, onRight, onSide, pushByKind, pushdownRequirementToChildren, pushdownWouldViolateRequirements, Pushed, pushToSide, remapRequirementThroughProjection, reorderTo, rightSide, sideOrder, stop, throughFetch, Valid, valid}
 use Rattle.walks.specs.theorems.common.Lists.{map-length}
 use Rattle.walks.specs.theorems.common.Trees.{Arity, arity, children-fit, FitsA, oneKid, twoKids}
 use Rattle.walks.specs.theorems.common.Keys.{keys-of, KeysFit, no-keys, repeats-keys}
@@ -176,6 +176,10 @@ pub every-le : (off : ℕ) (ks : List Key) → every (λ k. leb off (k .col)) ks
 every-le off [] e = all-nil
 every-le off (k ∷ ks) e = all-cons (leb-true off (k .col) (search and-left)) (every-le off ks (search and-right))
 
+pub every-lt : (n : ℕ) (ks : List Key) → every (λ k. ltb (k .col) n) ks ≡ true → All (λ k. k .col < n) ks
+every-lt n [] e = all-nil
+every-lt n (k ∷ ks) e = all-cons (ltb-true (k .col) n (search and-left)) (every-lt n ks (search and-right))
+
 hash-goes : (o : Op) (F : Facts) (fs : List Facts) (parent : List Key) → length fs ≡ 2 → KeysFit (F .width) parent
     → PushedFits fs (handleHashJoin o F fs parent)
 hash-goes o F fs parent n h =
@@ -219,6 +223,24 @@ module _ (fs : List Facts) (parent : List Key) where
   two o a e = subst (λ (x : Arity). FitsA x (length fs)) a
       (subst (FitsA (arity o)) (map-length (λ F. F .width) fs) (children-fit o (length (map (λ F. F .width) fs)) (search (and-left, and-right))))
 
+  group-goes : (ks : List Key) (n : ℕ) → Node (aggregate ks n) → KeysFit (length (columnsOf ks) + n) parent →
+      PushedFits fs (handleAggregatePushdown (aggregate ks n) (columnsOf ks) fs parent)
+  group-goes ks n e h =
+      let w : ℕ = getD (map (λ F. F .width) fs) 0 0 in
+      let groups : List ℕ = columnsOf ks in
+      let c : columnsFit w groups ≡ true = search (and-left, and-right) in
+      let b : below (at0 fs .width) groups ≡ true = ap (λ (x : ℕ). below x groups) (sym (nth-width fs 0)) ∙ and-left (below w groups) (distinct groups) c in
+      let all : Bool = every (λ k. ltb (k .col) (length groups)) parent in
+      let mapped : List Key = remapRequirementThroughProjection groups parent in
+      goIf-fits fs (maintains (aggregate ks n) fs 0 && (all && met (at0 fs) mapped)) (λ i. mapped)
+      (λ q. one-goes fs (λ i. mapped) (one (aggregate ks n) refl e)
+      (remap-keys (at0 fs .width) groups parent b
+      (record {
+        short = h .short;
+        inside = every-lt (length groups) parent (and-left all (met (at0 fs) mapped) (and-right (maintains (aggregate ks n) fs 0) (all && met (at0 fs) mapped) q));
+        apart = h .apart;
+      })))
+
   abbrev Fitting : Op → Pushed → Type 0
   Fitting o u = Node o → KeysFit (factsOp o fs .width) parent → PushedFits fs u
 
@@ -245,6 +267,7 @@ module _ (fs : List Facts) (parent : List Key) where
   kind-fits (outputRequirement ks d f) e h = cond-fits fs (pushdownWouldViolateRequirements (outputRequirement ks d f) 1 parent) stop
       (handleCustomPushdown parent) tt (same-columns (one (outputRequirement ks d f) refl e) (at0 fs) refl h)
   kind-fits (partialSort p ks n f) e h = tt
+  kind-fits (aggregate ks n) e h = group-goes ks n e h
 
   -- no fetch goes through a join or a source
   no-fetch : (own : Fetch) (b : Bool) (u v : Pushed) → b ≡ false → PushedFits fs v → PushedFits fs (cond (someFetch own && b) u v)
@@ -277,6 +300,7 @@ module _ (fs : List Facts) (parent : List Key) where
   fetch-fits (outputRequirement ks d f) own n e h = through (outputRequirement ks d f) own n
       (same-columns (one (outputRequirement ks d f) refl e) (at0 fs) refl h) (kind-fits (outputRequirement ks d f) e h)
   fetch-fits (partialSort p ks m f) own n e h = through (partialSort p ks m f) own n (same-columns (one (partialSort p ks m f) refl e) (at0 fs) refl h) tt
+  fetch-fits (aggregate ks m) own n e h = no-fetch own _ _ _ refl (kind-fits (aggregate ks m) e h)
 
   pub pushed-fits : (o : Op) (own : Fetch) (n : ℕ) (f : Fetch) → Fitting o (pushdownRequirementToChildren o own n fs parent f)
   pushed-fits o own n f e h = cond-fits fs (fetchBlocks o f) stop (cond (throughFetch o own n fs) (handleFetch o (factsOp o fs) fs parent)
