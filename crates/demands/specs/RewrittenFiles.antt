@@ -129,7 +129,7 @@ module _ (w : Walk) (s out : List ℕ) (bytes : AllBytes s) where
     unfolding reading
     rewriting z = read-as n out' z (eqb (numberOf (refusalOf s)) 0) refl refl first second
 
-    -- Where the given tree has no join, limit or fetch, every run of the plan read from the output delivers the rows of every run of the plan given
+    -- Where the given tree has no join, aggregate, limit or fetch, every run of the plan read from the output delivers the rows of every run of the plan given
     pub rewritten-rows : (z : n ≡ 0) → let r = rewriting z in clear (r .given) ≡ true → (E E′ : Env) → SameInputs E E′ (r .given) → (a b : Forest Streams)
         → Run E 0 0 (r .given) a → Run E′ 0 0 (r .made) b
         → (x : Row) → times x (delivered a) ≡ times x (delivered b)

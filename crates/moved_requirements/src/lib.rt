@@ -1,4 +1,5 @@
-// A requirement in the columns of a join's right side or of a projection's or an aggregate's child, and two requirements compared key by key (sort_pushdown.rs).
+// A requirement in the columns of a join's right side or of a projection's or an aggregate's child, and two requirements compared key by key
+// (sort_pushdown.rs).
 use key_list_algebra::drop_repeats;
 use key_list_algebra::move_keys;
 use key_lists::Keys;

@@ -194,4 +194,5 @@ module _ (r : List ℕ) where
       ∙ ap (λ b. b && eqb z 0) (sym (or-false (leb 1 v && ltb v n))))
 
   pub body-aggregate : ((leb n 8 && leb 1 n) && (leb n w && leb w 32)) && eqb (le16 r 14) 0 ≡ bodyOk (fieldsOf 15) r
-  body-aggregate = ap₂ _&&_ (ap₂ _&&_ (ap (λ b. leb n 8 && b) (sym (or-false (leb 1 n)))) (sym (or-false (leb n w && leb w 32)))) (two (λ s. eqb s 0) is-zero v z)
+  body-aggregate = ap₂ _&&_
+      (ap₂ _&&_ (ap (λ b. leb n 8 && b) (sym (or-false (leb 1 n)))) (sym (or-false (leb n w && leb w 32)))) (two (λ s. eqb s 0) is-zero v z)

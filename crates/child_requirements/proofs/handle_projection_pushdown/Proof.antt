@@ -28,9 +28,11 @@ array-share-prefix-cols : tie.Need-array-share-prefix-cols
 array-share-prefix-cols c = search needs
 
 slice-aggregate-remap-requirement-through-projection : tie.Need-slice-aggregate-remap-requirement-through-projection
-slice-aggregate-remap-requirement-through-projection c = let s = c .before .before .before .before .before in let r = s .args .r .now in let q = s .pre .0 .long in
+slice-aggregate-remap-requirement-through-projection c =
+    let s = c .before .before .before .before .before in let r = s .args .r .now in let q = s .pre .0 .long in
     let w = s .pre .0 .wide in let e = c .before .wide .ensures in let l : length (tailColumns r) ≡ 32 = omega (arith, length-drop 32 r) in
-    counted (c .before .before .before .tail-columns .result) (tailColumns r) 32 (c .before .wide .result) (c .before .before .before .tail-columns .ensures) l (omega arith)
+    let k = c .before .before .before .tail-columns in
+    counted (k .result) (tailColumns r) 32 (c .before .wide .result) (k .ensures) l (omega arith)
 
 remap-requirement-through-projection-requires : tie.Need-remap-requirement-through-projection-requires
 remap-requirement-through-projection-requires c κs = let s = c .before .before .before .before .before in let k = c .before .before .before .tail-columns in
@@ -40,7 +42,9 @@ order-of-requires : tie.Need-order-of-requires
 order-of-requires c κs = c .remap-requirement-through-projection .ensures .few
 
 returns : tie.Need-returns
-returns c = λ cols m e. let s = c .before .before .before .before .before .before .before in let k = c .before .before .before .before .before .tail-columns in let n = c .before .before .before .wide in
+returns c = λ cols m e.
+    let s = c .before .before .before .before .before .before .before in
+    let k = c .before .before .before .before .before .tail-columns in let n = c .before .before .before .wide in
     alike m _ _ (subst (λ (l : List Key). Ordered l (c .order-of .result)) (c .before .remap-requirement-through-projection .ensures .is
     ∙ ap (λ (l : List ℕ). walk.remapRequirementThroughProjection l (keysOf (s .args .parent)))
     (lent-columns (s .args .r .now) (s .pre .0) (n .result) (k .result) (s .pre .1) (n .ensures) (k .ensures) cols e)) (c .order-of .ensures))

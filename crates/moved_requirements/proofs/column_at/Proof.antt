@@ -1,11 +1,10 @@
+-- `moved_requirements::column_at` meets its contract. Assumes nothing.
 use borrow.Author.Needs.{needs}
 use native.Mathlib.Omega.{arith}
 use mathlib.Core.Path.{refl, sym}
 use lib.ListN.{List·getD-eq-default}
 use Rattle.moved_requirements.proofs.column_at.Statement.{statement}
 use Rattle.moved_requirements.proofs.column_at.Tie as tie
-use Rattle.moved_requirements.proofs.column_at.Reads as reads
-use Rattle.moved_requirements.proofs.column_at.Lts as lts
 
 mul-result : tie.Need-mul-result
 mul-result c = search needs

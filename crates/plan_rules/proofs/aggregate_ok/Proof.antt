@@ -1,3 +1,4 @@
+-- `plan_rules::aggregate_ok` meets its contract. Assumes nothing.
 use borrow.Author.Needs.{needs}
 use Rattle.plan_format.specs.Fields.{fieldsOf}
 use Rattle.plan_rules.specs.Rules.{rules}

@@ -1,12 +1,9 @@
+-- `record_keys::key_columns` meets its contract. Assumes nothing.
 use borrow.Author.Needs.{needs}
 use native.Mathlib.Omega.{arith}
-use mathlib.Core.Path.{sym, _∙_}
 use mathlib.Core.List.{[], _∷_}
 use Rattle.record_keys.proofs.key_columns.Statement.{statement}
 use Rattle.record_keys.proofs.key_columns.Tie as tie
-use Rattle.record_keys.proofs.key_columns.Reads as reads
-use Rattle.record_keys.proofs.key_columns.Lts as lts
-use Rattle.byte_rows.proofs.wide.Reads as wide-reads
 
 shared-slice-read-wide : tie.Need-shared-slice-read-wide
 shared-slice-read-wide c = search needs
@@ -57,9 +54,16 @@ wide-requires-8 : tie.Need-wide-requires-8
 wide-requires-8 c κs = search needs
 
 returns : tie.Need-returns
-returns c =
-    (λ i. c .before .before .before .before .before .before .before .before .before .before .before .before .before .before .wide .ensures i ∷ c .before .before .before .before .before .before .before .before .before .before .before .before .wide2 .ensures i ∷ c .before .before .before .before .before .before .before .before .before .before .wide3 .ensures i ∷ c .before .before .before .before .before .before .before .before .wide4 .ensures i ∷ c .before .before .before .before .before .before .wide5 .ensures i ∷ c .before .before .before .before .wide6 .ensures i
-    ∷ c .before .before .wide7 .ensures i ∷ c .wide8 .ensures i ∷ [])
+returns c = λ i.
+    c .before .before .before .before .before .before .before .before .before .before .before .before .before .before .wide .ensures i
+    ∷ c .before .before .before .before .before .before .before .before .before .before .before .before .wide2 .ensures i
+    ∷ c .before .before .before .before .before .before .before .before .before .before .wide3 .ensures i
+    ∷ c .before .before .before .before .before .before .before .before .wide4 .ensures i
+    ∷ c .before .before .before .before .before .before .wide5 .ensures i
+    ∷ c .before .before .before .before .wide6 .ensures i
+    ∷ c .before .before .wide7 .ensures i
+    ∷ c .wide8 .ensures i
+    ∷ []
 
 pub key-columns-spec : {M : Type 1} → statement M
 key-columns-spec =

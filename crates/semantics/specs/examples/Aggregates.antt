@@ -21,7 +21,8 @@ grouped cols n = at0 (facts (tree (aggregate (map up cols) n) child none))
 -- "knows order, constants and classes as a projection to its group columns would", and nothing of the columns behind them: by columns 1, 3 and 2,
 -- of which 1 equals 0 and 3 is constant; by 1 and 0, which are one class; by 2 alone, which is no first key
 pub known :
-    (grouped (1 ∷ 3 ∷ 2 ∷ []) 2 ≡ record { width = 5; streams = 2; consts = false ∷ true ∷ false ∷ false ∷ false ∷ []; cls = 0 ∷ 1 ∷ 2 ∷ 3 ∷ 4 ∷ []; order = up 0 ∷ up 2 ∷ [] })
+    (grouped (1 ∷ 3 ∷ 2 ∷ []) 2
+    ≡ record { width = 5; streams = 2; consts = false ∷ true ∷ false ∷ false ∷ false ∷ []; cls = 0 ∷ 1 ∷ 2 ∷ 3 ∷ 4 ∷ []; order = up 0 ∷ up 2 ∷ [] })
     × (grouped (1 ∷ 0 ∷ []) 1 ≡ record { width = 3; streams = 2; consts = false ∷ false ∷ false ∷ []; cls = 0 ∷ 0 ∷ 2 ∷ []; order = by 0 })
     × (grouped (2 ∷ []) 0 ≡ record { width = 1; streams = 2; consts = false ∷ []; cls = 0 ∷ []; order = [] })
 known = (refl, refl, refl)

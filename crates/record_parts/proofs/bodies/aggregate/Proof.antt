@@ -1,3 +1,4 @@
+-- `record_parts::bodies::aggregate` meets its contract. Assumes nothing.
 use borrow.Author.Needs.{needs}
 use Prim.Native.Nat.{ℕ}
 use mathlib.Core.Path.{ap, ap₂, _∙_}
@@ -19,9 +20,8 @@ get16-requires c κs = search needs
 
 returns : tie.Need-returns
 returns c =
-    let c₄ = c .before .before .before .before in
-    let r = c₄ .args .r .now in ap (λ (a : ℕ). ((leb (getD r 12 0) 8 && leb 1 (getD r 12 0)) && (leb (getD r 12 0) (getD r 13 0) && leb (getD r 13 0) 32)) && eqb a 0) (c .get16 .ensures)
-    ∙ body-aggregate r
+    let r = c .before .before .before .before .args .r .now in let n : ℕ = getD r 12 0 in let w : ℕ = getD r 13 0 in
+    ap (λ (a : ℕ). ((leb n 8 && leb 1 n) && (leb n w && leb w 32)) && eqb a 0) (c .get16 .ensures) ∙ body-aggregate r
 
 pub aggregate-spec : {M : Type 1} → statement M
 aggregate-spec = tie.close (tie.spec shared-slice-read-n shared-slice-read-w get16-requires returns)

@@ -16,7 +16,8 @@ use Rattle.semantics.specs.Properties.{maintains}
 -- a column that is one of several, or equals one, is carried by one of them
 pub carried-by : (F : Facts) (cols : List ℕ) (c : ℕ) → carriedBy F cols c ≡ ltb (carried F cols c) (length cols)
 carried-by F [] c = refl
-carried-by F (d ∷ cols) c = ap (λ (r : Bool). eqb (cl F d) (cl F c) || r) (carried-by F cols c) ∙ here (eqb (cl F d) (cl F c)) m (length cols) (ltb m (length cols)) refl
+carried-by F (d ∷ cols) c =
+    ap (λ (r : Bool). eqb (cl F d) (cl F c) || r) (carried-by F cols c) ∙ here (eqb (cl F d) (cl F c)) m (length cols) (ltb m (length cols)) refl
   where
     m : ℕ
     m = lowest (λ i. eqb (cl F (getD cols i 0)) (cl F c)) (length cols)

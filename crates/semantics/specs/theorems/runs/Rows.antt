@@ -84,7 +84,8 @@ run-rows run-none e = each-nil
 run-rows {E} (run-tree {i = i} {j = j} {o = o} {c = c} {r = r} {s = s} {cs = cs} {rs = rs} st h k) e =
     let p : simpleOp o ≡ true = and-left (simpleOp o) (simplePlan c && simplePlan r) e in
     let q = and-right (simpleOp o) (simplePlan c && simplePlan r) e in
-    let whole-cut : s ≡ st .raw = st .is ∙ map-id (cutRows (cuts o)) (cut-whole (cuts o) (and-left (whole (cuts o)) (not (isJoin o || isAggregate o)) p)) (st .raw) in
+    let whole-cut : s ≡ st .raw = st .is ∙ map-id (cutRows (cuts o))
+    (cut-whole (cuts o) (and-left (whole (cuts o)) (not (isJoin o || isAggregate o)) p)) (st .raw) in
     each-cons (same-trans (same-of (ap concat whole-cut))
     (made-rows E i j o (facts c) (roots cs) _ (st .raw) (and-right (whole (cuts o)) (not (isJoin o || isAggregate o)) p) (st .made)
     (run-rows h (and-left (simplePlan c) (simplePlan r) q))))

@@ -1,4 +1,4 @@
--- What the theorems ask of trees: accepted child counts, no join, limit or fetch, and 01's rules on every node; as types, for one root too.
+-- What the theorems ask of trees: accepted child counts, no join, aggregate, limit or fetch, and 01's rules on every node; as types, for one root too.
 -- The reader's own test is nodesOk of the plan crate: `ok-of`, `ok-to`.
 use mathlib.Core.Path.{_≡_, refl, sym, ap, ap₂, _∙_, subst}
 use mathlib.Core.Bool.{true, false, not, _&&_}
@@ -54,7 +54,7 @@ abbrev pub Fit : Plan → Type 0
 Fit none = Unit {0}
 Fit (tree o c r) = FitsA (arity o) (count c) × Fit c × Fit r
 
--- ---- no join, no limit, no fetch, as a type
+-- ---- no join, no aggregate, no limit, no fetch, as a type
 abbrev pub Pure : Plan → Type 0
 Pure none = Unit {0}
 Pure (tree o c r) = (clearOp o ≡ true) × Pure c × Pure r

@@ -332,7 +332,8 @@ module _ {fs gs : List Facts} (ws : Each Wider fs gs) (hs : All Some fs) (ks : A
   op-wider (hashJoin t on) h = hash-join t on
   op-wider (outputRequirement l d f) h = w0
   op-wider (partialSort p l n f) h = no-bool (sym (h .1))
-  op-wider (aggregate l n) h = placed-wider n (projFacts (at0 fs) (columnsOf l)) (projFacts (at0 gs) (columnsOf l)) (projected (at0 fs) (at0 gs) w0 (columnsOf l))
+  op-wider (aggregate l n) h = placed-wider n (projFacts (at0 fs) (columnsOf l)) (projFacts (at0 gs) (columnsOf l))
+      (projected (at0 fs) (at0 gs) w0 (columnsOf l))
 
 -- ---- wanted orders stay met
 orders-wider : (l : List (List Key)) (F G : ℕ → Facts) → ((i : ℕ) → Wider (F i) (G i)) → ordersMet l F ≡ true → ordersMet l G ≡ true

@@ -237,7 +237,8 @@ module _ (fs : List Facts) (parent : List Key) where
       (remap-keys (at0 fs .width) groups parent b
       (record {
         short = h .short;
-        inside = every-lt (length groups) parent (and-left all (met (at0 fs) mapped) (and-right (maintains (aggregate ks n) fs 0) (all && met (at0 fs) mapped) q));
+        inside = every-lt (length groups) parent
+            (and-left all (met (at0 fs) mapped) (and-right (maintains (aggregate ks n) fs 0) (all && met (at0 fs) mapped) q));
         apart = h .apart;
       })))
 
