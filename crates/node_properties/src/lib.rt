@@ -1,5 +1,5 @@
 // What the walks ask of a node's record (semantics, Properties): its kind, its fields, its partitioning. A match on kinds stands in maintained_orders,
-// node_fetches, wanted_inputs and the facts of a node, and nowhere else.
+// node_fetches, wanted_inputs, the facts of a node, child_requirements and node_lines, and nowhere else.
 use byte_rows::wide;
 use key_list_algebra::same_keys;
 use key_lists::Keys;
