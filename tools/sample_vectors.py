@@ -6,7 +6,7 @@
 VECTORS has one text file for each call, 'rare.txt' and 'p1.txt' (plans with aggregates), two lines for each case: 'CALL SETTINGS OUTLEN FILE [NODE]' and
 'ANSWER', FILE in hex. Taken are, of each call's file, REFUSED evenly spaced refused cases and ACCEPTED evenly spaced accepted ones (CHECKED for the order
 check); of 'rare.txt' RARE evenly spaced for each call; of 'p1.txt' for each call every refused case and ACCEPTED evenly spaced accepted ones; with 'all'
-every case of every file. The files from before aggregates hold kind 15 to be unknown: a case of theirs that has it is left out.
+every case of every file.
 A case in the sample: a header of 20 bytes, then the file, then the file that the call is to write. The header: the call's place in CALLS; the answer's
 number; the order check's answer, 255 for none; zero; then, two bytes each, little-endian, the lengths of the file, of the answer and of the lent output; the
 three settings; three zeros; the node's number in four bytes.
@@ -18,7 +18,6 @@ ACCEPTED = 40
 CHECKED = 200
 RARE = 40
 REFUSED = 60
-AGGREGATE = 15
 
 
 def cases(path):
@@ -35,11 +34,6 @@ def cases(path):
         wanted = bytes.fromhex(said[1]) if number == 0 and not check else b""
         marks = bytes(3) if settings == "-" else bytes.fromhex(settings)
         yield call, number, passes, data, wanted, room, marks, node
-
-
-def has_aggregate(data):
-    blocks = [data[at : at + 512] for at in range(0, len(data), 512)]
-    return any(block[at] == AGGREGATE for block in blocks for at in range(8, min(len(block), 8 + 64 * 7), 64))
 
 
 def spaced(items, count):
@@ -68,7 +62,7 @@ def main(folder, out, whole):
                 older = chosen(older, REFUSED, CHECKED if call == "check" else ACCEPTED)
                 of_rare = spaced(of_rare, RARE)
                 of_aggregates = chosen(of_aggregates, len(of_aggregates), ACCEPTED)
-            for case in [c for c in older + of_rare if not has_aggregate(c[3])] + of_aggregates:
+            for case in older + of_rare + of_aggregates:
                 if len(case[3]) <= 10240 and case[5] <= 10240:
                     f.write(written(case))
 

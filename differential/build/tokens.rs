@@ -26,7 +26,7 @@ pub fn tokens(source: &str) -> Vec<Token<'_>> {
             let length = 1 + bytes[i + 1..].iter().take_while(|b| is_word(**b)).count();
             out.push(Token { text: &rest[..length], at: i });
             length
-        } else if ["=>", "->", "||", "&&", "::"].iter().any(|p| rest.starts_with(p)) {
+        } else if ["=>", "->", "||", "&&", "::", ">=", "<="].iter().any(|p| rest.starts_with(p)) {
             out.push(Token { text: &rest[..2], at: i });
             2
         } else if bytes[i].is_ascii_punctuation() {

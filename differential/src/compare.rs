@@ -4,7 +4,7 @@ use crate::rust_side::{self, Answer};
 use crate::{domain, library, shrink};
 use sort_placement::exports::{ALL, Call};
 use sort_placement::listing::listing;
-use sort_placement::plan::{self, BLOCK, MOST_BLOCKS, Node, kind::SORT};
+use sort_placement::plan::{self, BLOCK, MOST_BLOCKS, Node, kind::*};
 use sort_placement::text;
 use std::collections::{BTreeMap, BTreeSet};
 use std::sync::Mutex;
@@ -15,6 +15,8 @@ use std::time::Instant;
 pub struct Figures {
     plans: u64,
     nodes: u64,
+    /// plans that have an aggregate
+    grouped: u64,
     /// by call: requests, of them held against the library, refusals by number, panics
     calls: BTreeMap<&'static str, (u64, u64, BTreeMap<u32, u64>, u64)>,
     changed: BTreeMap<&'static str, u64>,
@@ -26,9 +28,16 @@ pub struct Figures {
 }
 
 impl Figures {
+    fn count(&mut self, tree: &Node) {
+        self.plans += 1;
+        self.nodes += tree.count() as u64;
+        self.grouped += tree.any(&mut |n| n.record.kind == AGGREGATE) as u64;
+    }
+
     fn add(&mut self, other: Figures) {
         self.plans += other.plans;
         self.nodes += other.nodes;
+        self.grouped += other.grouped;
         self.inside += other.inside;
         self.ensured += other.ensured;
         self.pass += other.pass;
@@ -45,6 +54,7 @@ impl Figures {
 
     fn print(&self, seconds: f64) {
         println!("{} plans, {:.1} nodes each, {:.0} seconds", self.plans, self.nodes as f64 / self.plans as f64, seconds);
+        println!("plans with an aggregate: {}", self.grouped);
         println!("call          requests  through the library   changed  panics  refusals");
         for (call, (requests, held, refusals, panics)) in &self.calls {
             let refused: Vec<String> = refusals.iter().map(|(number, n)| format!("{number}: {n}")).collect();
@@ -60,7 +70,7 @@ impl Figures {
 }
 
 /// A random call of each kind, with its output's length.
-fn requests(rng: &mut Rng, tree: &Node, file: &[u8]) -> Vec<(Call, usize)> {
+pub fn requests(rng: &mut Rng, tree: &Node, file: &[u8]) -> Vec<(Call, usize)> {
     let count = tree.count();
     let sorts: Vec<usize> = (0..count).filter(|i| tree.at(*i).is_some_and(|n| n.record.kind == SORT)).collect();
     let node = match rng.below(40) {
@@ -149,8 +159,7 @@ fn one(seed: u64, i: u64, f: &mut Figures, differed: &Mutex<BTreeSet<&'static st
         tree = walked(&mut rng, tree);
     }
     let file = plan::write(&tree);
-    f.plans += 1;
-    f.nodes += tree.count() as u64;
+    f.count(&tree);
     let mut rules = domain::rules(&tree);
     for (call, room) in requests(&mut rng, &tree, &file) {
         let rust = rust_side::answer(call, &file, room);

@@ -1,4 +1,4 @@
-//! Damaged files through every export: the number that document 01 gives, and no byte written outside of the answer.
+//! Damaged files through every export: the number that documents 01 and 02 give, and no byte written outside of the answer.
 use crate::library;
 use crate::random_plans::{self, Rng};
 use crate::rust_side;
@@ -24,12 +24,28 @@ fn reshape(rng: &mut Rng, file: &mut [u8]) {
     }
 }
 
+/// An aggregate's width beside its key count, options on a group column, no key or nine, a column twice or too high, a field that it
+/// has no use for: refusals 6 and 7.
+fn regroup(rng: &mut Rng, file: &mut [u8]) {
+    let from = rng.below(7);
+    let Some(at) = record_of(file, &[AGGREGATE], from) else { return };
+    let (place, value) = match rng.below(6) {
+        0 => (13, (file[at + 12] as usize + rng.below(3)).wrapping_sub(1) as u8),
+        1 => (13, 31 + rng.below(3) as u8),
+        2 => (17 + 2 * rng.below(8), 1 + rng.below(3) as u8),
+        3 => (12, rng.pick(&[0, 1, 8, 9])),
+        4 => (16 + 2 * rng.below(8), rng.below(4) as u8),
+        _ => (rng.pick(&[1, 2, 3, 4, 8, 14, 15, 32, 63]), rng.below(3) as u8),
+    };
+    file[at + place] = value;
+}
+
 fn damage_once(rng: &mut Rng, file: &mut [u8]) {
     let block = BLOCK * rng.below(file.len() / BLOCK);
     let records = (file[block + 4] as usize).clamp(1, 7);
     let record = block + 8 + 64 * rng.below(records);
     let field = [0, 1, 2, 3, 4, 7, 8, 12, 13, 14, 15, 16, 17, 18, 19, 31, 32, 33, 35, 36, 63][rng.below(21)];
-    match rng.below(10) {
+    match rng.below(11) {
         0 => file[block + rng.below(8)] = rng.below(9) as u8,
         1 => file[block + rng.below(508)] ^= 1 << rng.below(8),
         2 => {
@@ -43,6 +59,7 @@ fn damage_once(rng: &mut Rng, file: &mut [u8]) {
         5 => file[record] = rng.below(17) as u8,
         6 => file[record + 16 + rng.below(48)] = rng.below(34) as u8,
         7 => file[record + 32 + rng.below(4)] = rng.next() as u8,
+        8 => regroup(rng, file),
         _ => reshape(rng, file),
     }
 }
@@ -65,7 +82,7 @@ fn damaged(rng: &mut Rng, file: &[u8]) -> Vec<u8> {
     copy
 }
 
-/// Whether all exports answered as document 01 says. With `heap` the buffers are allocations of just their length, so that a
+/// Whether all exports answered as documents 01 and 02 say. With `heap` the buffers are allocations of just their length, so that a
 /// memory checker sees a step outside.
 pub fn run(files: u64, seed: u64, heap: bool) -> bool {
     let calls: Vec<Call> = ALL.into_iter().filter(|c| c.is_present()).collect();
@@ -90,7 +107,7 @@ pub fn run(files: u64, seed: u64, heap: bool) -> bool {
             match got.expect("a call that is present") {
                 Ok(got) if (got.number, &got.bytes) == (want.number, &want.bytes) => {}
                 Ok(got) => {
-                    println!("file {i} of seed {seed}: {call:?} gives {}, document 01 {}", got.number, want.number);
+                    println!("file {i} of seed {seed}: {call:?} gives {}, the documents {}", got.number, want.number);
                     return false;
                 }
                 Err(why) => {
@@ -101,6 +118,6 @@ pub fn run(files: u64, seed: u64, heap: bool) -> bool {
         }
     }
     let answers: Vec<String> = seen.iter().map(|(number, n)| format!("{number}: {n}")).collect();
-    println!("{files} files through {} exports, all as document 01 says; answers by number: {}", calls.len(), answers.join(", "));
+    println!("{files} files through {} exports, all as the documents say, by number: {}", calls.len(), answers.join(", "));
     true
 }

@@ -1,5 +1,5 @@
 //! The compared domain: trees whose facts the published crate reports the same. Its facts are not in the five files, so this
-//! counts the trees that use a rule of document 01 which the crate has otherwise, as far as its text shows.
+//! counts the trees that use a rule of documents 01 and 02 which the crate has otherwise, as far as its text shows or is believed.
 use sort_placement::facts::{self, Facts};
 use sort_placement::plan::{Node, PRESERVE, kind::*};
 use std::collections::BTreeSet;
@@ -32,6 +32,9 @@ fn walk(node: &Node, found: &mut BTreeSet<&'static str>) -> Facts {
         }
         MERGE if r.fetch().is_none() && known[0].normal(&r.keys).is_empty() => {
             found.insert("a merge whose keys are all constant lets no order be pushed past it (the Rust panics)");
+        }
+        AGGREGATE => {
+            found.insert("an aggregate wants nothing, maintains by one key and has no unique columns (the Rust: more of each)");
         }
         UNION if known.iter().fold(u32::MAX, |all, f| all & f.constants) != 0 => {
             found.insert("a union has no constants, though all children have");

@@ -17,7 +17,7 @@ fn written(call: Call, number: u32, out: &[u8]) -> usize {
 
 /// The answer of an export, or what it wrote where it must not. `None` where the library has no such call.
 pub fn answer(call: Call, file: &[u8], room: usize) -> Option<Result<Answer, String>> {
-    let mut lent = [FILL; 2 * GUARD + MOST_BLOCKS * BLOCK];
+    let mut lent = vec![FILL; 2 * GUARD + room.max(MOST_BLOCKS * BLOCK)];
     let number = call.run(file, &mut lent[GUARD..GUARD + room])?;
     let written = written(call, number, &lent[GUARD..GUARD + room]);
     if lent[..GUARD].iter().chain(&lent[GUARD + written..]).any(|b| *b != FILL) {

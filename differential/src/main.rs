@@ -7,8 +7,11 @@
 //!     differential damage [--files N] [--seed S] [--heap]             damaged files through every export
 //!     differential threads [--plans N] [--seed S] [--threads T]       the same requests from several threads at once
 //!     differential mutants [--plans N] [--seed S] [--from M]          which small mutations of the Rust's text such plans notice
-//!     differential times [--svg FILE]                                 both sides timed on the same plans
+//!     differential times [--svg FILE] [--without-aggregates]          both sides timed on the same plans
+//!     differential requests [--plans N] [--seed S] [--without-aggregates]
+//!                                                                     random plans through the library alone
 //!
+//! Plans without aggregates are, for a seed, those from before there were any.
 //! Built with the feature `branches`, it also tells which branches of the Rust's text a run reached.
 #[cfg(feature = "branches")]
 mod branches;
@@ -19,6 +22,7 @@ mod library;
 mod mutants;
 mod plot;
 mod random_plans;
+mod requests;
 mod rust_side;
 mod shrink;
 mod threads;
@@ -57,6 +61,7 @@ fn main() {
     silence_the_rust();
     let args: Vec<String> = std::env::args().skip(1).collect();
     let number = |name: &str, default: u64| option(&args, name, default);
+    let aggregates = !args.iter().any(|a| a == "--without-aggregates");
     let agreed = match args.first().map(String::as_str) {
         Some("vectors") if args.len() == 2 => vectors::run(std::path::Path::new(&args[1])),
         Some("compare") => {
@@ -72,11 +77,18 @@ fn main() {
             true
         }
         Some("times") => {
-            times::run(args.iter().position(|a| a == "--svg").and_then(|i| args.get(i + 1)).map(String::as_str));
+            let svg = args.iter().position(|a| a == "--svg").and_then(|i| args.get(i + 1));
+            times::run(svg.map(String::as_str), aggregates);
+            true
+        }
+        Some("requests") => {
+            requests::run(number("--plans", 2_000), number("--seed", 1), aggregates);
             true
         }
         _ => {
-            eprintln!("vectors FOLDER | compare | show CALL TEXT | damage | threads | mutants | times, with options: see src/main.rs");
+            eprintln!(
+                "vectors FOLDER | compare | show CALL TEXT | damage | threads | mutants | times | requests, with options: see src/main.rs"
+            );
             std::process::exit(2);
         }
     };
@@ -94,6 +106,15 @@ mod tests {
         assert!(super::compare::run(3_000, u64::MAX, 11, 1));
         assert!(super::damage::run(3_000, 12, true));
         assert!(super::threads::run(100, 13, 4));
+    }
+
+    #[test]
+    fn aggregates_are_made_and_left_out() {
+        use super::random_plans::{Rng, plan_with};
+        use sort_placement::plan::kind::AGGREGATE;
+        let grouped = |i, aggregates| plan_with(&mut Rng::new(1, i), aggregates).any(&mut |n| n.record.kind == AGGREGATE);
+        assert!((0..500).filter(|i| grouped(*i, true)).count() > 100);
+        assert!(!(0..500).any(|i| grouped(i, false)));
     }
 
     #[test]

@@ -12,18 +12,21 @@ include!(concat!(env!("OUT_DIR"), "/mutants.rs"));
 
 const MARK: &str = "a mark that a later step sets anew before it is read";
 const COLUMN: &str = "all keys and projections are columns";
+const KEEPS_LEFT: &str = "only an inner join has equal columns on both sides, and it keeps left";
 const ONE_CHILD: &str = "those nodes have one child, and its columns";
 
 /// Mutations that change no answer: where, the word that is replaced, and why.
-const EQUAL: [(&str, &[usize], &str, &str); 9] = [
+const EQUAL: [(&str, &[usize], &str, &str); 11] = [
     ("mod.rs", &[409, 474, 480, 538, 736, 752, 772, 801, 802], "'false'", MARK),
     ("mod.rs", &[447], "'true'", MARK),
     ("replace_with_order_preserving_variants.rs", &[90, 110, 130, 189, 208, 280], "'false'", MARK),
     ("replace_with_order_preserving_variants.rs", &[143, 153], "'true'", MARK),
     ("sort_pushdown.rs", &[420, 905], "'all'", ONE_CHILD),
     ("sort_pushdown.rs", &[905], "'&&'", ONE_CHILD),
+    ("sort_pushdown.rs", &[596], "'any'", "an aggregate has one child"),
     ("sort_pushdown.rs", &[500], "'||'", "what maintains nothing is turned away by the branches below too"),
-    ("sort_pushdown.rs", &[800], "'true'", "only an inner join has equal columns on both sides, and it keeps left"),
+    ("sort_pushdown.rs", &[797], "'>='", KEEPS_LEFT),
+    ("sort_pushdown.rs", &[800], "'true'", KEEPS_LEFT),
     ("sort_pushdown.rs", &[835, 839, 1094], "'a", COLUMN),
 ];
 

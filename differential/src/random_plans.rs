@@ -1,4 +1,4 @@
-//! Random plans that document 01 accepts: all kinds, join types and settings, from 1 to 126 nodes.
+//! Random plans that documents 01 and 02 accept: all kinds, join types and settings, from 1 to 126 nodes.
 use sort_placement::plan::{HASH, MOST_NODES, NO_FETCH, Node, PRESERVE, Record, UNBOUNDED, kind::*};
 
 pub struct Rng(u64);
@@ -40,6 +40,8 @@ struct Style {
     constants: usize,
     unbounded: usize,
     several_streams: usize,
+    /// zero for none
+    aggregates: usize,
 }
 
 const FAMILIES: [&[u8]; 7] = [
@@ -85,7 +87,7 @@ const FAMILIES: [&[u8]; 7] = [
     &[SORT, SORT, OUTPUT_REQUIREMENT, OUTPUT_REQUIREMENT, REPARTITION, MERGE, LOCAL_LIMIT],
 ];
 
-fn style(rng: &mut Rng) -> Style {
+fn style(rng: &mut Rng, aggregates: bool) -> Style {
     let mut columns = vec![0u8, 1, 2];
     let plain = rng.one_in(2);
     let theme = (0..3)
@@ -99,6 +101,7 @@ fn style(rng: &mut Rng) -> Style {
         constants: rng.pick(&[2, 10, 30, 1000, 1000]),
         unbounded: rng.pick(&[2, 6, 50]),
         several_streams: rng.pick(&[1, 2, 2]),
+        aggregates: if aggregates { rng.pick(&[0, 0, 5, 10]) } else { 0 },
     }
 }
 
@@ -249,9 +252,40 @@ fn unary(rng: &mut Rng, s: &Style, kind: u8, child: Node) -> Node {
     Node::new(r, vec![child])
 }
 
+/// Group columns as they stand below, so that an order keeps its columns, or as keys are; then some aggregate columns.
+fn aggregate(rng: &mut Rng, s: &Style, child: Node) -> Node {
+    let groups: Vec<u8> = if rng.one_in(2) {
+        let most = if rng.one_in(6) { 8 } else { 3 };
+        (0..child.width().min(1 + rng.below(most)) as u8).collect()
+    } else {
+        keys(rng, s, child.width(), 1).iter().map(|k| k.0).collect()
+    };
+    let most = if rng.one_in(12) { 32 - groups.len() } else { 2 };
+    let mut r = Record { width: (groups.len() + rng.below(most + 1)) as u8, ..Record::new(AGGREGATE) };
+    r.keys = groups.into_iter().map(|c| (c, 0)).collect();
+    Node::new(r, vec![child])
+}
+
+/// An aggregate, or a surveyor's list over one: its last column alone, ordered by a group column.
+fn grouped(rng: &mut Rng, s: &Style, size: usize) -> Node {
+    let listed = size >= 4 && rng.one_in(4);
+    let child = plan_of(rng, s, if listed { size - 3 } else { size - 1 });
+    let below = aggregate(rng, s, child);
+    if !listed {
+        return below;
+    }
+    let list = Record { width: 1, columns: vec![below.record.width - 1], ..Record::new(PROJECTION) };
+    let by = rng.below(below.record.keys.len()) as u8;
+    let sort = Record { keys: vec![(by, s.theme[0].1)], fetch: fetch(rng, s), ..Record::new(SORT) };
+    Node::new(list, vec![Node::new(sort, vec![below])])
+}
+
 fn plan_of(rng: &mut Rng, s: &Style, size: usize) -> Node {
     if size <= 1 {
         return source(rng, s);
+    }
+    if s.aggregates != 0 && rng.one_in(s.aggregates) {
+        return grouped(rng, s, size);
     }
     match rng.pick(s.kinds) {
         UNION if size >= 3 => union(rng, s, size),
@@ -279,8 +313,14 @@ fn with_partial_sort(rng: &mut Rng, s: &Style, mut plan: Node) -> Node {
 
 /// A plan of 1 to 126 nodes.
 pub fn plan(rng: &mut Rng) -> Node {
+    plan_with(rng, true)
+}
+
+/// The same, with or without aggregates. A seed's plans without them are those from before there were any, so that the times of
+/// two libraries can be held against each other.
+pub fn plan_with(rng: &mut Rng, aggregates: bool) -> Node {
     loop {
-        let s = style(rng);
+        let s = style(rng, aggregates);
         let size = match rng.below(16) {
             0..=7 => 1 + rng.below(9),
             8..=12 => 5 + rng.below(20),
@@ -299,7 +339,7 @@ pub fn plan(rng: &mut Rng) -> Node {
 }
 
 /// A plan of about that many nodes, without partial sorts.
-pub fn plan_of_size(rng: &mut Rng, nodes: usize) -> Node {
-    let s = style(rng);
+pub fn plan_of_size(rng: &mut Rng, nodes: usize, aggregates: bool) -> Node {
+    let s = style(rng, aggregates);
     plan_of(rng, &s, nodes)
 }

@@ -25,7 +25,7 @@ fn simpler(r: &Record) -> Vec<Record> {
     change(&|r| r.streams = r.streams.min(2));
     change(&|r| r.streams = r.streams.min(1));
     change(&|r| {
-        if r.kind == SOURCE {
+        if matches!(r.kind, SOURCE | AGGREGATE) {
             r.width -= 1;
         }
     });

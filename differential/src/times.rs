@@ -52,11 +52,11 @@ fn runs(tree: &Node) -> bool {
 }
 
 /// Random plans of a size that no walk refuses.
-fn plans(nodes: usize, count: usize) -> Vec<Node> {
+fn plans(nodes: usize, count: usize, aggregates: bool) -> Vec<Node> {
     let mut rng = Rng::new(7, nodes as u64);
     let mut trees = vec![];
     while trees.len() < count {
-        let tree = random_plans::plan_of_size(&mut rng, nodes);
+        let tree = random_plans::plan_of_size(&mut rng, nodes, aggregates);
         if tree.count() == nodes && runs(&tree) {
             trees.push(tree);
         }
@@ -99,8 +99,8 @@ fn mean(times: &[Times]) -> Times {
 /// Times by call, kind of plans and size.
 type Rows = Vec<(Call, &'static str, Vec<Times>)>;
 
-fn measure() -> Rows {
-    let trees: Vec<Vec<Node>> = SIZES.iter().map(|nodes| plans(*nodes, 200)).collect();
+fn measure(aggregates: bool) -> Rows {
+    let trees: Vec<Vec<Node>> = SIZES.iter().map(|nodes| plans(*nodes, 200, aggregates)).collect();
     let mut rows = vec![];
     for call in CALLS {
         let usual = |t: &Vec<Node>| mean(&t[..10].iter().map(|t| time_call(on(call, t), t)).collect::<Vec<_>>());
@@ -143,8 +143,8 @@ fn lines(rows: &Rows) -> Vec<Line> {
 }
 
 /// Prints the tables, and draws the plot.
-pub fn run(svg: Option<&str>) {
-    let rows = measure();
+pub fn run(svg: Option<&str>, aggregates: bool) {
+    let rows = measure(aggregates);
     println!("Microseconds a call by the number of nodes: library / Rust (how many times as long)");
     table("The Rust from file to file:", &rows, |t| Some(t.whole));
     table("The Rust's steps alone, on a plan in memory:", &rows, |t| t.steps);

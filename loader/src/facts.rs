@@ -1,4 +1,5 @@
-//! The facts of a node, what it wants and what it maintains, as document 01 states them. Written from its text alone.
+//! The facts of a node, what it wants and what it maintains, as document 01 states them, and document 02 for an aggregate. Written
+//! from their text alone.
 use crate::plan::{Node, PRESERVE, Record, UNBOUNDED, kind::*};
 
 /// A key: column and options (bit 0 descending, bit 1 nulls first).
@@ -177,6 +178,7 @@ pub fn of(r: &Record, children: &[&Facts]) -> Facts {
     match r.kind {
         SOURCE => Facts::source(r.width as usize, r.streams as usize, r.set, &r.keys),
         PROJECTION => children[0].projection(&r.columns),
+        // its aggregate columns, behind the groups, are free
         AGGREGATE => {
             let groups: Vec<u8> = r.keys.iter().map(|k| k.0).collect();
             Facts { width: r.width as usize, ..children[0].projection(&groups) }

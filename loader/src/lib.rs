@@ -1,5 +1,5 @@
 //! Sort placement in plan files: safe functions over the C exports of the proved library, and a view of plan files for tools.
-//! Document 01 has the form of a file, the calls and their refusals.
+//! Document 01 has the form of a file, the calls and their refusals; document 02 adds the aggregate.
 //!
 //! ```
 //! use sort_placement::{Refusal, check_order, plan, text};

@@ -1,4 +1,4 @@
-//! A plan as a tree of records, read from a plan file and written to one, by document 01's text alone.
+//! A plan as a tree of records, read from a plan file and written to one, by the text of documents 01 and 02 alone.
 
 pub const BLOCK: usize = 512;
 pub const MOST_BLOCKS: usize = 18;
@@ -59,6 +59,7 @@ pub struct Record {
     pub skip: u32,
     /// column and options; an aggregate's group columns
     pub keys: Vec<(u8, u8)>,
+    /// of a source, a projection, an aggregate
     pub width: u8,
     /// join type, distribution, or a partial sort's met prefix
     pub variant: u8,
@@ -235,11 +236,13 @@ fn header_is_right(block: &[u8], at: usize, total: usize) -> bool {
         && block[8 + 64 * count..508].iter().all(|b| *b == 0)
 }
 
-/// Rules of one record that stand alone: refusal 6.
-fn fields_are_right(r: &[u8]) -> bool {
-    let (kind, streams, marks, keys, width, variant) = (r[0], r[2], r[3], r[12] as usize, r[13] as usize, r[14]);
-    let (fetch, skip) = (number(&r[4..]), number(&r[8..]));
-    let hash = kind == REPARTITION && marks & HASH != 0;
+fn is_hash(r: &[u8]) -> bool {
+    r[0] == REPARTITION && r[3] & HASH != 0
+}
+
+/// Streams, marks, fetch and skip.
+fn numbers_are_right(r: &[u8]) -> bool {
+    let (kind, streams, marks, fetch, skip) = (r[0], r[2], r[3], number(&r[4..]), number(&r[8..]));
     let streams_ok = if kind == SOURCE || kind == REPARTITION { (1..=64).contains(&streams) } else { streams == 0 };
     let marks_allowed = match kind {
         SOURCE => UNBOUNDED,
@@ -248,13 +251,18 @@ fn fields_are_right(r: &[u8]) -> bool {
         _ => 0,
     };
     let fetch_ok = if kind == LOCAL_LIMIT { fetch != NO_FETCH } else { has_fetch(kind) || fetch == 0 };
-    let keys_ok = keys <= 8
-        && match kind {
-            SORT | MERGE | SORT_MERGE_JOIN | HASH_JOIN | PARTIAL_SORT | AGGREGATE => keys >= 1,
-            REPARTITION => (keys >= 1) == hash,
-            SOURCE | GLOBAL_LIMIT | LOCAL_LIMIT | OUTPUT_REQUIREMENT => true,
-            _ => keys == 0,
-        };
+    streams_ok && marks & !marks_allowed == 0 && fetch_ok && (kind == GLOBAL_LIMIT || skip == 0)
+}
+
+/// Key count, width and variant.
+fn counts_are_right(r: &[u8]) -> bool {
+    let (kind, keys, width, variant) = (r[0], r[12], r[13], r[14]);
+    let keys_ok = match kind {
+        SORT | MERGE | SORT_MERGE_JOIN | HASH_JOIN | PARTIAL_SORT | AGGREGATE => keys >= 1,
+        REPARTITION => (keys >= 1) == is_hash(r),
+        SOURCE | GLOBAL_LIMIT | LOCAL_LIMIT | OUTPUT_REQUIREMENT => true,
+        _ => keys == 0,
+    };
     let width_ok = match kind {
         SOURCE | PROJECTION => (1..=32).contains(&width),
         AGGREGATE => (keys..=32).contains(&width),
@@ -263,16 +271,18 @@ fn fields_are_right(r: &[u8]) -> bool {
     let variant_ok = match kind {
         SORT_MERGE_JOIN | HASH_JOIN => variant <= 7,
         OUTPUT_REQUIREMENT => variant <= 2,
-        PARTIAL_SORT => variant >= 1 && (variant as usize) < keys,
+        PARTIAL_SORT => variant >= 1 && variant < keys,
         _ => variant == 0,
     };
-    let numbers_ok = streams_ok && marks & !marks_allowed == 0 && fetch_ok && (kind == GLOBAL_LIMIT || skip == 0);
-    if !(numbers_ok && keys_ok && width_ok && variant_ok && r[15] == 0) {
-        return false;
-    }
-    let most_options = if kind == HASH_JOIN || kind == AGGREGATE || hash { 0 } else { 3 };
+    keys <= 8 && keys_ok && width_ok && variant_ok
+}
+
+/// The keys' options, a keyed set, and zeros behind them; the counts must be right.
+fn lists_are_right(r: &[u8]) -> bool {
+    let (kind, keys, width) = (r[0], r[12] as usize, r[13] as usize);
+    let most_options = if kind == HASH_JOIN || kind == AGGREGATE || is_hash(r) { 0 } else { 3 };
     let options_ok = (0..keys).all(|i| r[17 + 2 * i] <= most_options);
-    let keyed = kind == OUTPUT_REQUIREMENT && variant == 2;
+    let keyed = kind == OUTPUT_REQUIREMENT && r[14] == 2;
     let set_ok = !keyed || (1..=8).contains(&number(&r[32..]).count_ones());
     let used = match kind {
         SOURCE => 4,
@@ -282,6 +292,11 @@ fn fields_are_right(r: &[u8]) -> bool {
         _ => 0,
     };
     options_ok && set_ok && r[16 + 2 * keys..32].iter().all(|b| *b == 0) && r[32 + used..].iter().all(|b| *b == 0)
+}
+
+/// Rules of one record that stand alone: refusal 6.
+fn fields_are_right(r: &[u8]) -> bool {
+    numbers_are_right(r) && counts_are_right(r) && r[15] == 0 && lists_are_right(r)
 }
 
 fn columns_fit(mut columns: impl Iterator<Item = u8>, width: usize) -> bool {

@@ -7,7 +7,15 @@
 //! ```
 //!
 //! A line is a kind's name and its fields. Keys are a column, a or d, nulls f or l; a column alone is ascending, nulls last.
-//! `#` begins a remark.
+//! An aggregate's keys are its group columns, its width counts the aggregate columns behind them too. `#` begins a remark.
+//!
+//! ```
+//! use sort_placement::text::{parse, show};
+//!
+//! let grouped = parse("aggregate width=3 keys=0,1  # one aggregate column\n  source streams=1 width=2").unwrap();
+//! assert_eq!(show(&grouped), "aggregate width=3 keys=0al,1al\n  source streams=1 width=2\n");
+//! assert_eq!(parse(&show(&grouped)), Ok(grouped));
+//! ```
 use crate::listing::keys_text;
 use crate::plan::{HASH, NO_FETCH, Node, PRESERVE, Record, UNBOUNDED, kind::*};
 

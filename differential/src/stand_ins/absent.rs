@@ -1,4 +1,4 @@
-//! Operators that the text names and no plan file has: windows, aggregates, scalar subqueries. None of them can be made.
+//! Operators that the text names and no plan file has: windows, scalar subqueries. None of them can be made.
 use crate::Result;
 use crate::expr::*;
 use crate::operators::{ProjectionExec, ProjectionExpr};
@@ -45,7 +45,7 @@ macro_rules! absent {
     };
 }
 
-absent! { WindowAggExec BoundedWindowAggExec AggregateExec ScalarSubqueryExec }
+absent! { WindowAggExec BoundedWindowAggExec ScalarSubqueryExec }
 
 pub type WindowExprs = Vec<Arc<dyn WindowExpr>>;
 pub type Exprs = Vec<Arc<dyn PhysicalExpr>>;
@@ -99,26 +99,6 @@ pub fn get_best_fitting_window(
     _: Option<StateObserver>,
 ) -> Result<Option<Plan>> {
     unreachable!()
-}
-
-pub enum PhysicalGroupBy {}
-
-impl PhysicalGroupBy {
-    pub fn has_grouping_set(&self) -> bool {
-        match *self {}
-    }
-    pub fn input_exprs(&self) -> Exprs {
-        match *self {}
-    }
-}
-
-impl AggregateExec {
-    pub fn group_expr(&self) -> &PhysicalGroupBy {
-        match *self {}
-    }
-    pub fn input(&self) -> &Plan {
-        match *self {}
-    }
 }
 
 // Swapping a projection with an output requirement belongs to another rule

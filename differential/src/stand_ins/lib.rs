@@ -128,7 +128,7 @@ pub use plan::{
 };
 
 pub mod aggregates {
-    pub use crate::absent::AggregateExec;
+    pub use crate::operators::AggregateExec;
 }
 
 pub mod coalesce_partitions {

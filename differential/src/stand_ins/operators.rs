@@ -206,6 +206,7 @@ operators! {
     GlobalLimitExec LocalLimitExec SortMergeJoinExec PartialSortExec
     HashJoinExec { projection: Option<Vec<usize>> }
     ProjectionExec { exprs: Vec<ProjectionExpr> }
+    AggregateExec { groups: PhysicalGroupBy }
 }
 
 fn record(kind: u8, keys: &[PhysicalSortExpr]) -> Record {
@@ -346,6 +347,26 @@ impl ProjectionExec {
     }
 }
 
+/// An aggregate's group columns; grouping sets are left out.
+#[derive(Clone, Debug)]
+pub struct PhysicalGroupBy(Vec<Arc<dyn PhysicalExpr>>);
+
+impl PhysicalGroupBy {
+    pub fn has_grouping_set(&self) -> bool {
+        false
+    }
+
+    pub fn input_exprs(&self) -> Vec<Arc<dyn PhysicalExpr>> {
+        self.0.clone()
+    }
+}
+
+impl AggregateExec {
+    pub fn group_expr(&self) -> &PhysicalGroupBy {
+        &self.groups
+    }
+}
+
 /// The operator of a record; kind 13 is not among them.
 pub fn operator(r: Record, children: Vec<Plan>) -> Plan {
     let kind = r.kind;
@@ -367,6 +388,10 @@ pub fn operator(r: Record, children: Vec<Plan>) -> Plan {
         SORT_MERGE_JOIN => Arc::new(SortMergeJoinExec { op }),
         HASH_JOIN => Arc::new(HashJoinExec { op, projection: None }),
         PARTIAL_SORT => Arc::new(PartialSortExec { op }),
+        AGGREGATE => {
+            let groups = PhysicalGroupBy(op.record.keys.iter().map(|k| column(k.0)).collect());
+            Arc::new(AggregateExec { op, groups })
+        }
         _ => unreachable!("kind {kind}"),
     }
 }
