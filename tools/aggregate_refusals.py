@@ -3,8 +3,8 @@
 
     tools/aggregate_refusals.py crates/replay/data/cases
 
-The plan: an aggregate by columns 0 and 1 with one aggregate column, over a source of three columns; and aggregates by one to eight of eight columns. The
-answers are those of document 02, P1, read field by field. The cases are written as tools/sample_vectors.py writes them, as calls of the order check.
+The plan: an aggregate by columns 0 and 1 with three aggregate columns, over a source of three columns, so that column 3 is one of the aggregate's and none
+of its child's; and aggregates by one to eight of eight columns. The answers are those of document 02, P1, read field by field. The cases are written as tools/sample_vectors.py writes them, as calls of the order check.
 """
 import sys
 
@@ -20,7 +20,7 @@ CHANGES = {
     1: [(0, KIND_OR_CHILDREN), (2, KIND_OR_CHILDREN)],
     12: [(0, FIELD), (1, FIELD), (9, FIELD)],  # with 1 the second key's bytes are left over
     13: [(0, FIELD), (1, FIELD), (2, ACCEPTED), (32, ACCEPTED), (33, FIELD)],
-    16: [(1, COLUMN), (2, ACCEPTED), (3, COLUMN), (32, COLUMN)],
+    16: [(1, COLUMN), (2, ACCEPTED), (3, COLUMN), (4, COLUMN), (32, COLUMN)],
     17: [(1, FIELD), (2, FIELD), (4, FIELD)],
     18: [(0, COLUMN), (2, ACCEPTED), (3, COLUMN), (255, COLUMN)],
     19: [(1, FIELD), (2, FIELD), (128, FIELD)],
@@ -38,7 +38,7 @@ def case(number, nodes):
 
 
 def changed(at, value):
-    nodes = plan([0, 1], 3, 3)
+    nodes = plan([0, 1], 5, 3)
     nodes[0][at] = value
     return nodes
 

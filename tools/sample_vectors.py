@@ -3,10 +3,10 @@
 
     tools/sample_vectors.py VECTORS crates/replay/data/cases [all]
 
-VECTORS has one text file for each call, 'rare.txt' and 'p1.txt' (plans with aggregates), two lines for each case: 'CALL SETTINGS OUTLEN FILE [NODE]' and
+VECTORS has one text file for each call, 'rare.txt' and 'p1.txt' (half of its plans have aggregates), two lines for each case: 'CALL SETTINGS OUTLEN FILE [NODE]' and
 'ANSWER', FILE in hex. Taken are, of each call's file, REFUSED evenly spaced refused cases and ACCEPTED evenly spaced accepted ones (CHECKED for the order
-check); of 'rare.txt' RARE evenly spaced for each call; of 'p1.txt' for each call every refused case and ACCEPTED evenly spaced accepted ones; with 'all'
-every case of every file.
+check); of 'rare.txt' RARE evenly spaced for each call; of 'p1.txt' for each call every refused case and ACCEPTED evenly spaced accepted ones that
+have an aggregate; with 'all' every case of every file.
 A case in the sample: a header of 20 bytes, then the file, then the file that the call is to write. The header: the call's place in CALLS; the answer's
 number; the order check's answer, 255 for none; zero; then, two bytes each, little-endian, the lengths of the file, of the answer and of the lent output; the
 three settings; three zeros; the node's number in four bytes.
@@ -18,6 +18,7 @@ ACCEPTED = 40
 CHECKED = 200
 RARE = 40
 REFUSED = 60
+AGGREGATE = 15
 
 
 def cases(path):
@@ -47,6 +48,11 @@ def written(case):
     return bytes([CALLS.index(call), number, passes, 0]) + lengths + marks + bytes(3) + node.to_bytes(4, "little") + data + wanted
 
 
+def has_aggregate(case):
+    blocks = [case[3][at : at + 512] for at in range(0, len(case[3]), 512)]
+    return any(block[at] == AGGREGATE for block in blocks for at in range(8, 8 + 64 * block[4], 64))
+
+
 def chosen(found, refused, accepted):
     return spaced([c for c in found if c[1] != 0], refused) + spaced([c for c in found if c[1] == 0], accepted)
 
@@ -61,7 +67,7 @@ def main(folder, out, whole):
             if not whole:
                 older = chosen(older, REFUSED, CHECKED if call == "check" else ACCEPTED)
                 of_rare = spaced(of_rare, RARE)
-                of_aggregates = chosen(of_aggregates, len(of_aggregates), ACCEPTED)
+                of_aggregates = chosen([c for c in of_aggregates if c[1] != 0 or has_aggregate(c)], len(of_aggregates), ACCEPTED)
             for case in older + of_rare + of_aggregates:
                 if len(case[3]) <= 10240 and case[5] <= 10240:
                     f.write(written(case))

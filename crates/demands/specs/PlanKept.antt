@@ -1,4 +1,4 @@
--- Demand 3, for all trees, joins, limits and fetches included: what each of the four walks keeps of a plan.
+-- Demand 3, for all trees, joins, aggregates, limits and fetches included: what each of the four walks keeps of a plan.
 -- Definitions: Plan, wellFormed (plan); facts (semantics); skel, Added, prune, easing, blank, Live (walks).
 use mathlib.Core.Path.{_≡_, sym, _∙_, subst}
 use mathlib.Core.Bool.{Bool, true, false}

@@ -1,5 +1,5 @@
-// What the walks ask of a node's record (semantics, Properties): its kind, its fields, its partitioning. A match on kinds stands in maintained_orders,
-// node_fetches, wanted_inputs, the facts of a node, child_requirements and node_lines, and nowhere else.
+// What the walks ask of a node's record (semantics, Properties): its kind, its fields, its partitioning. Matches with an arm for each kind stand in
+// row_facts, row_wants, wanted_inputs, maintained_orders, node_fetches, child_requirements and node_lines.
 use byte_rows::wide;
 use key_list_algebra::same_keys;
 use key_lists::Keys;

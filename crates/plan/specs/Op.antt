@@ -1,4 +1,4 @@
--- One node of a plan: its kind with the fields that document 01 gives that kind. These are definitions.
+-- One node of a plan: its kind with the fields that document 01 gives that kind, and 02 an aggregate. These are definitions.
 use mathlib.Core.Bool.{Bool, true, false, cond}
 use mathlib.Core.List.{List, [], _∷_}
 use Prim.Native.Nat.{ℕ, zero, suc}

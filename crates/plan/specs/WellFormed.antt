@@ -65,7 +65,8 @@ fieldsOk (sortMergeJoin t on) = some on
 fieldsOk (hashJoin t on) = some on && every (λ k. plain (k .key)) on
 fieldsOk (outputRequirement ks d f) = few ks && (distributionOk d && fetchOk f)
 fieldsOk (partialSort p ks n f) = (some ks && fetchOk f) && (leb 1 n && ltb n (length ks))
--- 02, P1: "key list = 1 to 8 group columns, options 0, width (byte 13, at least the key count)"
+-- 02, P1: "key list = 1 to 8 group columns, options 0"; 01: "width 1-32". That the width is "at least the key count" is a rule on its byte alone
+-- (plan_format, `widthOk`)
 fieldsOk (aggregate ks n) = (some ks && every plain ks) && leb (length ks + n) 32
 
 -- ---- 4: a child count that the kind can't have

@@ -4,7 +4,7 @@ use Prim.Native.Nat.{ℕ}
 use lib.Dec.{leb, eqb}
 use Rattle.plan_format.specs.declared.Fields.{Fields}
 
--- By the kind's number; the sentences are 01's
+-- By the kind's number; the sentences are 01's, and 02's (P1) for aggregates
 abbrev pub fieldsOf : ℕ → Fields
 fieldsOf k = record {
   -- 'Joins have two children'; '32-39 joins: right key columns'; '14 join type'

@@ -1,4 +1,5 @@
--- The rules of one record of 64 bytes: refusals 4 and 6. These are definitions; the sentences are document 01's.
+-- The rules of one record of 64 bytes: refusals 4 and 6. These are definitions; the sentences are document 01's, and 02's (P1) for
+-- aggregates.
 use mathlib.Core.Bool.{Bool, cond, _&&_, _||_, not}
 use mathlib.Core.List.{List}
 use Prim.Native.Nat.{ℕ, _+_, _*_, _/_, _%_, _^_}

@@ -4,7 +4,7 @@ ghost use Prim.Native.Nat.{_<_, _^_};
 ghost use Rattle.plan_format.specs.Blocks.{recordStart};
 ghost use Rattle.plan_format.specs.Fields.{fieldsOf};
 
-// The fields of a record of some kind, as document 01 lists them; a field that is not there is zero.
+// The fields of a record of some kind, as document 01 lists them, and 02 for aggregates; a field that is not there is zero.
 pub struct Fields {
     // one of the joins, which have two children
     pub join: bool,

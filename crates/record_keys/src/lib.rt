@@ -1,4 +1,4 @@
-// The key lists of a record: the keys with their options, and a join's right columns with the same options.
+// The key lists of a record: the keys with their options, their columns alone, and a join's right columns with the same options.
 use byte_rows::wide;
 use key_lists::Keys;
 use key_lists::keys_of;

@@ -39,7 +39,8 @@ module _ (c o : ℕ) (l : List ℕ) (i : ℕ) where
 
 -- ---- the slots of k keys, n of them used
 
--- the bits that the options of a key may not have: 'hash join and hash repartition keys have options 0'; 'bit 0 descending, bit 1 nulls first'
+-- the bits that the options of a key may not have: 'hash join and hash repartition keys have options 0', and so have group
+-- columns; 'bit 0 descending, bit 1 nulls first'
 abbrev pub noOption : Bool → ℕ
 noOption true = 255
 noOption false = 252

@@ -5,7 +5,7 @@
 --   Marks: PlanContext, transform_up, and the kinds that the walks treat apart. Counted: the walks as they are called, with their refusals.
 -- Terms: the words that the theorems are stated in.
 -- theorems/: for each walk what it keeps and what it makes sure of (common/: what they share; calls/: the calls' answers and refusals).
--- examples/: 01's worked examples (Worked) and plans that pin a branch each (Pinned, PinnedPush), by computation.
+-- examples/: 01's worked examples (Worked), plans that pin a branch each (Pinned, PinnedPush) and aggregates (Aggregates), by computation.
 pub mod Marks
 pub mod Utils
 pub mod OutputRequirements

@@ -179,7 +179,8 @@ handleProjectionPushdown cols parent = goes (λ i. remapRequirementThroughProjec
 
 -- ---- handle_aggregate_pushdown: "rewrites the parent required ordering in terms of the aggregate input if possible"; to the child, if the
 -- aggregate maintains it, every column is a group column, and "input ordering already satisfies the mapped requirement". Grouping sets are
--- left out. groups: for each group column its child column
+-- left out. groups: for each group column its child column. The requirement is mapped as through a projection to them. (Of an empty list the Rust
+-- answers None; pushing asks of none.)
 
 abbrev pub handleAggregatePushdown : Op → List ℕ → List Facts → List Key → Pushed
 handleAggregatePushdown o groups fs parent =

@@ -2,7 +2,7 @@
 use borrow.Author.Needs.{needs}
 use native.Mathlib.Omega.{arith}
 use mathlib.Core.Path.{sym, _∙_}
-use Rattle.plan.specs.declared.Kind.the-variants.{Source, Filter, Projection, Union, Repartition, Coalesce, GlobalLimit, LocalLimit, PartialSort, Aggregate}
+use Rattle.plan.specs.declared.Kind.the-variants.{Source, Filter, Projection, Union, Repartition, Coalesce, GlobalLimit, LocalLimit, PartialSort}
 use Rattle.record_fields.specs.Kinds.{op-of}
 use Rattle.push_requirements.specs.Joins.{hash-room}
 use Rattle.child_requirements.specs.Children.{by-kind, by-sort, by-merge, by-requirement, by-join, by-hash}

@@ -1,7 +1,7 @@
--- `node_properties::maintains` meets its contract. Assumes nothing.
+-- `maintained_orders::maintains` meets its contract. Assumes nothing.
 use borrow.Author.Needs.{needs}
 use mathlib.Core.Path.{refl, sym, ap, _∙_}
-use Rattle.plan.specs.declared.Kind.the-variants.{Source, Filter, Projection, Coalesce, Sort, Merge, GlobalLimit, LocalLimit, SortMergeJoin, HashJoin, OutputRequirement, PartialSort, Aggregate}
+use Rattle.plan.specs.declared.Kind.the-variants.{Source, Filter, Projection, Coalesce, Sort, Merge, GlobalLimit, LocalLimit, SortMergeJoin, HashJoin, OutputRequirement, PartialSort}
 use Rattle.semantics.specs.Facts.{smjKept, hashKept}
 use Rattle.semantics.specs.Properties.{maintains, keptSide}
 use Rattle.asked_facts.specs.Asked.{told}

@@ -1,9 +1,9 @@
 -- `moved_requirements::at_child_columns` meets its contract. Assumes nothing.
 use borrow.Author.Needs.{needs}
 use native.Mathlib.Omega.{arith}
-use mathlib.Core.Path.{_≡_, ap, _∙_}
-use mathlib.Core.List.{List, map}
-use Prim.Native.Nat.{ℕ, _+_, _≤_}
+use mathlib.Core.Path.{ap, _∙_}
+use mathlib.Core.List.{map}
+use Prim.Native.Nat.{_+_, _≤_}
 use lib.ListN.{getD}
 use Rattle.key_lists.specs.Keys.{keysIn, keysOf, Tight}
 use Rattle.key_lists.specs.Lists.{begun, no-length, built, rebuilt, map-end, Building}

@@ -1,6 +1,5 @@
 -- `record_keys::key_columns` meets its contract. Assumes nothing.
 use borrow.Author.Needs.{needs}
-use native.Mathlib.Omega.{arith}
 use mathlib.Core.List.{[], _∷_}
 use Rattle.record_keys.proofs.key_columns.Statement.{statement}
 use Rattle.record_keys.proofs.key_columns.Tie as tie

@@ -5,7 +5,7 @@ use mathlib.Core.Bool.{cond}
 use mathlib.Core.List.{[]}
 use lib.ListN.{getD, drop}
 use Rattle.row_order.specs.Packed.{bit}
-use Rattle.plan.specs.declared.Kind.the-variants.{Filter, Projection, Coalesce, Sort, Merge, GlobalLimit, LocalLimit, SortMergeJoin, HashJoin, OutputRequirement, PartialSort, Aggregate}
+use Rattle.plan.specs.declared.Kind.the-variants.{Filter, Projection, Coalesce, Sort, Merge, GlobalLimit, LocalLimit, SortMergeJoin, HashJoin, OutputRequirement, PartialSort}
 use Rattle.semantics.specs.Facts as sem
 use Rattle.plan_codec.specs.Decode.{decode}
 use Rattle.facts.specs.Known.{known, Says}

@@ -3,7 +3,6 @@ use mathlib.Core.Path.{_≡_, refl}
 use mathlib.Core.Bool.{true, false}
 use mathlib.Core.List.{List, [], _∷_, map}
 use Prim.Native.Nat.{ℕ}
-use Rattle.row_order.specs.Iso.{Key}
 use Rattle.plan.specs.Forest.{none, tree}
 use Rattle.plan.specs.Op.{projection, sortOp, aggregate, Plan}
 use Rattle.plan.specs.Samples.{up, by, sourceOf}

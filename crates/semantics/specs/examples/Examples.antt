@@ -2,7 +2,7 @@
 -- streams, cuts, which kinds let a limit pass or keep the number of rows, whose order a node maintains, wanted orders, boundedness, and
 -- distributions.
 use mathlib.Core.Path.{_≡_, refl}
-use mathlib.Core.Bool.{Bool, true, false, _||_}
+use mathlib.Core.Bool.{Bool, true, false}
 use mathlib.Core.List.{List, [], _∷_, map}
 use Prim.Native.Nat.{ℕ}
 use lib.IntN.{pos}
@@ -19,7 +19,7 @@ use Rattle.semantics.specs.Properties.{wanted, cuts, maintains, supports
 use Rattle.semantics.specs.Check.{check}
 use Rattle.semantics.specs.Joins.{sql}
 use Rattle.semantics.specs.Runs.{cutRows, zipLeft, zipRight}
-use Rattle.semantics.specs.Bags.{isJoin, isAggregate}
+use Rattle.semantics.specs.Bags.{simpleOp}
 use Rattle.semantics.specs.examples.SampleRows.{row, pair}
 
 abbrev byFirst : List On
@@ -83,10 +83,9 @@ two = row 1 ∷ row 2 ∷ []
 pub cut-nothing : map (λ o. cutRows (cuts o) two) kinds ≡ two ∷ two ∷ two ∷ two ∷ two ∷ two ∷ two ∷ two ∷ two ∷ (row 1 ∷ []) ∷ two ∷ two ∷ two ∷ two ∷ two ∷ []
 cut-nothing = refl
 
--- whose rows are not promised, whatever they cut: the two joins' and an aggregate's
-pub no-bag : map (λ o. isJoin o || isAggregate o) kinds ≡ false ∷ false ∷ false ∷ false ∷ false ∷ false ∷ false ∷ false ∷ false ∷ false ∷ true ∷ true
-    ∷ false ∷ false ∷ true ∷ []
-no-bag = refl
+-- of which the theorem on rows speaks: of all but the local limit with its fetch, the two joins and the aggregate
+pub simple-kinds : map simpleOp kinds ≡ true ∷ true ∷ true ∷ true ∷ true ∷ true ∷ true ∷ true ∷ true ∷ false ∷ false ∷ false ∷ true ∷ true ∷ false ∷ []
+simple-kinds = refl
 
 -- who lets a limit pass: projection, union, coalesce, merge and limits
 pub limit-pushdown : map supportsLimitPushdown kinds ≡ false ∷ false ∷ true ∷ true ∷ false ∷ true ∷ false ∷ true ∷ true ∷ true ∷ false ∷ false ∷ false

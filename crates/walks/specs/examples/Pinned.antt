@@ -8,7 +8,7 @@ use mathlib.Core.List.{[], _∷_}
 use Prim.Native.Nat.{ℕ}
 use Rattle.row_order.specs.Iso.{Key}
 use Rattle.plan.specs.Forest.{none, size, tree}
-use Rattle.plan.specs.Op.{coalesce, filter, hashJoin, localLimit, mergeOp, Op, outputRequirement, partialSort, aggregate, Plan, projection, repartition, sortOp}
+use Rattle.plan.specs.Op.{coalesce, filter, hashJoin, localLimit, mergeOp, Op, outputRequirement, partialSort, Plan, projection, repartition, sortOp}
 use Rattle.plan.specs.Samples.{by, sourceOf, up}
 use Rattle.plan.specs.WellFormed.{wellFormed}
 use Rattle.plan.specs.declared.Distribution.the-variants.{Single, Unspecified}
@@ -275,6 +275,7 @@ pub partial-keys-together :
     ≡ refused AllKeysMet
 partial-keys-together = refl
 
--- ---- the theorem on rows is of some tree
-pub clear-some : clear (sort 0 (on (coalesce Unlimited) (on filter (src 2 [])))) ≡ true
+-- ---- the theorem on rows is of some tree, and of one with each kind that it may have: the partial sort aside, which no walk takes
+pub clear-some : clear (output (by 0) (on (mergeOp (by 0) Unlimited) (sortEach 0 (on (repartition true 2 false []) (sort 0 (on (coalesce Unlimited)
+    (on filter (besides (on (projection (0 ∷ [])) (src 2 [])) (on (projection (1 ∷ [])) (src 2 [])))))))))) ≡ true
 clear-some = refl

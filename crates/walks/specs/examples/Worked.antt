@@ -6,7 +6,7 @@ use Prim.Native.Nat.{ℕ, zero, suc, _^_}
 use Rattle.row_order.specs.Iso.{Key}
 use Rattle.row_order.specs.Lists.{tab}
 use Rattle.plan.specs.Forest.{none, size, tree}
-use Rattle.plan.specs.Op.{coalesce, filter, globalLimit, hashJoin, mergeOp, outputRequirement, partialSort, aggregate, Plan, projection, repartition, sortMergeJoin, sortOp}
+use Rattle.plan.specs.Op.{coalesce, filter, globalLimit, hashJoin, mergeOp, outputRequirement, partialSort, Plan, projection, repartition, sortMergeJoin, sortOp}
 use Rattle.plan.specs.Samples.{by, sourceOf, up}
 use Rattle.plan.specs.WellFormed.{width}
 use Rattle.plan.specs.declared.Distribution.the-variants.{Keyed, Single, Unspecified}

@@ -1,9 +1,9 @@
 -- `record_parts::bodies::aggregate` meets its contract. Assumes nothing.
 use borrow.Author.Needs.{needs}
 use Prim.Native.Nat.{ℕ}
-use mathlib.Core.Path.{ap, ap₂, _∙_}
-use mathlib.Core.Bool.{Bool, _&&_, _||_, not}
-use lib.Dec.{eqb, leb, ltb}
+use mathlib.Core.Path.{ap, _∙_}
+use mathlib.Core.Bool.{_&&_}
+use lib.Dec.{eqb, leb}
 use lib.ListN.{getD}
 use Rattle.record_parts.specs.Kinds.{body-aggregate}
 use Rattle.record_parts.proofs.bodies.aggregate.Statement.{statement}

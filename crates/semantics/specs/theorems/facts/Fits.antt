@@ -6,7 +6,7 @@ use Prim.Native.Nat.{ℕ, zero, suc, _+_, _<_}
 use native.Mathlib.Omega.{arith}
 use borrow.Author.Tests.{ltb-true, lt-ltb}
 use lib.Dec.{eqb, ltb}
-use lib.ListN.{length, getD, length-map}
+use lib.ListN.{getD, length-map}
 use Rattle.row_order.specs.Iso.{Key}
 use Rattle.row_order.specs.Lists.{All, all-nil, all-cons, all-head, all-tail, all-map, all-over}
 use Rattle.plan.specs.Forest.{none, tree}
@@ -14,7 +14,7 @@ use Rattle.plan.specs.Op.{On, Op, source, filter, projection, union, repartitio
 use Rattle.plan.specs.WellFormed.{joinWidth, width, widths, below, keysFit, columnsOk, nodesOk, columnsOf}
 use Rattle.plan.specs.declared.JoinType.{JoinType}
 use Rattle.plan.specs.declared.JoinType.the-variants.{Inner, Left, Right, Full, LeftSemi, LeftAnti, RightSemi, RightAnti}
-use Rattle.semantics.specs.Facts.{Facts, cl, isC, withColumn, nf, eqKey, common, nothing, sourceFacts, unionFacts, carried, projOrder, keepsOrder, Kept, kLeft, kRight, kNone, smjKept, hashKept, byRight, beside, linked, linkAll, joinBase, within, moved, leftOrder, rightOrder, joinOrder, joinFacts, at0, at1, factsOp, facts}
+use Rattle.semantics.specs.Facts.{Facts, cl, isC, nf, eqKey, common, nothing, sourceFacts, unionFacts, keepsOrder, Kept, kLeft, kRight, kNone, smjKept, hashKept, byRight, beside, linked, linkAll, joinBase, within, moved, leftOrder, rightOrder, joinOrder, joinFacts, at0, at1, factsOp, facts}
 use Rattle.semantics.specs.Canonical.{Classes, Canon}
 use Rattle.semantics.specs.theorems.common.Bools.{and-left, and-right}
 use Rattle.semantics.specs.theorems.orders.NormalForms.{nf-all}

@@ -6,12 +6,11 @@ use mathlib.Core.Bool.{Bool, true, false, cond, not, _&&_, _||_}
 use mathlib.Core.List.{List, [], _∷_, _++_}
 use mathlib.Core.List.{List·Memᴰ as Mem, List·Memᴰ·head as here, List·Memᴰ·tail as there}
 use Prim.Native.Nat.{ℕ}
-use native.Mathlib.Omega.{arith}
 use lib.IntN.{pos}
 use lib.ListN.{length}
 use Rattle.row_order.specs.Iso.{Cell, null, num, Row, Key, cell, peers}
 use Rattle.row_order.specs.Order.{leK, no-bool, peers-is, leK-anti, agree}
-use Rattle.row_order.specs.Lists.{all-map, Pw, pw-nil, pw-cons}
+use Rattle.row_order.specs.Lists.{All, all-nil, all-cons, all-map, Pw, pw-nil, pw-cons}
 use Rattle.plan.specs.Forest.{Forest, roots}
 use Rattle.plan.specs.Op.{aggregate}
 use Rattle.plan.specs.Samples.{by}
@@ -119,8 +118,9 @@ begins-next ks (x ∷ l) y =
 from-has : (E : Env) (ks : List Key) (s : Streams) → Has E 0 s → (j : ℕ) (cs : Forest Streams) → Run E 0 j (from (length s) ks) cs → roots cs ≡ s ∷ []
 from-has E ks s h j cs (run-tree st run-none run-none) = ap (λ (x : Streams). x ∷ []) (st .is ∙ map-id _ (λ l. refl) (st .raw) ∙ st .made ∙ h)
 
--- ---- groups of each stream, nulls in one group, no group of an empty stream, cells of any value: three streams, grouped by the first column
-module _ (E : Env) (a b c d e f : Cell) where
+-- ---- groups of each stream, nulls in one group, no group of an empty stream, n cells of any value: three streams, whatever order they are declared
+-- to have, grouped by the first column
+module _ (E : Env) (ls : List Key) (n : ℕ) (a b c d e f : Cell) where
   abbrev one : Cell
   one = num (pos 1)
 
@@ -130,45 +130,46 @@ module _ (E : Env) (a b c d e f : Cell) where
   abbrev ins : Streams
   ins = (pair two a ∷ pair null b ∷ pair one c ∷ pair null d ∷ pair two e ∷ []) ∷ (pair one f ∷ []) ∷ [] ∷ []
 
-  abbrev outs : Cell → Cell → Cell → Cell → Streams
-  outs x y z w = (pair two x ∷ pair null y ∷ pair one z ∷ []) ∷ (pair one w ∷ []) ∷ [] ∷ []
+  -- x, y, z, w: the aggregate cells of the four groups
+  abbrev outs : Row → Row → Row → Row → Streams
+  outs x y z w = ((two ∷ x) ∷ (null ∷ y) ∷ (one ∷ z) ∷ []) ∷ ((one ∷ w) ∷ []) ∷ [] ∷ []
 
-  pub groups-any : Has E 0 ins → (x y z w : Cell) → Run E 0 0 (over (aggregate (by 0) 1) 3 []) (gives (outs x y z w) ins)
-  groups-any h x y z w = over-run E (aggregate (by 0) 1) [] ins (outs x y z w) h refl (λ l. refl)
-      (each-cons (each-cons (row x) (each-cons (row y) (each-cons (row z) each-nil))) (each-cons (each-cons (row w) each-nil) (each-cons each-nil each-nil)))
+  pub groups-any : Has E 0 ins → (x y z w : Row) → length x ≡ n → length y ≡ n → length z ≡ n → length w ≡ n →
+      Run E 0 0 (over (aggregate (by 0) n) 3 ls) (gives (outs x y z w) ins)
+  groups-any h x y z w ex ey ez ew = over-run E (aggregate (by 0) n) ls ins (outs x y z w) h refl (λ l. refl)
+      (each-cons (each-cons (row x ex) (each-cons (row y ey) (each-cons (row z ez) each-nil))) (each-cons (each-cons (row w ew) each-nil)
+      (each-cons each-nil each-nil)))
     where
-      row : {r : Row} (x : Cell) → GroupRow (by 0) 1 r (cell r 0 ∷ x ∷ [])
-      row x = record { cells = x ∷ []; many = refl; is = refl }
+      row : {r : Row} (x : Row) → length x ≡ n → GroupRow (by 0) n r (cell r 0 ∷ x)
+      row x ex = record { cells = x; many = ex; is = refl }
 
   abbrev Only : Streams → Type 0
-  Only s = (x : Cell) × (y : Cell) × (z : Cell) × (w : Cell) × (s ≡ outs x y z w)
+  Only s = (x : Row) × (y : Row) × (z : Row) × (w : Row) × (s ≡ outs x y z w) × All (λ cells. length cells ≡ n) (x ∷ y ∷ z ∷ w ∷ [])
 
-  pub groups-only : Has E 0 ins → (out : Forest Streams) → Run E 0 0 (over (aggregate (by 0) 1) 3 []) out → (s : Streams) × (roots out ≡ s ∷ []) × Only s
-  groups-only h = over-made E (aggregate (by 0) 1) (from 3 []) (ins ∷ []) refl (from-has E [] ins h) (λ l. refl) Only only
+  pub groups-only : Has E 0 ins → (out : Forest Streams) → Run E 0 0 (over (aggregate (by 0) n) 3 ls) out → (s : Streams) × (roots out ≡ s ∷ []) × Only s
+  groups-only h = over-made E (aggregate (by 0) n) (from 3 ls) (ins ∷ []) refl (from-has E ls ins h) (λ l. refl) Only only
     where
-      one-cell : (l : Row) → length l ≡ 1 → (x : Cell) × (l ≡ x ∷ [])
-      one-cell [] e = absurd (omega arith)
-      one-cell (x ∷ []) e = (x, refl)
-      one-cell (x ∷ y ∷ l) e = absurd (omega arith)
-
-      is-pair : (u : Cell) {r : Row} → cell r 0 ≡ u → {y : Row} → GroupRow (by 0) 1 r y → (x : Cell) × (y ≡ pair u x)
-      is-pair u q g = let c = one-cell (g .cells) (g .many) in (c .0, g .is ∙ ap₂ _∷_ q (c .1))
-
       -- the rows of some groups, the first of which begins with r
-      next : (u : Cell) {r : Row} → cell r 0 ≡ u → {rs t : List Row} → Each (GroupRow (by 0) 1) (r ∷ rs) t →
-          (x : Cell) × (ts : List Row) × (t ≡ pair u x ∷ ts) × Each (GroupRow (by 0) 1) rs ts
-      next u e (each-cons {m = ts} g h) = let p = is-pair u e g in (p .0, ts, ap (λ (a : Row). a ∷ ts) (p .1), h)
+      next : (u : Cell) {r : Row} → cell r 0 ≡ u → {rs t : List Row} → Each (GroupRow (by 0) n) (r ∷ rs) t →
+          (x : Row) × (ts : List Row) × (t ≡ (u ∷ x) ∷ ts) × Each (GroupRow (by 0) n) rs ts × (length x ≡ n)
+      next u e (each-cons {m = ts} g h) = (g .cells, ts, ap (λ (a : Row). a ∷ ts) (g .is ∙ ap (λ (v : Cell). v ∷ g .cells) e), h, g .many)
 
-      none : {t : List Row} → Each (GroupRow (by 0) 1) [] t → t ≡ []
+      none : {t : List Row} → Each (GroupRow (by 0) n) [] t → t ≡ []
       none each-nil = refl
 
-      only : (raw : Streams) → Each (Grouping (by 0) 1) ins raw → Only raw
+      only : (raw : Streams) → Each (Grouping (by 0) n) ins raw → Only raw
       only raw (each-cons g (each-cons h (each-cons k each-nil))) =
           let p = next two refl g in
           let q = next null refl (p .3) in
           let r = next one refl (q .3) in
           let s = next one refl h in
-          let first = p .2 ∙ ap (λ (l : List Row). pair two (p .0) ∷ l) (q .2 ∙ ap (λ (l : List Row). pair null (q .0) ∷ l)
-          (r .2 ∙ ap (λ (l : List Row). pair one (r .0) ∷ l) (none (r .3)))) in
-          let second = s .2 ∙ ap (λ (l : List Row). pair one (s .0) ∷ l) (none (s .3)) in
-          (p .0, q .0, r .0, s .0, ap₂ (λ (s : List Row) (m : Streams). s ∷ m) first (ap₂ (λ (s t : List Row). s ∷ t ∷ []) second (none k)))
+          let first = p .2 ∙ ap (λ (l : List Row). (two ∷ p .0) ∷ l) (q .2 ∙ ap (λ (l : List Row). (null ∷ q .0) ∷ l)
+          (r .2 ∙ ap (λ (l : List Row). (one ∷ r .0) ∷ l) (none (r .3)))) in
+          let second = s .2 ∙ ap (λ (l : List Row). (one ∷ s .0) ∷ l) (none (s .3)) in (
+            p .0,
+            q .0,
+            r .0,
+            s .0,
+            ap₂ (λ (s : List Row) (m : Streams). s ∷ m) first (ap₂ (λ (s t : List Row). s ∷ t ∷ []) second (none k)),
+            all-cons (p .4) (all-cons (q .4) (all-cons (r .4) (all-cons (s .4) all-nil))),
+          )

@@ -1,7 +1,7 @@
 -- Runs are not narrower than 01 leaves them, shown for a node over a source of any number of streams: a coalesce and a global limit take
 -- any interleaving, a merge any that is in order, an unmarked repartition any split, a marked one any that is in order, a sort any
 -- ordered permutation, of all rows or of each stream; a join has a kept row's matches in any order, or all rows where no side is kept;
--- and sources and filters are numbered in node order.
+-- an aggregate any rows that its definition allows (what these are is told in Groups); and sources and filters are numbered in node order.
 use mathlib.Core.Path.{_≡_, refl, sym, ap, ap₂, _∙_}
 use mathlib.Core.Bool.{Bool, true, false}
 use mathlib.Core.List.{List, [], _∷_, _++_, map}

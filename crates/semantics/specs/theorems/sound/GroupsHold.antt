@@ -1,7 +1,7 @@
 -- The facts of an aggregate hold of what it makes: its rows are those of a projection of some rows of its stream, in their order there, before
 -- cells of which nothing is known. Assumes nothing.
-use mathlib.Core.Path.{_≡_, refl, sym, ap, ap₂, _∙_, subst, subst₂}
-use mathlib.Core.Bool.{Bool, true, not}
+use mathlib.Core.Path.{_≡_, refl, sym, ap, _∙_, subst, subst₂}
+use mathlib.Core.Bool.{true, not}
 use mathlib.Core.List.{List, [], _∷_, _++_}
 use Prim.Native.Nat.{ℕ, _≤_}
 use lib.ListN.{length, getD}
@@ -10,7 +10,7 @@ use Rattle.row_order.specs.Order.{le}
 use Rattle.row_order.specs.Lists.{All, all-nil, all-cons, all-zip, Pw, pw-nil, pw-cons, pw-map, tab}
 use Rattle.row_order.specs.Sorting.{Sorted}
 use Rattle.plan.specs.WellFormed.{columnsOf}
-use Rattle.semantics.specs.Facts.{Facts, cl, projOrder, projFacts, placed, within}
+use Rattle.semantics.specs.Facts.{Facts, cl, projOrder, projFacts, placed}
 use Rattle.semantics.specs.Joins.{joinRow}
 use Rattle.semantics.specs.Runs.{Streams, Each, proj, oneGroup, begins, GroupRow, Grouping}
 use Rattle.semantics.specs.Holds.{RowOK, Holds}

@@ -1,4 +1,4 @@
--- The rows of a plan without joins that cuts nothing off are those of its skeleton without limits. So a rewrite that keeps the skeleton
+-- The rows of a plan without joins and aggregates that cuts nothing off are those of its skeleton without limits. So a rewrite that keeps the skeleton
 -- delivers the same rows, however the sources' rows are spread over their streams: `same-plan-rows`.
 use mathlib.Core.Path.{_≡_, refl, sym, ap, ap₂, _∙_, subst}
 use mathlib.Core.Bool.{Bool, true, false, cond}
