@@ -7,7 +7,7 @@ use mathlib.Core.Bool.{Bool, true, false, cond}
 use mathlib.Core.List.{List}
 use Prim.Native.Nat.{ℕ}
 use native.Mathlib.Omega.{arith}
-use borrow.Author.Tests.{eq-eqb}
+use borrow.Author.Tests.{eq-eqb, eqb-true}
 use lib.Dec.{eqb}
 use Rattle.plan.specs.Forest.{Forest}
 use Rattle.plan.specs.Op.{Plan}
@@ -21,7 +21,7 @@ use Rattle.plan_codec.specs.RoundTrip.{read-well-formed}
 use Rattle.semantics.specs.Check.{check, EachMet}
 use Rattle.semantics.specs.theorems.check.CheckIsMet.{check-met, met-check}
 use Rattle.semantics.specs.Runs.{Env, Run, Sources, Streams}
-use Rattle.call_answers.specs.Answers.{checkAnswer}
+use Rattle.call_answers.specs.Answers.{afterReading, checkAnswer, checks, passesIn}
 use Rattle.demands.specs.OrderKept.{AllFed, order-kept}
 
 -- No run of a plan, over rows that keep its declared facts, feeds an operator out of order
@@ -42,6 +42,10 @@ is-plan s z = ap (λ b. cond b (plan (planOf s)) (refused (refusalOf s))) (eq-eq
 is-answer : (f : Plan) (p : ℕ) → checkAnswer (plan f) p ≡ oneIf (check f)
 unfolding checkAnswer
 is-answer f p = refl
+
+is-told : (b : Bool) → eqb (oneIf b) 1 ≡ b
+is-told true = refl
+is-told false = refl
 
 is-one : (b : Bool) → oneIf b ≡ 1 → b ≡ true
 is-one true e = refl
@@ -65,3 +69,16 @@ module _ (s : List ℕ) (answer before after : ℕ) (bytes : AllBytes s)
 
   pub met-writes-one : answer ≡ 0 → (f : Plan) → reading s ≡ plan f → EachMet f → after ≡ 1
   met-writes-one z f r m = second ∙ ap (λ a. checkAnswer a before) r ∙ is-answer f before ∙ ap oneIf (met-check m)
+
+  -- By number and lent number one can tell whether the bytes hold a plan that passes, and nothing else
+  pub told : answer ≡ 0 → eqb after 1 ≡ passesIn (afterReading (λ f. checks (check f)) (reading s))
+  told z = ap (λ n. eqb n 1) (writes z) ∙ is-told (check (planOf s)) ∙ sym (ap (λ a. passesIn (afterReading (λ f. checks (check f)) a)) (is-plan s (sym first ∙ z)))
+
+  pub told-refused : (answer ≡ 0 → ⊥) → false ≡ passesIn (afterReading (λ f. checks (check f)) (reading s))
+  unfolding reading
+  told-refused z = go (eqb (numberOf (refusalOf s)) 0) refl
+    where
+      go : (b : Bool) → eqb (numberOf (refusalOf s)) 0 ≡ b
+          → false ≡ passesIn (afterReading (λ f. checks (check f)) (cond b (plan (planOf s)) (refused (refusalOf s))))
+      go true e = absurd (z (first ∙ eqb-true (numberOf (refusalOf s)) 0 e))
+      go false e = refl

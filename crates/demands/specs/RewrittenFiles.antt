@@ -1,4 +1,4 @@
--- From bytes to bytes: what each of the four exports that walk writes, where it answers 0, is a plan file of a plan that the walk answers. Said
+-- From bytes to bytes: what each of the five exports that rewrite writes, where it answers 0, is a plan file of a plan that the rewrite answers. Said
 -- over the definitions that the contracts of the exports cite: `rewrites`, `refusalIn`, `outputIn` (sort_placement).
 -- Definitions further: reading, written (plan_codec); wellFormed (plan); AllBytes (plan_roundtrip); answer (Walks); FeedsInOrder (CheckedFiles);
 -- clear (walks); SameInputs, Run (semantics); delivered, times (RowsKept).
@@ -12,7 +12,7 @@ use lib.Dec.{eqb}
 use lib.ListN.{length, take, drop}
 use lib.Seq.{take-append-le, take-length}
 use Rattle.row_order.specs.Iso.{Row}
-use Rattle.plan.specs.Forest.{Forest}
+use Rattle.plan.specs.Forest.{Forest, none, tree}
 use Rattle.plan.specs.Op.{Plan}
 use Rattle.plan.specs.Numbers.{numberOf}
 use Rattle.plan.specs.WellFormed.{every, wellFormed}
@@ -30,13 +30,16 @@ use Rattle.walks.specs.EnsureSorting.{ensureSorting}
 use Rattle.walks.specs.ParallelizeSorts.{parallelizeSorts}
 use Rattle.walks.specs.OrderPreserving.{replaceWithOrderPreservingVariants}
 use Rattle.walks.specs.PushdownSorts.{atRoot, push}
-use Rattle.walks.specs.Counted.{Answer, answered, hasPartialSort, refused}
+use Rattle.walks.specs.PartialSort.{becomes, fromNode, pastTheEnd, Replaced, replaceWithPartialSort}
+use Rattle.walks.specs.Counted.{Answer, answered, hasPartialSort, partialAnswer, partialAt, partiallySorted, refused}
 use Rattle.walks.specs.Terms.{answerDown, answerUp, clear, hasConstantSort, sizesDown, sizesUp, small}
 use Rattle.walks.specs.theorems.calls.Answers.{ensured-is, parallelized-is, preserved-is, pushed-is, well-fit}
+use Rattle.walks.specs.theorems.partial_sort.Kept.{partial-sources, partial-well}
 use Rattle.call_answers.specs.Answers.{afterReading, outputIn, refusalIn, rewrites, rewritten, tooShort}
-use Rattle.demands.specs.OrderKept.{AllFed}
+use Rattle.demands.specs.OrderKept.{AllFed, order-kept}
 use Rattle.demands.specs.Walks.{answer, ensuring, parallelizing, preserving, pushing, Walk}
 use Rattle.demands.specs.PlanKept.{well-formed-again}
+use Rattle.demands.specs.ChecksKept.{partial-sort-passes}
 use Rattle.demands.specs.RowsKept.{delivered, rows-kept, times}
 use Rattle.demands.specs.EnsurePasses.{ensure-feeds, ensure-passes}
 
@@ -70,70 +73,78 @@ answer-numbered parallelizing f e = subst Numbered (sym (parallelized-is f)) (up
 answer-numbered (preserving s) f e = subst Numbered (sym (preserved-is s f)) (up-of (replaceWithOrderPreservingVariants s) f)
 answer-numbered pushing f e = subst Numbered (sym (pushed-is f (well-fit f e))) (down-of f)
 
--- ---- where an export answers 0: the plan that it was given, the plan that the walk answers, and how long its file is
+-- nor does partial sorting
+partial-numbered : (n : ℕ) (f h : Plan) → Numbered (partialAt n f h)
+partial-numbered n f none = λ e. omega arith
+partial-numbered n f (tree o c r) = go (replaceWithPartialSort o c)
+  where
+    go : (x : Replaced) → Numbered (partialAnswer n f x)
+    go pastTheEnd = λ e. omega arith
+    go (becomes p) = tt
 
-pub record Rewriting (w : Walk) (s out : List ℕ) : Type 0 where
+-- ---- where an export answers 0: the plan that it was given, the plan that the rewrite g answers, and how long its file is
+
+pub record Rewriting (g : Plan → Answer) (s out : List ℕ) : Type 0 where
   pub given : Plan
   pub made : Plan
   pub long : ℕ
   pub read : reading s ≡ plan given
   pub formed : wellFormed given ≡ true
-  pub answers : answer w given ≡ answered made
+  pub answers : g given ≡ answered made
   pub again : reading (take long out) ≡ plan made
 
--- What the walk w's export is given and what it leaves, by its contract: the file, its answer, the output before and after
-module _ (w : Walk) (s out : List ℕ) (bytes : AllBytes s) where
+-- Of a rewrite that refuses with no 0 and answers well-formed plans
+module _ (g : Plan → Answer) (numbered : (f : Plan) → wellFormed f ≡ true → Numbered (g f))
+    (well : (f h : Plan) → wellFormed f ≡ true → g f ≡ answered h → wellFormed h ≡ true) (s out : List ℕ) (bytes : AllBytes s) (n : ℕ) (out' : List ℕ)
+    (z : n ≡ 0) where
   -- by what was read
-  read-as : (n : ℕ) (out' : List ℕ) → n ≡ 0 → (b : Bool) → eqb (numberOf (refusalOf s)) 0 ≡ b → reading s ≡ cond b (plan (planOf s))
-      (codec.refused (refusalOf s))
-      → n ≡ numberOf (refusalIn (rewrites (answer w) s) out) → out' ≡ outputIn (rewrites (answer w) s) out → Rewriting w s out'
-  read-as n out' z false q r first second =
-      absurd (eqb-false (numberOf (refusalOf s)) 0 q (sym (ap (λ x. numberOf (refusalIn (afterReading (λ f. rewritten (answer w f)) x) out)) r) ∙ sym first
-      ∙ z))
-  read-as n out' z true q r first second =
-      walked (answer w (planOf s)) refl
-      (first ∙ ap (λ x. numberOf (refusalIn (afterReading (λ f. rewritten (answer w f)) x) out)) r)
-      (second ∙ ap (λ x. outputIn (afterReading (λ f. rewritten (answer w f)) x) out) r)
+  read-as : (b : Bool) → eqb (numberOf (refusalOf s)) 0 ≡ b → reading s ≡ cond b (plan (planOf s)) (codec.refused (refusalOf s))
+      → n ≡ numberOf (refusalIn (rewrites g s) out) → out' ≡ outputIn (rewrites g s) out → Rewriting g s out'
+  read-as false q r first second =
+      absurd (eqb-false (numberOf (refusalOf s)) 0 q (sym (ap (λ x. numberOf (refusalIn (afterReading (λ f. rewritten (g f)) x) out)) r) ∙ sym first ∙ z))
+  read-as true q r first second =
+      walked (g (planOf s)) refl
+      (first ∙ ap (λ x. numberOf (refusalIn (afterReading (λ f. rewritten (g f)) x) out)) r)
+      (second ∙ ap (λ x. outputIn (afterReading (λ f. rewritten (g f)) x) out) r)
     where
-      f : Plan
-      f = planOf s
-
       fine : wellFormed (planOf s) ≡ true
       fine = read-well-formed s (planOf s) bytes r
 
       -- by the room in the output
-      short : (g : Plan) → answer w (planOf s) ≡ answered g → (b : Bool) → n ≡ numberOf (cond b OutputTooShort Accepted)
-          → out' ≡ cond b out (fileOfPlan g ++ drop (length (fileOfPlan g)) out) → Rewriting w s out'
-      short g e true first second = absurd (let y : 0 ≡ 24 = sym z ∙ first in omega arith)
-      short g e false first second =
+      short : (h : Plan) → g (planOf s) ≡ answered h → (b : Bool) → n ≡ numberOf (cond b OutputTooShort Accepted)
+          → out' ≡ cond b out (fileOfPlan h ++ drop (length (fileOfPlan h)) out) → Rewriting g s out'
+      short h e true first second = absurd (let y : 0 ≡ 24 = sym z ∙ first in omega arith)
+      short h e false first second =
           record {
             given = planOf s;
-            made = g;
-            long = length (fileOfPlan g);
+            made = h;
+            long = length (fileOfPlan h);
             read = r;
             formed = fine;
             answers = e;
-            again = ap (λ x. reading (take (length (fileOfPlan g)) x)) second
-                ∙ ap reading (take-append-le (length (fileOfPlan g)) (fileOfPlan g) (drop (length (fileOfPlan g)) out) (omega arith)
-                ∙ take-length (fileOfPlan g)) ∙ read-written g (well-formed-again w (planOf s) g fine e);
+            again = ap (λ x. reading (take (length (fileOfPlan h)) x)) second
+                ∙ ap reading (take-append-le (length (fileOfPlan h)) (fileOfPlan h) (drop (length (fileOfPlan h)) out) (omega arith)
+                ∙ take-length (fileOfPlan h)) ∙ read-written h (well (planOf s) h fine e);
           }
 
-      -- by the walk's answer
-      walked : (a : Answer) → answer w (planOf s) ≡ a → n ≡ numberOf (refusalIn (rewritten a) out) → out' ≡ outputIn (rewritten a) out → Rewriting w s out'
-      walked (refused x) e first second = absurd ((subst Numbered e (answer-numbered w (planOf s) fine)) (sym first ∙ z))
-      walked (answered g) e first second = short g e (tooShort g out) first second
+      -- by the rewrite's answer
+      walked : (a : Answer) → g (planOf s) ≡ a → n ≡ numberOf (refusalIn (rewritten a) out) → out' ≡ outputIn (rewritten a) out → Rewriting g s out'
+      walked (refused x) e first second = absurd ((subst Numbered e (numbered (planOf s) fine)) (sym first ∙ z))
+      walked (answered h) e first second = short h e (tooShort h out) first second
 
-  module _ (n : ℕ) (out' : List ℕ) (first : n ≡ numberOf (refusalIn (rewrites (answer w) s) out))
-      (second : out' ≡ outputIn (rewrites (answer w) s) out) where
-    pub rewriting : n ≡ 0 → Rewriting w s out'
-    unfolding reading
-    rewriting z = read-as n out' z (eqb (numberOf (refusalOf s)) 0) refl refl first second
+-- ---- the walk w's export, by its contract: the file, its answer, the output before and after
 
-    -- Where the given tree has no join, aggregate, limit or fetch, every run of the plan read from the output delivers the rows of every run of the plan given
-    pub rewritten-rows : (z : n ≡ 0) → let r = rewriting z in clear (r .given) ≡ true → (E E′ : Env) → SameInputs E E′ (r .given) → (a b : Forest Streams)
-        → Run E 0 0 (r .given) a → Run E′ 0 0 (r .made) b
-        → (x : Row) → times x (delivered a) ≡ times x (delivered b)
-    rewritten-rows z c E E′ d a b x y t = let r = rewriting z in rows-kept w (r .given) (r .made) (r .formed) c (r .answers) E E′ d a b x y t
+module _ (w : Walk) (s out : List ℕ) (bytes : AllBytes s) (n : ℕ) (out' : List ℕ) (first : n ≡ numberOf (refusalIn (rewrites (answer w) s) out))
+    (second : out' ≡ outputIn (rewrites (answer w) s) out) where
+  pub rewriting : n ≡ 0 → Rewriting (answer w) s out'
+  unfolding reading
+  rewriting z = read-as (answer w) (answer-numbered w) (well-formed-again w) s out bytes n out' z (eqb (numberOf (refusalOf s)) 0) refl refl first second
+
+  -- Where the given tree has no join, aggregate, limit or fetch, every run of the plan read from the output delivers the rows of every run of the plan given
+  pub rewritten-rows : (z : n ≡ 0) → let r = rewriting z in clear (r .given) ≡ true → (E E′ : Env) → SameInputs E E′ (r .given) → (a b : Forest Streams)
+      → Run E 0 0 (r .given) a → Run E′ 0 0 (r .made) b
+      → (x : Row) → times x (delivered a) ≡ times x (delivered b)
+  rewritten-rows z c E E′ d a b x y t = let r = rewriting z in rows-kept w (r .given) (r .made) (r .formed) c (r .answers) E E′ d a b x y t
 
 -- What `ensure_sorting` writes passes the order check, and no run of it, over source rows that keep what the given plan declares, feeds an operator out of
 -- order
@@ -146,3 +157,23 @@ module _ (s out : List ℕ) (bytes : AllBytes s) (n : ℕ) (out' : List ℕ) (fi
       (E : Env) → Sources E 0 (r .given) → (a : Forest Streams) → Run E 0 0 (r .made) a → AllFed (r .made) a
   ensured-feeds z E d a x = let r = rewriting ensuring s out bytes n out' first second z in
       ensure-feeds (r .given) (r .made) (r .formed) (r .answers) E d a x
+
+-- ---- partial sorting of node number k: `replace_with_partial_sort`, by its contract
+
+module _ (k : ℕ) (s out : List ℕ) (bytes : AllBytes s) (n : ℕ) (out' : List ℕ) (first : n ≡ numberOf (refusalIn (rewrites (partiallySorted k) s) out))
+    (second : out' ≡ outputIn (rewrites (partiallySorted k) s) out) where
+  pub partial-rewriting : n ≡ 0 → Rewriting (partiallySorted k) s out'
+  unfolding reading
+  partial-rewriting z =
+      read-as (partiallySorted k) (λ f e. partial-numbered k f (fromNode k f)) (partial-well k) s out bytes n out' z (eqb (numberOf (refusalOf s)) 0) refl refl
+      first second
+
+  -- Where the given plan passes the order check, what is written passes it too, and no run of it, over source rows that keep what the given plan declares,
+  -- feeds an operator out of order
+  pub partially-passes : (z : n ≡ 0) → let r = partial-rewriting z in check (r .given) ≡ true → check (r .made) ≡ true
+  partially-passes z e = let r = partial-rewriting z in partial-sort-passes k (r .given) (r .made) e (r .answers)
+
+  pub partially-feeds : (z : n ≡ 0) → let r = partial-rewriting z in check (r .given) ≡ true
+      → (E : Env) → Sources E 0 (r .given) → (a : Forest Streams) → Run E 0 0 (r .made) a → AllFed (r .made) a
+  partially-feeds z e E d a x = let r = partial-rewriting z in
+      order-kept (r .made) (partially-passes z e) E (partial-sources k (r .given) (r .made) (r .answers) E d) a x

@@ -1,3 +1,4 @@
 pub mod SampleRows
 pub mod Examples
 pub mod Aggregates
+pub mod FactTables

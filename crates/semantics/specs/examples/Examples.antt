@@ -15,7 +15,7 @@ use Rattle.plan.specs.declared.JoinType.the-variants.{Inner, Left, Right, Full,
 use Rattle.plan.specs.declared.Distribution.the-variants.{Unspecified, Single, Keyed}
 use Rattle.plan.specs.declared.Fetch.the-variants.{Unlimited, AtMost}
 use Rattle.semantics.specs.Facts.{Facts, isNil, counts, keepsOrder, at0, facts}
-use Rattle.semantics.specs.Properties.{wanted, cuts, maintains, supportsLimitPushdown, cardinalityEqual, endless, distOf}
+use Rattle.semantics.specs.Properties.{wanted, cuts, maintains, supportsLimitPushdown, cardinalityEqual, endless, endlessOp, distOf}
 use Rattle.semantics.specs.Check.{check}
 use Rattle.semantics.specs.Joins.{sql}
 use Rattle.semantics.specs.Runs.{cutRows, zipLeft, zipRight}
@@ -69,7 +69,7 @@ pub cut-off :
 cut-off = (refl, refl, refl)
 
 -- one node of each kind, in the order of their numbers
-abbrev kinds : List Op
+abbrev pub kinds : List Op
 kinds =
     sourceOf 2 1 0 [] false ∷ filter ∷ projection (0 ∷ []) ∷ union ∷ repartition false 2 false [] ∷ coalesce Unlimited ∷ sortOp false (up 0 ∷ []) Unlimited
     ∷ mergeOp (up 0 ∷ []) Unlimited
@@ -156,16 +156,22 @@ pub right-options :
     × (check (tree (sortMergeJoin Inner (record { key = down 0; other = 1 } ∷ [])) (scan (down 0 ∷ []) false (scan (up 1 ∷ []) false none)) none) ≡ false)
 right-options = (refl, refl)
 
+-- "Limits are bounded; any other node is unbounded if a child is". not: its first child alone is asked; a coalesce bounds
+pub unbounded-kinds : map (λ o. endlessOp o (false ∷ true ∷ [])) kinds ≡ true ∷ true ∷ true ∷ true ∷ true ∷ true ∷ true ∷ true ∷ false ∷ false ∷ true ∷ true
+    ∷ true ∷ true ∷ true ∷ []
+unbounded-kinds = refl
+
 -- a limit bounds; kind 13 does not, whatever its fetch
 pub unbounded : (endless (tree filter (scan [] true none) none) ≡ true ∷ [])
     × (endless (tree (localLimit (AtMost 1) []) (scan [] true none) none) ≡ false ∷ [])
     × (endless (tree (outputRequirement [] Single (AtMost 1)) (scan [] true none) none) ≡ true ∷ [])
 unbounded = (refl, refl, refl)
 
--- wanted distributions of the first and the second child
+-- wanted distributions of the first and the second child; a sort with the preserve mark wants none
 pub distributions :
     (map (distOf (sortMergeJoin Inner (record { key = up 0; other = 1 } ∷ []))) (0 ∷ 1 ∷ []) ≡ Keyed 1 ∷ Keyed 2 ∷ [])
     × (map (distOf (hashJoin Inner byFirst)) (0 ∷ 1 ∷ []) ≡ Single ∷ Unspecified ∷ [])
     × (map (λ o. distOf o 0) kinds ≡ Unspecified ∷ Unspecified ∷ Unspecified ∷ Unspecified ∷ Unspecified ∷ Unspecified ∷ Single ∷ Unspecified ∷ Single
     ∷ Unspecified ∷ Keyed 1 ∷ Single ∷ Single ∷ Single ∷ Unspecified ∷ [])
-distributions = (refl, refl, refl)
+    × (map (λ o. distOf o 0) (sortOp true (up 0 ∷ []) Unlimited ∷ partialSort true (up 0 ∷ up 1 ∷ []) 1 Unlimited ∷ []) ≡ Unspecified ∷ Unspecified ∷ [])
+distributions = (refl, refl, refl, refl)

@@ -4,20 +4,21 @@
 -- differs on none of them and keeps the theorems would not be refused here.
 use mathlib.Core.Path.{_≡_, refl}
 use mathlib.Core.Bool.{Bool, true, false}
-use mathlib.Core.List.{[], _∷_}
+use mathlib.Core.List.{List, [], _∷_, map}
 use Prim.Native.Nat.{ℕ}
 use Rattle.row_order.specs.Iso.{Key}
 use Rattle.plan.specs.Forest.{none, size, tree}
-use Rattle.plan.specs.Op.{coalesce, filter, hashJoin, localLimit, mergeOp, Op, outputRequirement, partialSort, Plan, projection, repartition, sortOp}
+use Rattle.plan.specs.Op.{coalesce, filter, globalLimit, hashJoin, localLimit, mergeOp, Op, outputRequirement, partialSort, Plan, projection, repartition, sortOp}
 use Rattle.plan.specs.Samples.{by, sourceOf, up}
 use Rattle.plan.specs.WellFormed.{wellFormed}
 use Rattle.plan.specs.declared.Distribution.the-variants.{Single, Unspecified}
 use Rattle.plan.specs.declared.Fetch.{Fetch}
 use Rattle.plan.specs.declared.Fetch.the-variants.{AtMost, Unlimited}
-use Rattle.plan.specs.declared.JoinType.the-variants.{LeftSemi}
+use Rattle.plan.specs.declared.JoinType.the-variants.{Inner, LeftSemi}
 use Rattle.plan.specs.declared.Refusal.the-variants.{AllKeysMet, HasPartialSort, TooManyNodes}
+use Rattle.semantics.specs.examples.Examples.{kinds}
 use Rattle.walks.specs.Counted.{answered, ensured, parallelized, partiallySorted, preserved, pushed, refused}
-use Rattle.walks.specs.Terms.{_⊕_, clear}
+use Rattle.walks.specs.Terms.{_⊕_, clear, clearOp}
 use Rattle.walks.specs.examples.Samples.{besides, byTwo, endlessSrc, filtered, on, output, pair, settings, single, sort, sortEach, src, stack}
 
 -- column c descending; nulls first
@@ -87,6 +88,13 @@ ensure-merge-fetch = refl
 
 pub ensure-sort-fetch : ensured (on (sortOp true (by 0) (AtMost 3)) (src 2 (by 0))) ≡ answered (on (localLimit (AtMost 3) (by 0)) (src 2 (by 0)))
 ensure-sort-fetch = refl
+
+-- not: the note of a limit that stands in a sort's place is the sort's keys as written
+abbrev endsInConstant : Plan
+endsInConstant = tree (sourceOf 3 1 2 (by 2) false) none none
+
+pub ensure-note : ensured (on (sortOp false (byTwo 2 1) (AtMost 5)) endsInConstant) ≡ answered (on (globalLimit 0 (AtMost 5) (by 2)) endsInConstant)
+ensure-note = refl
 
 -- 01's trap, any maintained input with any connected child: the union's first child is connected, its second maintained
 abbrev crossed : Plan
@@ -164,6 +172,15 @@ pub parallelize-hashed :
     × (parallelized (sort 2 (hashed 0 (on (coalesce Unlimited) (hashed 0 (hashed 0 (src 2 [])))))) ≡ answered (parted (hashed 0 (src 2 []))))
 parallelize-hashed = (refl, refl, refl, refl)
 
+-- not: keys are equal where one list begins the other: hash2[0] is no equal of hash2[0,1]
+abbrev hashedByTwo : Plan → Plan
+hashedByTwo f = on (repartition false 2 true (byTwo 0 1)) f
+
+pub parallelize-whole-keys :
+    (parallelized (sort 2 (hashed 0 (on (coalesce Unlimited) (hashedByTwo (src 2 []))))) ≡ answered (parted (hashed 0 (hashedByTwo (src 2 [])))))
+    × (parallelized (sort 2 (hashedByTwo (on (coalesce Unlimited) (hashed 0 (src 2 []))))) ≡ answered (parted (hashedByTwo (hashed 0 (src 2 [])))))
+parallelize-whole-keys = (refl, refl)
+
 -- not: the sort under the new merge comes though its input meets its keys
 pub parallelize-checked : parallelized (sort 1 (on (coalesce Unlimited) (pair 2 (by 1) 1))) ≡ answered (on (mergeOp (by 1) Unlimited) (pair 2 (by 1) 1))
 parallelize-checked = refl
@@ -226,6 +243,26 @@ pub preserve-endless : preserved (settings false false false) (sortEach 0 (sprea
     (spread true (endlessSrc 2 (by 0)))
 preserve-endless = refl
 
+-- not: a merge comes by its own setting alone, and not where existing orders are preferred
+pub preserve-merge-preferred :
+    preserved (settings false false true) (sort 0 (on (coalesce Unlimited) (src 2 (by 0))))
+    ≡ answered (on (mergeOp (by 0) Unlimited) (src 2 (by 0)))
+preserve-merge-preferred = refl
+
+-- not: a coalesce initiates a connection where no order is lost: a sort by a constant stays over it
+abbrev overUnordered : Plan
+overUnordered = sort 0 (on (coalesce Unlimited) (pair 2 [] 1))
+
+pub preserve-unordered : preserved (settings false false false) overUnordered ≡ answered overUnordered
+preserve-unordered = refl
+
+-- not: a node is connected by its first child alone: here the repartition stands below the join's second
+abbrev probed : Bool → Plan
+probed p = on (hashJoin Inner (record { key = up 1; other = 1 } ∷ [])) (src 1 [] ⊕ spread p (src 2 (by 0)))
+
+pub preserve-second-child : preserved (settings true false false) (sortEach 3 (probed false)) ≡ answered (probed true)
+preserve-second-child = refl
+
 -- a fetched coalesce carries no connection, so that even a sort by a constant stays over it; one without a fetch does
 abbrev constantSorted : Fetch → Plan
 constantSorted f = sort 0 (on (coalesce f) (tree (sourceOf 3 2 1 (by 1) false) none none))
@@ -269,6 +306,14 @@ pub partial-bounded :
     ≡ answered (on (sortOp false (byTwo 2 1) Unlimited) (src 1 (by 2)))
 partial-bounded = refl
 
+-- not: the nodes to the right of the first child are left as they are; the prefix is one key
+abbrev second : Op → Plan
+second o = besides (src 1 []) (on o (endlessSrc 1 (byTwo 0 1)))
+
+pub partial-second-child :
+    partiallySorted 2 (second (sortOp false (up 0 ∷ up 1 ∷ up 2 ∷ []) Unlimited)) ≡ answered (second (partialSort false (up 0 ∷ up 1 ∷ up 2 ∷ []) 2 Unlimited))
+partial-second-child = refl
+
 -- not: each key is met by itself; here all three are met together, though [2] alone is not
 pub partial-keys-together :
     partiallySorted 0 (on (sortOp false (up 0 ∷ up 1 ∷ up 2 ∷ []) Unlimited) (tree (sourceOf 3 1 2 (byTwo 0 2) true) none none))
@@ -279,3 +324,15 @@ partial-keys-together = refl
 pub clear-some : clear (output (by 0) (on (mergeOp (by 0) Unlimited) (sortEach 0 (on (repartition true 2 false []) (sort 0 (on (coalesce Unlimited)
     (on filter (besides (on (projection (0 ∷ [])) (src 2 [])) (on (projection (1 ∷ [])) (src 2 [])))))))))) ≡ true
 clear-some = refl
+
+-- kind by kind, in the order of their numbers; and each that has a fetch. not: a projection, a union or kind 13 counts as a join
+pub clear-kinds : map clearOp kinds ≡ true ∷ true ∷ true ∷ true ∷ true ∷ true ∷ true ∷ true ∷ false ∷ false ∷ false ∷ false ∷ true ∷ true ∷ false ∷ []
+clear-kinds = refl
+
+abbrev fetching : List Op
+fetching =
+    coalesce (AtMost 1) ∷ sortOp false (by 0) (AtMost 1) ∷ mergeOp (by 0) (AtMost 1) ∷ outputRequirement [] Single (AtMost 1)
+    ∷ partialSort false (byTwo 0 1) 1 (AtMost 1) ∷ []
+
+pub clear-fetching : map clearOp fetching ≡ false ∷ false ∷ false ∷ false ∷ false ∷ []
+clear-fetching = refl

@@ -1,17 +1,17 @@
 -- Small plans, by computation: pushing. 'not:' names the wrong definition that a plan tells from the right one. Pinned says what such plans are for.
 use mathlib.Core.Path.{_≡_, refl}
 use mathlib.Core.Bool.{true, false}
-use mathlib.Core.List.{[], _∷_}
+use mathlib.Core.List.{List, [], _∷_}
 use Prim.Native.Nat.{ℕ}
 use Rattle.row_order.specs.Iso.{Key}
 use Rattle.row_order.specs.Lists.{tab}
 use Rattle.plan.specs.Forest.{none, size, tree}
-use Rattle.plan.specs.Op.{filter, hashJoin, localLimit, mergeOp, outputRequirement, Plan, projection, repartition, sortMergeJoin, sortOp}
+use Rattle.plan.specs.Op.{coalesce, filter, globalLimit, hashJoin, localLimit, mergeOp, On, outputRequirement, Plan, projection, repartition, sortMergeJoin, sortOp}
 use Rattle.plan.specs.Samples.{by, sourceOf, up}
 use Rattle.plan.specs.declared.Distribution.the-variants.{Keyed, Single, Unspecified}
 use Rattle.plan.specs.declared.Fetch.the-variants.{AtMost, Unlimited}
 use Rattle.plan.specs.declared.JoinType.{JoinType}
-use Rattle.plan.specs.declared.JoinType.the-variants.{Inner, Right}
+use Rattle.plan.specs.declared.JoinType.the-variants.{Inner, Left, Right, RightSemi}
 use Rattle.plan.specs.declared.Refusal.the-variants.{ConstantSort, TooManyNodes}
 use Rattle.semantics.specs.Facts.{Facts}
 use Rattle.walks.specs.SortPushdown.{exprSourceSide, leftSide}
@@ -85,8 +85,14 @@ pub push-one-stream :
 push-one-stream = refl
 
 -- past a sort-merge join to the side whose order it keeps, in that side's columns; the other side keeps the join's own requirement
+abbrev byFirst : List On
+byFirst = record { key = up 0; other = 0 } ∷ []
+
 abbrev joined : JoinType → Plan → Plan → Plan
-joined t f g = on (sortMergeJoin t (record { key = up 0; other = 0 } ∷ [])) (f ⊕ g)
+joined t f g = on (sortMergeJoin t byFirst) (f ⊕ g)
+
+abbrev hashed : JoinType → Plan → Plan → Plan
+hashed t f g = on (hashJoin t byFirst) (f ⊕ g)
 
 abbrev sortTwo : Plan → Plan
 sortTwo f = on (sortOp false (byTwo 0 1) Unlimited) f
@@ -98,6 +104,34 @@ pub push-merge-join :
     (output (byTwo 3 4) (joined Right (sort 0 (src 1 [])) (sortTwo (src 1 [])))))
     × (pushed (output (by 1) (joined Inner (src 1 []) (src 1 []))) ≡ answered (output (by 1) (sort 1 (joined Inner (src 1 []) (src 1 [])))))
 push-merge-join = (refl, refl, refl)
+
+-- not: the join's new order need not meet what its parent requires: sorted by [0,1], the left side's columns, a Right join keeps the right side's order
+pub push-other-side :
+    pushed (output (byTwo 0 1) (joined Right (src 1 []) (src 1 [])))
+    ≡ answered (output (byTwo 0 1) (sortTwo (joined Right (src 1 []) (src 1 []))))
+push-other-side = refl
+
+-- semi and anti joins of the right side have its columns: nothing is taken off
+pub push-right-semi :
+    (pushed (output (byTwo 0 1) (joined RightSemi (src 1 []) (src 1 []))) ≡ answered
+    (output (byTwo 0 1) (joined RightSemi (sort 0 (src 1 [])) (sortTwo (src 1 [])))))
+    × (pushed (output (by 1) (hashed RightSemi (src 1 []) (src 1 []))) ≡ answered (output (by 1) (hashed RightSemi (src 1 []) (sort 1 (src 1 [])))))
+push-right-semi = (refl, refl)
+
+-- not: an order goes past a hash join that does not maintain its right side
+pub push-hash-unkept :
+    pushed (output (by 3) (hashed Left (src 1 []) (src 1 [])))
+    ≡ answered (output (by 3) (sort 3 (hashed Left (src 1 []) (src 1 []))))
+push-hash-unkept = refl
+
+-- not: a column of the side becomes the lowest equal one there: the left side's columns 0 and 1 are equal, and [1] stays [1]
+abbrev doubled : Plan
+doubled = stack (filter ∷ projection (0 ∷ 0 ∷ []) ∷ []) (src 1 [])
+
+pub push-own-column :
+    pushed (output (by 1) (joined Inner doubled (src 1 [])))
+    ≡ answered (output (by 1) (joined Inner (sort 1 doubled) (sort 0 (src 1 []))))
+push-own-column = refl
 
 -- expr_source_side: of the side's columns that equal the key the lowest; Inner, 3 left columns, class {0,1,4}
 abbrev equalColumns : Facts
@@ -136,6 +170,38 @@ pub push-unordered-open :
     pushed (stack (sortOp true (byTwo 1 0) Unlimited ∷ mergeOp (by 0) (AtMost 2) ∷ []) (pair 1 (byTwo 1 0) 1))
     ≡ answered (on (mergeOp (by 0) (AtMost 2)) (pair 1 (byTwo 1 0) 1))
 push-unordered-open = refl
+
+-- not: a node with a fetch that does not maintain lets an order past: a coalesce
+pub push-coalesce-fetch :
+    pushed (output (by 0) (besides (on (coalesce (AtMost 3)) (src 2 [])) (src 1 [])))
+    ≡ answered (output (by 0) (besides (sort 0 (on (coalesce (AtMost 3)) (src 2 []))) (sort 0 (src 1 []))))
+push-coalesce-fetch = refl
+
+-- a projection has its input's fetch (reading 3), and hands it down with the order in its child's columns
+pub push-projection-fetch :
+    pushed (output (by 0) (besides (stack (projection (1 ∷ 0 ∷ []) ∷ localLimit (AtMost 3) [] ∷ []) (pair 1 [] 0)) (pair 1 [] 0)))
+    ≡ answered (output (by 0) (besides (stack (projection (1 ∷ 0 ∷ []) ∷ sortOp false (by 1) (AtMost 3) ∷ localLimit (AtMost 3) [] ∷ []) (pair 1 [] 0))
+    (sort 0 (pair 1 [] 0))))
+push-projection-fetch = refl
+
+-- not: past a node with a fetch goes an order that its own is longer than, instead of one that is longer than its own
+pub push-merge-fetch :
+    pushed (output (byTwo 0 1) (besides (on (mergeOp (by 0) (AtMost 2)) (src 2 (by 0))) (src 1 [])))
+    ≡ answered (output (byTwo 0 1) (besides (stack (mergeOp (by 0) (AtMost 2) ∷ sortOp true (byTwo 0 1) (AtMost 2) ∷ []) (src 2 (by 0)))
+    (sortTwo (src 1 []))))
+push-merge-fetch = refl
+
+-- not: an order goes past a merge though the merge's own would not be met: [0,2] past [0,1]
+pub push-merge-order :
+    pushed (output (byTwo 0 2) (on (mergeOp (byTwo 0 1) Unlimited) (src 2 (byTwo 0 1))))
+    ≡ answered (output (byTwo 0 2) (stack (sortOp false (byTwo 0 2) Unlimited ∷ mergeOp (byTwo 0 1) Unlimited ∷ []) (src 2 (byTwo 0 1))))
+push-merge-order = refl
+
+-- not: a global limit without a fetch stops the order
+pub push-skip :
+    pushed (output (by 0) (on (globalLimit 2 Unlimited []) (src 1 [])))
+    ≡ answered (output (by 0) (on (globalLimit 2 Unlimited []) (sort 0 (src 1 []))))
+push-skip = refl
 
 -- not: single keys are compared by their columns alone (reading 6); nulls first where the other has nulls last
 abbrev opened : ℕ → Key

@@ -1,4 +1,4 @@
--- Partial sorting changes one record: every node's facts stay, the order check still passes, and the answer is well formed again.
+-- Partial sorting changes one record: every node's facts and all sources stay, the order check still passes, and the answer is well formed again.
 use mathlib.Core.Path.{_≡_, refl, sym, ap, ap₂, _∙_, subst}
 use mathlib.Core.Bool.{Bool, true, false, cond, _&&_}
 use mathlib.Core.List.{List, [], _∷_, _++_, append-assoc, map}
@@ -16,6 +16,7 @@ use Rattle.plan.specs.declared.Fetch.{Fetch}
 use Rattle.semantics.specs.Facts.{at0, Facts, facts, factsOp, met}
 use Rattle.semantics.specs.Properties.{anyOf, endless}
 use Rattle.semantics.specs.Check.{check, wantsMet}
+use Rattle.semantics.specs.Runs.{Env, nextS, past, SourceOK, Sources}
 use Rattle.semantics.specs.theorems.common.Bools.{and-left, and-right}
 use Rattle.walks.specs.Marks.{Shape}
 use Rattle.walks.specs.PartialSort.{becomes, commonPrefixLength, fromNode, ofPrefix, partialBy, pastTheEnd, Replaced, replaceWithPartialSort, setNode}
@@ -29,7 +30,11 @@ abbrev InPlace : Plan → Op → Type 0
 InPlace none p = Unit {0}
 InPlace (tree o c r) p =
     (factsOp p (facts c) ≡ factsOp o (facts c)) × (nodeOk o (map (λ F. F .width) (facts c)) ≡ true → nodeOk p (map (λ F. F .width) (facts c)) ≡ true)
-    × (wantsMet o (facts c) ≡ true → wantsMet p (facts c) ≡ true)
+    × (wantsMet o (facts c) ≡ true → wantsMet p (facts c) ≡ true) × ((i : ℕ) → nextS p i ≡ nextS o i)
+    × ((E : Env) (i : ℕ) → SourceOK E i o → SourceOK E i p)
+
+itself-in-place : (o : Op) (c r : Plan) → InPlace (tree o c r) o
+itself-in-place o c r = (refl, λ h. h, λ h. h, λ i. refl, λ E i h. h)
 
 pub record SetKept (f g : Plan) : Type 0 where
   pub same : facts g ≡ facts f
@@ -37,9 +42,11 @@ pub record SetKept (f g : Plan) : Type 0 where
   pub passes : check f ≡ true → check g ≡ true
   pub long : size g ≡ size f
   pub number : count g ≡ count f
+  pub ahead : (i : ℕ) → past nextS g i ≡ past nextS f i
+  pub sources : (E : Env) (i : ℕ) → Sources E i f → Sources E i g
 
 set-refl : (f : Plan) → SetKept f f
-set-refl f = record { same = refl; ok = λ h. h; passes = λ e. e; long = refl; number = refl }
+set-refl f = record { same = refl; ok = λ h. h; passes = λ e. e; long = refl; number = refl; ahead = λ i. refl; sources = λ E i h. h }
 
 set-kids : (o : Op) (c d r : Plan) → SetKept c d → SetKept (tree o c r) (tree o d r)
 set-kids o c d r k =
@@ -50,6 +57,8 @@ set-kids o c d r k =
           ap₂ _&&_ (ap (wantsMet o) (k .same) ∙ w) (ap₂ _&&_ (k .passes (search (and-left, and-right))) (and-right (check c) (check r) (search and-right)));
       long = ap (λ (n : ℕ). suc (n + size r)) (k .long);
       number = refl;
+      ahead = λ i. ap (past nextS r) (k .ahead (nextS o i));
+      sources = λ E i h. (h .0, k .sources E (nextS o i) (h .1), subst (λ (n : ℕ). Sources E n r) (sym (k .ahead (nextS o i))) (h .2));
     }
 
 set-right : (o : Op) (c r s : Plan) → SetKept r s → SetKept (tree o c r) (tree o c s)
@@ -61,6 +70,8 @@ set-right o c r s k =
           ap₂ _&&_ w (ap₂ _&&_ x (k .passes (search (and-left, and-right))));
       long = ap (λ (n : ℕ). suc (size c + n)) (k .long);
       number = ap suc (k .number);
+      ahead = λ i. k .ahead (past nextS c (nextS o i));
+      sources = λ E i h. (h .0, h .1, k .sources E (past nextS c (nextS o i)) (h .2));
     }
 
 set-kept : (n : ℕ) (p : Op) (f : Plan) → InPlace (fromNode n f) p → SetKept f (setNode n p f)
@@ -72,6 +83,10 @@ set-kept zero p (tree o c r) h =
       passes = λ e. let w : wantsMet o (facts c) ≡ true = search and-left in ap₂ _&&_ (h .2 w) (and-right (wantsMet o (facts c)) (check c && check r) e);
       long = refl;
       number = refl;
+      ahead = λ i. ap (λ (n : ℕ). past nextS r (past nextS c n)) (h .3 i);
+      sources = λ E i v.
+          let next : nextS o i ≡ nextS p i = sym (h .3 i) in
+          (h .4 E i (v .0), subst (λ (n : ℕ). Sources E n c) next (v .1), subst (λ (n : ℕ). Sources E (past nextS c n) r) next (v .2));
     }
 set-kept (suc n) p (tree o c r) h = go (ltb n (size c)) (λ i. set-kept n p c i) (λ i. set-kept (n - size c) p r i) h
   where
@@ -133,11 +148,13 @@ module _ (c : Plan) (p : Bool) (ks : List Key) (f : Fetch) where
         search (and-left, and-right) in
         ap₂ _&&_ (ap₂ _&&_ (ap₂ _&&_ s (ap₂ _&&_ (le-leb 1 (suc m) (omega arith)) (lt-ltb (suc m) (length ks) l))) k) w,
     λ h. ap₂ _&&_ e refl,
+    λ i. refl,
+    λ E i h. tt,
   )
 
   of-prefix : (r : Plan) (m : ℕ) → commonPrefixLength (at0 (facts c)) [] ks ≡ m → eqb m (length ks) ≡ false → InPlace (tree (sortOp p ks f) c r)
       (ofPrefix p ks f m)
-  of-prefix r zero q e = (refl, λ h. h, λ h. h)
+  of-prefix r zero q e = itself-in-place (sortOp p ks f) c r
   of-prefix r (suc m) q e = partial-in-place r m (less (suc m) (length ks) (omega (arith, prefix-le (at0 (facts c)) [] ks)) e)
       (prefix-met (at0 (facts c)) [] ks m q)
 
@@ -147,7 +164,7 @@ module _ (c : Plan) (p : Bool) (ks : List Key) (f : Fetch) where
   sort-in-place r o true true q e = no-bool (ap isBecome e)
   sort-in-place r o true false q e = subst (InPlace (tree (sortOp p ks f) c r)) (ap (opOr o) e)
       (of-prefix r (commonPrefixLength (at0 (facts c)) [] ks) refl q)
-  sort-in-place r o false b q e = subst (InPlace (tree (sortOp p ks f) c r)) (ap (opOr o) e) (refl, λ h. h, λ h. h)
+  sort-in-place r o false b q e = subst (InPlace (tree (sortOp p ks f) c r)) (ap (opOr o) e) (itself-in-place (sortOp p ks f) c r)
 
 becomes-in-place : (c r : Plan) (o q : Op) → replaceWithPartialSort o c ≡ becomes q → InPlace (tree o c r) q
 becomes-in-place c r o q =
@@ -160,7 +177,7 @@ becomes-in-place c r o q =
     o
   where
     itself : (p : Op) → becomes p ≡ becomes q → InPlace (tree p c r) q
-    itself p e = subst (InPlace (tree p c r)) (ap (opOr q) e) (refl, λ h. h, λ h. h)
+    itself p e = subst (InPlace (tree p c r)) (ap (opOr q) e) (itself-in-place p c r)
 
 -- ---- the call
 pub partial-kept : (n : ℕ) (f g : Plan) → partiallySorted n f ≡ answered g → SetKept f g
@@ -185,3 +202,7 @@ partial-well n f g e h =
 
 pub partial-passes : (n : ℕ) (f g : Plan) → check f ≡ true → partiallySorted n f ≡ answered g → check g ≡ true
 partial-passes n f g e h = partial-kept n f g h .passes e
+
+-- The sources stay, and with them what they declare
+pub partial-sources : (n : ℕ) (f g : Plan) → partiallySorted n f ≡ answered g → (E : Env) → Sources E 0 f → Sources E 0 g
+partial-sources n f g h E d = partial-kept n f g h .sources E 0 d
