@@ -72,7 +72,8 @@ module _ (s : List ℕ) (answer before after : ℕ) (bytes : AllBytes s)
 
   -- By number and lent number one can tell whether the bytes hold a plan that passes, and nothing else
   pub told : answer ≡ 0 → eqb after 1 ≡ passesIn (afterReading (λ f. checks (check f)) (reading s))
-  told z = ap (λ n. eqb n 1) (writes z) ∙ is-told (check (planOf s)) ∙ sym (ap (λ a. passesIn (afterReading (λ f. checks (check f)) a)) (is-plan s (sym first ∙ z)))
+  told z = ap (λ n. eqb n 1) (writes z) ∙ is-told (check (planOf s))
+      ∙ sym (ap (λ a. passesIn (afterReading (λ f. checks (check f)) a)) (is-plan s (sym first ∙ z)))
 
   pub told-refused : (answer ≡ 0 → ⊥) → false ≡ passesIn (afterReading (λ f. checks (check f)) (reading s))
   unfolding reading

@@ -33,6 +33,10 @@ pair n r = tree (sourceOf 2 n 2 (up 0 ∷ []) false) none r
 abbrev triple : ℕ → Plan → Plan
 triple n r = tree (projection (0 ∷ 1 ∷ 0 ∷ [])) (pair n none) r
 
+-- three columns that have nothing in common, on one stream known ks
+abbrev threeBy : List Key → Plan
+threeBy ks = tree (sourceOf 3 1 0 ks false) none none
+
 -- ---- sources, projections, unions
 
 -- not: a source knows its keys as they are written
@@ -46,8 +50,8 @@ of-projection = (refl, refl)
 
 -- not: a union knows no classes; it has all of its first child's; its order is the shorter of the two whether they begin alike or not
 pub of-union : (of (over union (triple 1 (triple 2 none))) ≡ told 3 3 (false ∷ false ∷ false ∷ []) (0 ∷ 1 ∷ 0 ∷ []) (up 0 ∷ []))
-    × (of (over union (triple 1 (tree (sourceOf 3 1 0 (up 0 ∷ up 1 ∷ []) false) none none))) ≡ told 3 2 (false ∷ false ∷ false ∷ []) (0 ∷ 1 ∷ 2 ∷ []) (up 0 ∷ []))
-    × (of (over union (triple 1 (tree (sourceOf 3 1 0 (up 1 ∷ []) false) none none))) ≡ told 3 2 (false ∷ false ∷ false ∷ []) (0 ∷ 1 ∷ 2 ∷ []) [])
+    × (of (over union (triple 1 (threeBy (up 0 ∷ up 1 ∷ [])))) ≡ told 3 2 (false ∷ false ∷ false ∷ []) (0 ∷ 1 ∷ 2 ∷ []) (up 0 ∷ []))
+    × (of (over union (triple 1 (threeBy (up 1 ∷ [])))) ≡ told 3 2 (false ∷ false ∷ false ∷ []) (0 ∷ 1 ∷ 2 ∷ []) [])
 of-union = (refl, refl, refl)
 
 -- ---- nodes of one child that keep its columns
@@ -72,8 +76,8 @@ of-two-streams = refl
 
 -- over one. not: a global limit never knows an order; an unmarked repartition never does
 pub of-one-stream : map (λ o. of (over o (triple 1 none))) passing
-    ≡ kept 1 (up 0 ∷ []) ∷ kept 3 (up 0 ∷ []) ∷ kept 3 (up 0 ∷ []) ∷ kept 1 [] ∷ kept 1 (up 0 ∷ []) ∷ kept 1 (up 0 ∷ []) ∷ kept 1 (up 0 ∷ []) ∷ kept 1 (up 0 ∷ [])
-    ∷ kept 1 (up 0 ∷ []) ∷ kept 1 (up 0 ∷ []) ∷ kept 1 (up 0 ∷ []) ∷ kept 1 (up 0 ∷ []) ∷ []
+    ≡ kept 1 (up 0 ∷ []) ∷ kept 3 (up 0 ∷ []) ∷ kept 3 (up 0 ∷ []) ∷ kept 1 [] ∷ kept 1 (up 0 ∷ []) ∷ kept 1 (up 0 ∷ []) ∷ kept 1 (up 0 ∷ [])
+    ∷ kept 1 (up 0 ∷ []) ∷ kept 1 (up 0 ∷ []) ∷ kept 1 (up 0 ∷ []) ∷ kept 1 (up 0 ∷ []) ∷ kept 1 (up 0 ∷ []) ∷ []
 of-one-stream = refl
 
 -- ---- joins: `triple` on two streams, beside `triple` on three; the first columns are the keys
@@ -119,5 +123,7 @@ pub of-two-pairs : merging Inner (record { key = up 0; other = 0 } ∷ record { 
 of-two-pairs = refl
 
 -- "A class that holds a constant is all constant": the right key is. not: the pair's columns alone are constant, and not the left key's equal
-pub of-constant-pair : merging Inner (record { key = up 0; other = 1 } ∷ []) ≡ told 6 2 (true ∷ true ∷ true ∷ false ∷ true ∷ false ∷ []) (0 ∷ 1 ∷ 0 ∷ 3 ∷ 0 ∷ 3 ∷ []) []
+pub of-constant-pair :
+    merging Inner (record { key = up 0; other = 1 } ∷ [])
+    ≡ told 6 2 (true ∷ true ∷ true ∷ false ∷ true ∷ false ∷ []) (0 ∷ 1 ∷ 0 ∷ 3 ∷ 0 ∷ 3 ∷ []) []
 of-constant-pair = refl
