@@ -55,3 +55,8 @@ pub use why::Why;
 
 /// The length of the longest plan file: an output of that length is never too short.
 pub const MOST_BYTES: usize = plan::MOST_BLOCKS * plan::BLOCK;
+
+/// The README's snippets are compiled and run.
+#[cfg(doctest)]
+#[doc = include_str!("../../README.md")]
+pub struct Readme;
