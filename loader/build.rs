@@ -78,17 +78,17 @@ fn watch(rt: &mut Child, total: usize, screen: &mut Option<File>) -> String {
 
 /// Runs `rt staticlib`; the lines that say why it failed.
 fn prove(root: &Path) -> Result<(), String> {
-    let mut screen = screen();
-    let total = crates_below(&std::fs::read_to_string(root.join("crates.txt")).unwrap_or_default());
-    if !archive(root).exists() {
-        tell(&mut screen, &format!("{total} crates are proved first, which takes some ten minutes the first time"));
-    }
     let mut rt = Command::new("rt");
     rt.args(["staticlib", LIBRARY]).current_dir(root).stdin(Stdio::null()).stdout(Stdio::piped()).stderr(Stdio::piped());
     let mut rt = rt.spawn().map_err(|e| match e.kind() {
         ErrorKind::NotFound => NO_TOOLCHAIN.to_string(),
         _ => format!("rt can't be run: {e}"),
     })?;
+    let mut screen = screen();
+    let total = crates_below(&std::fs::read_to_string(root.join("crates.txt")).unwrap_or_default());
+    if !archive(root).exists() {
+        tell(&mut screen, &format!("{total} crates are proved first, which takes some ten minutes the first time"));
+    }
     let mut out = rt.stdout.take().expect("it is piped");
     let rest = std::thread::spawn(move || {
         let mut bytes = vec![];

@@ -175,3 +175,37 @@ fn views_of_a_plan_do_not_panic() {
         assert_eq!(check_order(&plan.write()), Ok(unmet(&plan).is_empty()));
     }
 }
+
+/// docs/TEXT.md: its plans are plans, its table of fields is the code's, its messages are the ones that come.
+#[test]
+fn the_document_is_true() {
+    let document = include_str!("../../../docs/TEXT.md");
+    let plans: Vec<&str> = document.split("```text\n").skip(1).map(|rest| rest.split("```").next().expect("its end")).collect();
+    assert_eq!(plans.len(), 1);
+    plans.into_iter().for_each(|p| drop(parse(p).expect("a plan")));
+    for kind in 1..=15u8 {
+        let row = format!("| {} | {} |\n", NAMES[kind as usize], fields::in_words(kind));
+        assert!(document.contains(&row), "{row}");
+        for field in fields::of_kind(kind) {
+            assert!(document.contains(&format!("| `{}", field.name())), "{field:?}");
+        }
+    }
+    let chain: String = (0..127).map(|i| format!("{:1$}filter\n", "", 2 * i)).collect();
+    for text in
+        ["filter\n  source streams=1 width=3 right=0", "sort keys=0 keys=1", &chain, "sort keys=9\n  source streams=1 width=3"]
+    {
+        assert!(document.contains(&wrong(text)), "{}", wrong(text));
+    }
+    assert!(JOIN_TYPES[..7].iter().all(|t| document.contains(t)));
+}
+
+/// Fields in any order, short keys, sets in any order, remarks: the normal layout of what is meant.
+#[test]
+fn a_text_comes_back_in_normal_layout() {
+    let loose = "\n# a remark\nsort   preserve fetch=007 keys=1,0d  # another\n\n  source constants=2,0 width=3 streams=2\n";
+    let normal = "sort keys=1al,0dl fetch=7 preserve\n  source streams=2 width=3 constants=0,2\n";
+    let plan = parse(loose).expect("a plan");
+    assert_eq!(show(&plan), normal);
+    assert_eq!(Plan::read(&plan.write()).as_ref().map(show).as_deref(), Ok(normal));
+    assert_eq!(parse(normal), Ok(plan));
+}
