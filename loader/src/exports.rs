@@ -52,7 +52,12 @@ impl Call {
         }
     }
 
-    /// The export's number on a plan; the check writes its answer, 1 or 0, as the first byte of the output.
+    /// The export's number on a plan; the check writes its answer, 1 or 0, as the first byte of the output. `None` where the linked
+    /// library does not export the call.
+    ///
+    /// # Panics
+    ///
+    /// Where a refused check has written its answer, which its contract rules out.
     pub fn run(self, plan: &[u8], out: &mut [u8]) -> Option<u32> {
         match self {
             Call::Check => check_order(plan, out),

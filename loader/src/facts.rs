@@ -1,5 +1,9 @@
 //! The facts of a node, what it wants and what it maintains, as document 01 states them, and document 02 for an aggregate. Written
 //! from their text alone.
+//!
+//! # Panics
+//!
+//! Functions here take records and columns of an accepted plan, and can panic on others: a column of 32, a merge without a child.
 use crate::plan::{Node, PRESERVE, Record, UNBOUNDED, kind::*};
 
 /// A key: column and options (bit 0 descending, bit 1 nulls first).

@@ -23,56 +23,61 @@ fn file_to_text_to_file_is_the_same() {
     }
 }
 
-/// Every kind with every field that some kind has: it comes out again, or it is an error that says so.
+/// A field or two of every name.
+const FIELDS: [&str; 17] = [
+    "streams=2",
+    "width=3",
+    "keys=0al,1df",
+    "keys=1al",
+    "right=0",
+    "right=1,0",
+    "columns=0,2",
+    "type=Full",
+    "prefix=1",
+    "constants=0,2",
+    "keyed=1",
+    "fetch=5",
+    "skip=2",
+    "preserve",
+    "hash",
+    "unbounded",
+    "single",
+];
+
+/// A node of a kind with these words, over as many sources as it has children.
+fn text_of(kind: &str, words: &[&str]) -> String {
+    let children = match kind {
+        "source" => 0,
+        "union" | "sort-merge-join" | "hash-join" => 2,
+        _ => 1,
+    };
+    format!("{kind} {}\n{}", words.join(" "), "  source streams=1 width=3\n".repeat(children))
+}
+
+/// The words of a plan's first line.
+fn first_words(plan: &Plan) -> Vec<String> {
+    let shown = show(plan);
+    let mut words: Vec<String> = shown.lines().next().expect("a line").split(' ').skip(1).map(Into::into).collect();
+    // a join type that is not given is Inner
+    words.retain(|w| w != "type=Inner");
+    words.sort();
+    words
+}
+
+/// Every kind with up to four fields that some kind has (more say nothing new, and a join needs three): each word comes out again,
+/// or there is an error that says so.
 #[test]
 fn no_word_of_a_text_is_lost() {
-    let fields = [
-        "streams=2",
-        "width=3",
-        "keys=0al,1df",
-        "keys=1al",
-        "right=0",
-        "right=1,0",
-        "columns=0,2",
-        "type=Full",
-        "prefix=1",
-        "constants=0,2",
-        "keyed=1",
-        "fetch=5",
-        "skip=2",
-        "preserve",
-        "hash",
-        "unbounded",
-        "single",
-    ];
     let (mut taken, mut refused) = (0, 0);
-    for kind in &NAMES[1..] {
-        for set in 0..1u32 << fields.len() {
-            // up to four fields: more say nothing new, and a join needs three
-            if set.count_ones() > 4 {
-                continue;
-            }
-            let words: Vec<&str> = fields.iter().enumerate().filter(|(i, _)| set >> i & 1 == 1).map(|(_, f)| *f).collect();
-            let children = if *kind == "source" {
-                0
-            } else if kind.contains("join") || *kind == "union" {
-                2
-            } else {
-                1
-            };
-            let line = format!("{kind} {}", words.join(" "));
-            let text = format!("{line}\n{}", "  source streams=1 width=3\n".repeat(children));
+    for set in (0..1u32 << FIELDS.len()).filter(|set| set.count_ones() <= 4) {
+        let mut words: Vec<&str> = (0..FIELDS.len()).filter(|i| set >> i & 1 == 1).map(|i| FIELDS[i]).collect();
+        words.sort();
+        for kind in &NAMES[1..] {
+            let text = text_of(kind, &words);
             match parse(&text) {
                 Ok(plan) => {
                     taken += 1;
-                    let shown = show(&plan);
-                    let mut got: Vec<&str> = shown.lines().next().expect("a line").split(' ').skip(1).collect();
-                    // a join type that is not given is Inner
-                    got.retain(|w| *w != "type=Inner");
-                    got.sort();
-                    let mut want = words.clone();
-                    want.sort();
-                    assert_eq!(got, want, "{text}");
+                    assert_eq!(first_words(&plan), words, "{text}");
                 }
                 Err(TextError::Form { line: 1, .. } | TextError::Refused { .. }) => refused += 1,
                 Err(other) => panic!("{text}{other}"),
