@@ -27,19 +27,29 @@ const NO_TOOLCHAIN: &str = "\
 The command `rt` is not there, and only what it has proved is linked.
 Install the Rattle toolchain (the kit that has bin/rt), put its bin folder on the PATH and build again; `rt version` names it.";
 
-/// Cargo shows nothing of a build script before it ends, so what is told on the way goes to the terminal, or to the pipe that
-/// cargo's own messages go to.
-fn screen() -> Option<File> {
-    let open = |path: &str| OpenOptions::new().append(true).open(path).ok();
-    let cargo = format!("/proc/{}/fd/2", std::os::unix::process::parent_id());
-    let is_pipe = || std::fs::metadata(&cargo).is_ok_and(|m| m.file_type().is_fifo());
-    open("/dev/tty").or_else(|| is_pipe().then(|| open(&cargo)).flatten())
+/// Where something can be told on the way.
+struct Screen {
+    file: File,
+    /// on a terminal cargo's progress bar stands in the line
+    clear: &'static str,
 }
 
-fn tell(screen: &mut Option<File>, line: &str) {
-    if let Some(screen) = screen {
+/// Cargo shows nothing of a build script before it ends, so what is told on the way goes to the terminal, or to the pipe that
+/// cargo's own messages go to.
+fn screen() -> Option<Screen> {
+    let open = |path: &str| OpenOptions::new().append(true).open(path).ok();
+    if let Some(file) = open("/dev/tty") {
+        return Some(Screen { file, clear: "\r\x1b[K" });
+    }
+    let cargo = format!("/proc/{}/fd/2", std::os::unix::process::parent_id());
+    let is_pipe = std::fs::metadata(&cargo).is_ok_and(|m| m.file_type().is_fifo());
+    is_pipe.then(|| open(&cargo)).flatten().map(|file| Screen { file, clear: "" })
+}
+
+fn tell(screen: &mut Option<Screen>, line: &str) {
+    if let Some(Screen { file, clear }) = screen {
         // who watches no longer is no reason to stop
-        let _ = writeln!(screen, "sort_placement: {line}");
+        let _ = writeln!(file, "{clear}sort_placement: {line}");
     }
 }
 
@@ -59,7 +69,7 @@ fn crates_below(list: &str) -> usize {
 }
 
 /// Tells of each crate that is proved, as it is proved; all lines of the command, for the case that it fails.
-fn watch(rt: &mut Child, total: usize, screen: &mut Option<File>) -> String {
+fn watch(rt: &mut Child, total: usize, screen: &mut Option<Screen>) -> String {
     let (began, mut proved, mut said) = (Instant::now(), 0, String::new());
     let mut lines = BufReader::new(rt.stderr.take().expect("it is piped")).split(b'\n');
     while let Some(Ok(line)) = lines.next() {
