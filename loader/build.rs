@@ -126,6 +126,10 @@ fn build() -> Result<(), String> {
     let folder = |name: &str| std::env::var_os(name).map(PathBuf::from).ok_or(format!("cargo gives no {name}"));
     let (package, out) = (folder("CARGO_MANIFEST_DIR")?, folder("OUT_DIR")?);
     let root = package.parent().ok_or("the package stands in no repository")?;
+    // first what can fail: cargo shows all of a failed script's output
+    prove(root)?;
+    let (from, to) = (archive(root), out.join(format!("lib{LIBRARY}.a")));
+    std::fs::copy(&from, &to).map_err(|e| format!("{}: {e}", from.display()))?;
     let exports = root.join("crates/sort_placement/src/lib.rt");
     let text = std::fs::read_to_string(&exports).map_err(|e| format!("{}: {e}", exports.display()))?;
     for call in CALLS {
@@ -134,9 +138,6 @@ fn build() -> Result<(), String> {
             println!("cargo:rustc-cfg=has_{call}");
         }
     }
-    prove(root)?;
-    let (from, to) = (archive(root), out.join(format!("lib{LIBRARY}.a")));
-    std::fs::copy(&from, &to).map_err(|e| format!("{}: {e}", from.display()))?;
     println!("cargo:rustc-link-search=native={}", out.display());
     println!("cargo:rustc-link-lib=static={LIBRARY}");
     // for the test that links it from C
