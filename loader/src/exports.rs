@@ -26,7 +26,7 @@ pub const ALL: [Call; 7] =
     [Call::Check, Call::Copy, Call::Ensure, Call::Parallelize, Call::Preserve([0; 3]), Call::Push, Call::Partial(0)];
 
 impl Call {
-    /// A short name, as on a command line.
+    /// A short name, for figures and messages.
     pub fn name(self) -> &'static str {
         match self {
             Call::Check => "check",

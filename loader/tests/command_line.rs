@@ -122,6 +122,14 @@ fn what_did_not_change_is_told() {
     assert_eq!(tried.status.code(), Some(1));
 }
 
+/// The walks are tried one by one: pushing alone takes the sort and its fetch away here, as the Rust does.
+#[test]
+fn a_lost_fetch_is_told() {
+    let tried = run(&["try", "push", SAMPLE], b"");
+    assert!(text(&tried).contains("1 1 sort 1 200 0al,1al  gone\n"));
+    assert!(text(&tried).ends_with("\nlost: fetch 200 of node 1 (sort)\n"));
+}
+
 #[test]
 fn a_fetch_that_another_node_takes_is_not_lost() {
     // the sort's fetch is the new limit's, so it is not lost

@@ -147,8 +147,9 @@ FILE is a plan file, for make and try a text; '-' or nothing for standard input.
     );
     for t in &TOPICS {
         let head = format!("{} {}", t.name, t.words);
-        let (head, break_) = (head.trim_end(), if head.trim_end().len() > 13 { "\n                 " } else { "" });
-        out += &format!("  {head:13}  {break_}{}\n", t.short);
+        let head = head.trim_end();
+        // a long one has its line to itself
+        out += &if head.len() > 13 { format!("  {head}\n{:17}{}\n", "", t.short) } else { format!("  {head:13}  {}\n", t.short) };
     }
     out += "  help [COMMAND]
                  this list, or a command's own page with an example

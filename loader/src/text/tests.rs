@@ -214,3 +214,33 @@ fn a_text_comes_back_in_normal_layout() {
     assert_eq!(Plan::read(&plan.write()).as_ref().map(show).as_deref(), Ok(normal));
     assert_eq!(parse(normal), Ok(plan));
 }
+
+/// A text with some characters changed: a plan that comes back whole, or an error; never a panic.
+#[test]
+fn a_damaged_text_is_a_plan_or_an_error() {
+    let mut rng = Rng::new(4);
+    let texts: Vec<String> = (0..100).map(|_| show(&plan(&mut rng))).collect();
+    let (mut plans, mut errors) = (0, 0);
+    for _ in 0..20_000 {
+        let mut text: Vec<char> = texts[rng.below(texts.len())].chars().collect();
+        for _ in 0..1 + rng.below(3) {
+            let at = rng.below(text.len());
+            match rng.below(3) {
+                0 => text[at] = rng.pick(&['0', '9', 'a', '=', ',', ' ', '\n', '\t', '#', 'é', '\u{2003}']),
+                1 => drop(text.remove(at)),
+                _ => text.insert(at, rng.pick(&['1', 'd', 'f', ' ', '\r', ','])),
+            }
+        }
+        match parse(&text.into_iter().collect::<String>()) {
+            Ok(plan) => {
+                plans += 1;
+                assert_eq!(parse(&show(&plan)), Ok(plan));
+            }
+            Err(wrong) => {
+                errors += 1;
+                assert!(!wrong.to_string().is_empty());
+            }
+        }
+    }
+    assert!(plans > 200 && errors > 5_000, "{plans} plans, {errors} errors");
+}
