@@ -37,8 +37,7 @@ fn a_deep_text_is_told() {
 
 #[test]
 fn what_is_no_text_is_told() {
-    let told = told(&run(&["make"], b"filter\n  \xff"), 2).to_string();
-    assert!(told.starts_with("standard input: line 2: not a text in UTF-8\n"), "{told}");
+    assert_eq!(told(&run(&["make"], b"filter\n  \xff"), 2), "standard input: line 2: not a text in UTF-8\n");
 }
 
 /// Half a gigabyte that takes no room on the disk; a process that may have 100 MB of memory refuses it by its length.

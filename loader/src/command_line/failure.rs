@@ -13,7 +13,9 @@ const NOT_READ_OR_WRITTEN: u8 = 4;
 pub enum Failure {
     /// the command line, with what is wrong in it
     Usage(String),
-    /// a text that is none
+    /// bytes that are no text
+    NoText(String),
+    /// a text that has no plan
     Text(TextError),
     /// a plan that is refused
     Refused(Why),
@@ -28,7 +30,7 @@ impl Failure {
         ExitCode::from(match self {
             Failure::Usage(_) => BAD_USAGE,
             Failure::Text(TextError::Refused { .. }) | Failure::Refused(_) | Failure::Called(_) => REFUSED,
-            Failure::Text(_) => BAD_USAGE,
+            Failure::Text(_) | Failure::NoText(_) => BAD_USAGE,
             Failure::File(_) => NOT_READ_OR_WRITTEN,
         })
     }
@@ -41,7 +43,7 @@ impl fmt::Display for Failure {
             Failure::Text(wrong) => write!(f, "{wrong}"),
             Failure::Refused(why) => write!(f, "{why}"),
             Failure::Called(refusal) => write!(f, "{refusal}"),
-            Failure::File(what) => write!(f, "{what}"),
+            Failure::NoText(what) | Failure::File(what) => write!(f, "{what}"),
         }
     }
 }

@@ -39,7 +39,7 @@ pub fn text(place: &Place) -> Result<String, Failure> {
     String::from_utf8(bytes).map_err(|e| {
         let good = &e.as_bytes()[..e.utf8_error().valid_up_to()];
         let line = 1 + good.iter().filter(|b| **b == b'\n').count();
-        Failure::Usage(format!("{}: line {line}: not a text in UTF-8", name(place, "standard input")))
+        Failure::NoText(format!("{}: line {line}: not a text in UTF-8", name(place, "standard input")))
     })
 }
 

@@ -1,7 +1,6 @@
 //! Refusals 6 (unequal union), 7 and 8, node by node from the last to the first.
-use super::MOST_COLUMNS;
 use super::kind::*;
-use super::number;
+use super::{MOST_COLUMNS, MOST_KEYS, number};
 use crate::Refusal;
 use crate::why::{Fault, Why};
 
@@ -26,8 +25,9 @@ fn list_fault(field: &'static str, columns: &[u8], width: usize, whose: &str, ma
 }
 
 fn set_fault(field: &'static str, set: u32, width: usize, whose: &str) -> Option<Fault> {
-    let columns: Vec<u8> = (0..32).filter(|c| set >> c & 1 == 1).collect();
-    list_fault(field, &columns, width, whose, true)
+    // bits at or above the width
+    let above = set & u32::MAX.checked_shl(width as u32).unwrap_or(0);
+    if above == 0 { None } else { list_fault(field, &[above.trailing_zeros() as u8], width, whose, true) }
 }
 
 /// Refusal 7.
@@ -38,7 +38,7 @@ fn column_fault(r: &[u8], children: &[Child]) -> Option<Fault> {
         _ if is_join(kind) => (children[0].width, "the left child's width"),
         _ => (children[0].width, "the child's width"),
     };
-    let keys: Vec<u8> = (0..count).map(|i| r[16 + 2 * i]).collect();
+    let keys: [u8; MOST_KEYS] = std::array::from_fn(|i| r[16 + 2 * i]);
     let rest = || match kind {
         SOURCE => set_fault("constant columns", number(&r[32..]), width, whose),
         OUTPUT_REQUIREMENT => set_fault("keyed columns", number(&r[32..]), width, whose),
@@ -48,7 +48,7 @@ fn column_fault(r: &[u8], children: &[Child]) -> Option<Fault> {
         }
         _ => None,
     };
-    list_fault("key columns", &keys, width, whose, false).or_else(rest)
+    list_fault("key columns", &keys[..count], width, whose, false).or_else(rest)
 }
 
 fn union_fault(r: &[u8], children: &[Child]) -> Option<Fault> {
@@ -78,18 +78,22 @@ fn width_fault(width: usize) -> Option<Fault> {
 pub(super) fn fault(records: &[&[u8]]) -> Option<Why> {
     let mut open: Vec<Child> = vec![];
     for (node, r) in records.iter().enumerate().rev() {
-        let children: Vec<Child> = (0..r[1]).filter_map(|_| open.pop()).collect();
+        // the trees that are finished last come first in the file
+        let rest = open.len() - r[1] as usize;
+        let children = &mut open[rest..];
+        children.reverse();
         let why = |refusal, fault| Why::of_node(refusal, node, r[0], fault);
-        if let Some(fault) = union_fault(r, &children) {
+        if let Some(fault) = union_fault(r, children) {
             return Some(why(Refusal::Field, fault));
         }
-        if let Some(fault) = column_fault(r, &children) {
+        if let Some(fault) = column_fault(r, children) {
             return Some(why(Refusal::Column, fault));
         }
-        let width = width_of(r, &children);
+        let width = width_of(r, children);
         if let Some(fault) = width_fault(width) {
             return Some(why(Refusal::Width, fault));
         }
+        open.truncate(rest);
         open.push(Child { node, width });
     }
     None

@@ -53,12 +53,14 @@ pub fn read(file: &[u8]) -> Result<Node, u32> {
 
 /// The tree of an accepted file.
 pub(crate) fn tree(file: &[u8]) -> Node {
-    let mut stack: Vec<Node> = vec![];
+    let mut finished: Vec<Node> = vec![];
     for r in records(file).iter().rev() {
-        let children = (0..r[1]).filter_map(|_| stack.pop()).collect();
-        stack.push(Node::new(Record::read(r), children));
+        // the trees that are finished last come first in the file
+        let mut children = finished.split_off(finished.len() - r[1] as usize);
+        children.reverse();
+        finished.push(Node::new(Record::read(r), children));
     }
-    stack.pop().expect("an accepted file has a root")
+    finished.pop().expect("an accepted file has a root")
 }
 
 fn put_records(node: &Node, out: &mut Vec<[u8; 64]>) {
