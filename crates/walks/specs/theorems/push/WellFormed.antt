@@ -16,6 +16,7 @@ use Rattle.plan.specs.declared.Distribution.{Distribution}
 use Rattle.plan.specs.declared.Distribution.the-variants.{Unspecified}
 use Rattle.plan.specs.declared.Fetch.{Fetch}
 use Rattle.plan.specs.declared.Fetch.the-variants.{AtMost, Unlimited}
+use Rattle.plan.specs.Numbers.{noFetch}
 use Rattle.semantics.specs.Facts.{at0, compatible, Facts, facts, factsOp, isNil, met, nf, nothing}
 use Rattle.semantics.specs.Properties.{fetches, fetchOp, freshKeys, rebuilt, sortDist, uncut, wanted}
 use Rattle.semantics.specs.Runs.{Each, Env, Run, SameInputs, Streams}
@@ -60,7 +61,7 @@ fitted-cond o c false D E h k = k
 min-ok : (f g : Fetch) → fetchOk f ≡ true → fetchOk g ≡ true → fetchOk (minFetch f g) ≡ true
 min-ok Unlimited g p q = q
 min-ok (AtMost m) Unlimited p q = p
-min-ok (AtMost m) (AtMost n) p q = lt-ltb (min m n) 4294967295 (omega (arith, ltb-true m 4294967295 p, ltb-true n 4294967295 q))
+min-ok (AtMost m) (AtMost n) p q = lt-ltb (min m n) noFetch (omega (arith, ltb-true m noFetch p, ltb-true n noFetch q))
 
 -- ---- new nodes over a node of facts F
 module _ (F : Facts) (n : leb (F .width) 32 ≡ true) where
