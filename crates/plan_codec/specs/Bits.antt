@@ -6,7 +6,8 @@ use native.Mathlib.Omega.{arith}
 use lib.Dec.{leb, ltb, eqb}
 use borrow.Author.Tests.{eqb-true, eqb-false, ltb-true, leb-true, lt-ltb, ne-eqb}
 use Rattle.row_order.specs.Packed.{bit}
-use Rattle.scan.specs.Below.{allBelow, all-at, and-right}
+use Rattle.scan.specs.Bytes.{allBelow, oneIf}
+use Rattle.scan.specs.Below.{all-at, and-right}
 use Rattle.plan.specs.Numbers.{kindNumber, kindOf, joinNumber, joinTypeOf, noFetch}
 use Rattle.plan.specs.WellFormed.{between, fetchOk}
 use Rattle.plan.specs.declared.Kind.{Kind}
@@ -16,7 +17,6 @@ use Rattle.plan.specs.declared.JoinType.the-variants.{Inner, Left, Right, Full,
 use Rattle.plan.specs.declared.Fetch.{Fetch}
 use Rattle.plan.specs.declared.Fetch.the-variants.{Unlimited, AtMost}
 use Rattle.plan_codec.specs.Decode.{fetchOf, keyOfBytes}
-use Rattle.scan.specs.Bytes.{oneIf}
 use Rattle.plan_codec.specs.Encode.{marksByte, fetchNumber, optionsByte}
 
 -- ---- Booleans

@@ -6,8 +6,7 @@ use Prim.Native.Nat.{ℕ, _+_, _*_, _/_, _%_, _^_}
 use lib.Dec.{leb, ltb, eqb}
 use lib.Count.{ones}
 use lib.ListN.{getD, drop}
-use Rattle.scan.specs.Below.{allBelow}
-use Rattle.scan.specs.Bytes.{zeros, le32}
+use Rattle.scan.specs.Bytes.{allBelow, zeros, le32}
 use Rattle.plan.specs.Numbers.{noFetch}
 use Rattle.plan.specs.WellFormed.{between}
 use Rattle.plan_format.specs.declared.Fields.{Fields}
