@@ -1,6 +1,6 @@
 -- From bytes to bytes: what each of the five exports that rewrite writes, where it answers 0, is a plan file of a plan that the rewrite answers. Said
 -- over the definitions that the contracts of the exports cite: `rewrites`, `refusalIn`, `outputIn` (call_answers).
--- Definitions further: reading (plan_codec); wellFormed (plan); AllBytes (scan); answer (Walks); partiallySorted (walks); FeedsInOrder (CheckedFiles);
+-- Definitions further: reading (plan_codec); wellFormed (plan); AllBytes (scan); answer (Walks); partiallySorted (walks); AllFed (OrderKept);
 -- clear (walks); SameInputs, Run (semantics); delivered, times (RowsKept).
 use mathlib.Core.Path.{_≡_, refl, sym, ap, _∙_, subst}
 use mathlib.Core.Bool.{Bool, true, false, cond}
