@@ -2,8 +2,6 @@
 use mathlib.Core.Path.{_≡_, refl}
 use mathlib.Core.Bool.{true, false}
 use mathlib.Core.List.{[], _∷_}
-use Prim.Native.Nat.{ℕ}
-use Rattle.row_order.specs.Iso.{Key}
 use Rattle.plan.specs.declared.Kind.the-variants.{Source, Filter, Sort, Merge, SortMergeJoin}
 use Rattle.plan.specs.declared.Fetch.the-variants.{Unlimited, AtMost}
 use Rattle.node_lines.specs.Lines.{ascii, digitsIn, kindName, further, lineOf}

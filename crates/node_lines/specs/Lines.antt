@@ -89,7 +89,8 @@ abbrev pub lineOf : ℕ → ℕ → Kind → ℕ → Fetch → List Key → List
 lineOf node depth kind streams fetch keys =
     row (decimal node ∷ decimal depth ∷ kindName kind ∷ decimal streams ∷ fetchText fetch ∷ keysText keys ∷ [])
 
--- ---- from a slot of the arena: the node's record stands in its first 64 bytes, the facts kept of it in its last 112
+-- ---- from a slot of the arena: the node's record stands in its first 64 bytes, the facts kept of it in its last 112. Said over the bytes that the code
+-- reads, by the names that the codec has for them (plan_codec, fromBytes): a kind without keys has a key count of zero
 
 -- a record whose kind has no fetch has none
 abbrev pub fetchIn : ℕ → ℕ → Fetch
