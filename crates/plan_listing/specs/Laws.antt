@@ -9,7 +9,8 @@ use lib.Dec.{eqb}
 use lib.ListN.{length, getD, take, drop, set, length-set}
 use lib.Seq.{getD-set-same, getD-set-other}
 use borrow.Author.Tests.{ne-eqb}
-use Rattle.scan.specs.Bytes.{part, cut}
+use Rattle.scan.specs.Bytes.{part}
+use Rattle.scan.specs.ByteLaws.{cut}
 use Rattle.scan.specs.Parts.{at-part}
 use Rattle.plan.specs.Numbers.{numberOf}
 use Rattle.plan.specs.declared.Refusal.the-variants.{Accepted}
