@@ -3,17 +3,52 @@
 
     tools/worked_examples.py
 
-writes crates/worked_examples/data/* and the stdin of crates/plan_show and crates/plan_list. Plans are lists of records, parent first.
+writes crates/worked_examples/data/*, the stdin of crates/plan_list, and the stdin and the expected stdout of crates/plan_show. Plans are lists of records,
+parent first.
 """
 import os
 
 CRATES = os.path.join(os.path.dirname(os.path.abspath(__file__)), "..", "crates")
 
-SOURCE, FILTER, PROJECTION, REPARTITION, COALESCE, SORT, MERGE, OUTPUT_REQUIREMENT, AGGREGATE = 1, 2, 3, 5, 6, 7, 8, 13, 15
+SOURCE, FILTER, PROJECTION, REPARTITION, COALESCE, SORT, OUTPUT_REQUIREMENT, AGGREGATE = 1, 2, 3, 5, 6, 7, 13, 15
+# 01's names with hyphens for spaces, and 02's for kind 15; the kinds with a fetch are 6-10, 13 and 14
+KINDS = ("source filter projection union repartition coalesce sort merge global-limit local-limit sort-merge-join hash-join"
+         " output-requirement partial-sort aggregate").split()
+WITH_FETCH = (6, 7, 8, 9, 10, 13, 14)
 NO_FETCH = 4294967295
 DESCENDING = 1
 PRESERVE = 1
+HASH = 2
 SINGLE = 1
+LEFT_SEMI, RIGHT_ANTI = 4, 7
+
+# Every kind, once at least. By node: depth, kind, streams, fetch and keys as 01 ('Worked on paper') has them printed, the streams by 'Facts of a node';
+# then what else its record has. A union has three children and each kind of join two, so that the node after a leaf stands two or three levels higher;
+# keys have all four options; columns and streams have one digit or two; a sort with a preserve mark keeps its child's streams.
+EVERY_KIND = [
+    (0, "output-requirement", 1, "-", "0al,1dl,2af,3df", {"role": SINGLE}),
+    (1, "global-limit", 1, "20", "-", {"skip": 3}),
+    (2, "merge", 1, "-", "3df", {}),
+    (3, "union", 73, "-", "-", {}),
+    (4, "sort-merge-join", 1, "-", "0af,2dl", {"role": LEFT_SEMI, "tail": [31, 0]}),
+    (5, "sort", 1, "-", "0af,2dl", {}),
+    (6, "coalesce", 1, "4294967294", "-", {}),
+    (7, "source", 3, "-", "-", {"width": 4}),
+    (5, "partial-sort", 64, "9", "31af,0dl,10df", {"marks": PRESERVE, "role": 1}),
+    (6, "source", 64, "-", "31af", {"width": 32}),
+    (4, "hash-join", 8, "-", "1al", {"role": RIGHT_ANTI, "tail": [2]}),
+    (5, "coalesce", 1, "-", "-", {}),
+    (6, "aggregate", 2, "-", "1al,0al", {"width": 3}),
+    (7, "filter", 2, "-", "-", {}),
+    (8, "source", 2, "-", "1dl,0af", {"width": 2}),
+    (5, "repartition", 8, "-", "2al,0al", {"marks": HASH}),
+    (6, "local-limit", 5, "0", "1df", {}),
+    (7, "source", 5, "-", "1df,2af,3dl,0al", {"width": 4}),
+    (4, "sort", 64, "7", "2df", {"marks": PRESERVE}),
+    (5, "projection", 64, "-", "-", {"width": 4, "tail": [1, 1, 0, 2]}),
+    (6, "repartition", 64, "-", "-", {"marks": PRESERVE}),
+    (7, "source", 1, "-", "0al", {"width": 3}),
+]
 
 
 def record(kind, children=0, streams=0, marks=0, fetch=0, keys=(), width=0, distribution=0):
@@ -56,6 +91,41 @@ def surveyor(streams, known):
     return [bytes(projection), record(SORT, 1, fetch=NO_FETCH, keys=[1]), record(AGGREGATE, 1, keys=[0, 1], width=3), source(streams, known)]
 
 
+def key_bytes(text):
+    """A key's two bytes, from its column, a or d for the direction, f or l for the nulls."""
+    return int(text[:-2]), "ad".index(text[-2]) + 2 * "lf".index(text[-1])
+
+
+def child_count(rows, at):
+    """How many rows stand one below the row, before the next that does not stand below it."""
+    depths = [row[0] for row in rows[at + 1 :]]
+    end = next((i for i, depth in enumerate(depths) if depth <= rows[at][0]), len(depths))
+    return depths[:end].count(rows[at][0] + 1)
+
+
+def row_record(rows, at):
+    """The record of one row. Only sources and repartitions have streams of their own."""
+    _, name, streams, fetch, keys, more = rows[at]
+    kind = KINDS.index(name) + 1
+    r = bytearray(record(
+        kind, child_count(rows, at), streams if kind in (SOURCE, REPARTITION) else 0, more.get("marks", 0),
+        0 if kind not in WITH_FETCH else NO_FETCH if fetch == "-" else int(fetch),
+        [] if keys == "-" else [key_bytes(key) for key in keys.split(",")], more.get("width", 0), more.get("role", 0)
+    ))
+    r[8:12] = more.get("skip", 0).to_bytes(4, "little")
+    tail = more.get("tail", [])
+    r[32 : 32 + len(tail)] = bytes(tail)
+    return bytes(r)
+
+
+def listing(rows):
+    """What 01 has printed of the plan."""
+    lines = ["node depth kind streams fetch keys"]
+    for number, (depth, name, streams, fetch, keys, _) in enumerate(rows):
+        lines.append(f"{number} {depth} {name} {streams} {fetch} {keys}")
+    return "".join(line + "\n" for line in lines).encode()
+
+
 def plan_file(records):
     """The blocks of 512 bytes, of seven records each."""
     parts = [records[at : at + 7] for at in range(0, len(records), 7)]
@@ -93,7 +163,8 @@ def main():
     for name, data in examples.items():
         write("worked_examples/data/" + name, data)
     write("plan_list/stdin", plan_file([record(SORT, 1, fetch=NO_FETCH, keys=[2]), source(2, [2, 0])]))
-    write("plan_show/stdin", plan_file([record(MERGE, 1, fetch=NO_FETCH, keys=[2]), source(2, [2, 0])]))
+    write("plan_show/stdin", plan_file([row_record(EVERY_KIND, at) for at in range(len(EVERY_KIND))]))
+    write("plan_show/stdout", listing(EVERY_KIND))
 
 
 if __name__ == "__main__":

@@ -6,7 +6,8 @@ use native.Mathlib.Omega.{arith}
 use native.Mathlib.Decide.{decLt}
 use lib.ListN.{length, take, drop}
 use lib.Seq.{drop-drop}
-use Rattle.scan.specs.Bytes.{part, length-part}
+use Rattle.scan.specs.Bytes.{part}
+use Rattle.scan.specs.ByteLaws.{length-part}
 use Rattle.scan.specs.Parts.{splice, splice-here, splice-front, splice-drop, splice-length, part-same}
 use Rattle.plan_format.specs.Record.{children}
 use Rattle.arena.specs.Arena.{slotSize, recordSize, keptFrom, keptSize, numbersIn, slot, held, keptPart}

@@ -8,7 +8,8 @@ use lib.Dec.{eqb, ltb}
 use lib.ListN.{length, take, getD, set, length-set}
 use lib.Seq.{getD-set-same, getD-set-other, getD-take, length-take-le, ext-getD}
 use borrow.Author.Tests.{eqb-true, eqb-false, ltb-true, ltb-false, lt-ltb, le-ltb}
-use Rattle.row_order.specs.Lists.{tab, length-tab, getD-tab}
+use Rattle.row_order.specs.Lists.{tab}
+use Rattle.row_order.specs.ListLaws.{length-tab, getD-tab}
 use Rattle.class_tables.specs.Tables.{at, Filled, Alone}
 
 -- at a column below 32 a table is read

@@ -1,7 +1,7 @@
 -- From bytes to rows: where `check_order` (sort_placement) answers 0 and writes 1, the bytes hold a plan, and every run of it over rows that
 -- keep its declared facts feeds every operator in order. Said over the definitions that the contract of `check_order` cites: `refusalOf`
--- (plan_format), `numberOf` (plan), `reading` (plan_codec), `checkAnswer` (sort_placement).
--- Definitions further: AllBytes (plan_roundtrip); Plan, wellFormed (plan); Env, Sources, Run, Met (semantics); AllFed (OrderKept).
+-- (plan_format), `numberOf` (plan), `reading` (plan_codec), `checkAnswer` (call_answers).
+-- Definitions further: AllBytes (scan); Plan, wellFormed (plan); Env, Sources, Run, EachMet (semantics); AllFed (OrderKept).
 use mathlib.Core.Path.{_≡_, refl, sym, ap, _∙_}
 use mathlib.Core.Bool.{Bool, true, false, cond}
 use mathlib.Core.List.{List}
@@ -14,8 +14,7 @@ use Rattle.plan.specs.Op.{Plan}
 use Rattle.plan.specs.Numbers.{numberOf}
 use Rattle.plan.specs.WellFormed.{wellFormed}
 use Rattle.plan_format.specs.Reading.{refusalOf}
-use Rattle.plan_roundtrip.specs.Back.{AllBytes}
-use Rattle.scan.specs.Bytes.{oneIf}
+use Rattle.scan.specs.Bytes.{AllBytes, oneIf}
 use Rattle.plan_codec.specs.Reading.{plan, planOf, reading, refused}
 use Rattle.plan_codec.specs.RoundTrip.{read-well-formed}
 use Rattle.semantics.specs.Check.{check, EachMet}

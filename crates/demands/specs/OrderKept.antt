@@ -8,7 +8,7 @@ use Prim.Native.Nat.{ℕ, zero, suc, _<_}
 use lib.ListN.{length, getD}
 use Rattle.row_order.specs.Iso.{before}
 use Rattle.row_order.specs.Lists.{All, all-nil, all-cons, pw-nil}
-use Rattle.row_order.specs.Sorting.{Sorted}
+use Rattle.row_order.specs.RowLists.{Sorted}
 use Rattle.row_order.specs.Forms.{sorted-ordered, ordered-sorted}
 use Rattle.plan.specs.Forest.{Forest}
 use Rattle.plan.specs.Op.{Op, Plan}

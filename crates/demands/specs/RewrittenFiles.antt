@@ -1,6 +1,6 @@
 -- From bytes to bytes: what each of the five exports that rewrite writes, where it answers 0, is a plan file of a plan that the rewrite answers. Said
--- over the definitions that the contracts of the exports cite: `rewrites`, `refusalIn`, `outputIn` (sort_placement).
--- Definitions further: reading, written (plan_codec); wellFormed (plan); AllBytes (plan_roundtrip); answer (Walks); FeedsInOrder (CheckedFiles);
+-- over the definitions that the contracts of the exports cite: `rewrites`, `refusalIn`, `outputIn` (call_answers).
+-- Definitions further: reading (plan_codec); wellFormed (plan); AllBytes (scan); answer (Walks); partiallySorted (walks); AllFed (OrderKept);
 -- clear (walks); SameInputs, Run (semantics); delivered, times (RowsKept).
 use mathlib.Core.Path.{_≡_, refl, sym, ap, _∙_, subst}
 use mathlib.Core.Bool.{Bool, true, false, cond}
@@ -18,7 +18,7 @@ use Rattle.plan.specs.Numbers.{numberOf}
 use Rattle.plan.specs.WellFormed.{every, wellFormed}
 use Rattle.plan.specs.declared.Refusal.the-variants.{Accepted, ConstantSort, HasPartialSort, OutputTooShort, TooManyNodes}
 use Rattle.plan_format.specs.Reading.{refusalOf}
-use Rattle.plan_roundtrip.specs.Back.{AllBytes}
+use Rattle.scan.specs.Bytes.{AllBytes}
 use Rattle.plan_codec.specs.Reading as codec
 use Rattle.plan_codec.specs.Reading.{plan, planOf, reading}
 use Rattle.plan_codec.specs.Writing.{fileOfPlan}

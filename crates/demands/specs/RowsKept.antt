@@ -8,8 +8,9 @@ use mathlib.Core.List.{List, []}
 use Prim.Native.Nat.{ℕ}
 use lib.ListN.{getD}
 use Rattle.row_order.specs.Iso.{Row}
-use Rattle.row_order.specs.Order.{row-discrete}
-use Rattle.row_order.specs.Lists.{concat, same-refl, sum, one}
+use Rattle.row_order.specs.RowLists.{row-discrete}
+use Rattle.row_order.specs.Lists.{concat, sum, one}
+use Rattle.row_order.specs.ListLaws.{same-refl}
 use Rattle.plan.specs.Forest.{Forest, roots}
 use Rattle.plan.specs.Op.{Plan}
 use Rattle.plan.specs.WellFormed.{wellFormed}

@@ -45,6 +45,6 @@ module _ (b d : List ℕ) (h : 48 ≤ length b) where
         order = record { word = w i; len = a₁ i };
       }
 
--- what is said of the facts is said of the copy; the flag and the bytes behind it don't count
+-- what is said of the facts is said of the copy; the bytes behind them don't count
 pub kept-says : (F : Facts) (b d : List ℕ) → 48 ≤ length b → Says F (loaded b) → Says F (loaded (take 48 b ++ d))
 kept-says F b d h s = subst (Says F) (sym (loaded-kept b d h)) s

@@ -1,12 +1,11 @@
-// The facts of a node in the 112 bytes that a slot of the arena keeps for them, and whether the order check passes there.
+// The facts of a node in the first 48 of the 112 bytes that a slot of the arena keeps of it.
 use facts::Facts;
 use key_lists::Keys;
 ghost use mathlib.Core.Path.{_≡_};
 ghost use Prim.Native.Nat.{_+_, _≤_, _<_};
-ghost use lib.ListN.{length, set};
-ghost use Rattle.scan.specs.Bytes.{oneIf};
+ghost use lib.ListN.{length};
 ghost use Rattle.facts.specs.Known.{Coherent};
-ghost use Rattle.fact_slots.specs.Slots.{le64, loaded, head, wordBytes, Stored, passesIn};
+ghost use Rattle.fact_slots.specs.Slots.{le64, loaded, head, wordBytes, Stored};
 
 // Where the facts stand in their row: one byte each for the width and the order's length, two for the streams, a set of four for the
 // constants, a word for the order, a byte for each column's class.
@@ -113,12 +112,4 @@ pub fn store(b: &mut [u8], f: Facts)
     byte_rows::write_row(&mut b[WIDTH..ORDER], &head);
     byte_rows::write_row(&mut b[ORDER..CLASSES], &keys);
     byte_rows::write_row(&mut b[CLASSES..ROW], &low);
-}
-
-// Whether the order check passes in the node's subtree.
-pub fn passes(b: &[u8]) -> bool
-    requires { ⌜ length (now b) ≡ 112 ⌝ }
-    ensures { λ r. ⌜ r ≡ passesIn (now (b .entry)) ⌝ }
-{
-    b[48] == 1
 }

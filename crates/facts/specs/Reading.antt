@@ -10,7 +10,8 @@ use lib.Seq.{getD-take, length-take-le}
 use borrow.Author.Tests.{ltb-true, ltb-false, ne-eqb}
 use Rattle.row_order.specs.Iso.{Key}
 use Rattle.row_order.specs.Packed.{bit, keyOf}
-use Rattle.row_order.specs.Lists.{tab, length-tab, getD-tab}
+use Rattle.row_order.specs.Lists.{tab}
+use Rattle.row_order.specs.ListLaws.{length-tab, getD-tab}
 use Rattle.semantics.specs.Facts.{cl, isC, nfBy, nf, isNil}
 use Rattle.class_tables.specs.Tables.{at, Small}
 use Rattle.class_tables.specs.Filling.{read}

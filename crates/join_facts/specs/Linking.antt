@@ -9,7 +9,8 @@ use lib.Dec.{eqb, ltb}
 use lib.ListN.{length, drop, getD, drop-of-length-le}
 use borrow.Author.Tests.{eqb-true, ltb-true, ltb-false}
 use Rattle.row_order.specs.Packed.{bit, keyOf}
-use Rattle.row_order.specs.Lists.{All, all-nil, all-cons, all-head, all-tail}
+use Rattle.row_order.specs.Lists.{All, all-nil, all-cons}
+use Rattle.row_order.specs.ListLaws.{all-head, all-tail}
 use Rattle.plan.specs.Op.{On}
 use Rattle.plan.specs.declared.JoinType.{JoinType}
 use Rattle.plan.specs.WellFormed.{onFit, below as columnsBelow, distinct}

@@ -6,7 +6,8 @@ use native.Mathlib.Omega.{arith}
 use lib.Dec.{le→leb, lt→ltb}
 use lib.IntN.{pos}
 use Rattle.row_order.specs.Iso.{Key}
-use Rattle.row_order.specs.Lists.{All, all-map}
+use Rattle.row_order.specs.Lists.{All}
+use Rattle.row_order.specs.ListLaws.{all-map}
 use Rattle.plan.specs.WellFormed.{joinWidth}
 use Rattle.plan.specs.declared.JoinType.{JoinType}
 use Rattle.plan.specs.declared.JoinType.the-variants.{Inner, Left, Right, Full, LeftSemi, LeftAnti, RightSemi, RightAnti}

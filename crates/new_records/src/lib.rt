@@ -2,6 +2,7 @@
 // child, and no streams, width or columns of its own.
 use key_lists::Keys;
 use plan::Fetch;
+use plan::NO_FETCH;
 use record_fields::KIND;
 use record_fields::MARKS;
 ghost use mathlib.Core.Path.{_≡_};
@@ -41,12 +42,12 @@ fn mark_byte(preserve: bool) -> u8
     if preserve { 1 } else { 0 }
 }
 
-// 4294967295 for none.
+// The number in a record's bytes.
 fn fetch_number(f: Fetch) -> u32
     ensures { λ n. ⌜ n ≡ fetchNumber f ⌝ }
 {
     match f {
-        Fetch::Unlimited => 4294967295,
+        Fetch::Unlimited => NO_FETCH,
         Fetch::AtMost(n) => n,
     }
 }

@@ -10,6 +10,7 @@ use record_fields::KIND;
 use record_fields::MARKS;
 use record_fields::ROLE;
 use record_fields::STREAMS;
+use record_fields::fetch_from;
 use record_fields::join_type_of;
 use record_fields::preserves;
 use record_keys::key_list;
@@ -22,7 +23,7 @@ ghost use Rattle.plan.specs.Numbers.{code, kindOf};
 ghost use Rattle.plan.specs.declared.Kind.the-variants as kinds;
 ghost use Rattle.semantics.specs.Properties as node;
 ghost use Rattle.key_lists.specs.Keys.{Keyed};
-ghost use Rattle.plan_codec.specs.Decode.{decode, fromBytes, fetchOf};
+ghost use Rattle.plan_codec.specs.Decode.{decode, fromBytes};
 ghost use Rattle.record_fields.specs.Proper.{pairsOf, Proper};
 ghost use Rattle.walks.specs.ParallelizeSorts.{samePartitioning};
 
@@ -77,17 +78,6 @@ pub fn keys(r: &[u8]) -> Keys
     ensures { λ k. ⌜ Keyed (fromBytes (now (r .entry)) .keys) k ⌝ }
 {
     key_list(r)
-}
-
-// 4294967295 stands for none.
-pub fn fetch_from(n: u32) -> Fetch
-    ensures { λ f. ⌜ f ≡ fetchOf n ⌝ }
-{
-    if n == 4294967295 {
-        Fetch::Unlimited
-    } else {
-        Fetch::AtMost(n)
-    }
 }
 
 pub fn fetch_field(r: &[u8]) -> Fetch

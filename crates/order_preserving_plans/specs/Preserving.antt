@@ -17,8 +17,7 @@ use Rattle.plan.specs.declared.Fetch.the-variants.{AtMost, Unlimited}
 use Rattle.plan_codec.specs.Decode.{decode}
 use Rattle.plan_codec.specs.Encode.{encode}
 use Rattle.semantics.specs.Facts.{at0, isNil, keepsOrder, knownOrder}
-use Rattle.semantics.specs.Properties.{maintains, cuts, remark}
-use Rattle.semantics.specs.Bags.{isAll}
+use Rattle.semantics.specs.Properties.{maintains, cuts, remark, isAll}
 use Rattle.key_lists.specs.Keys.{keysIn, keysOf, orderOf, Real, Ordered}
 use Rattle.key_lists.specs.declared.Keys.{Keys}
 use Rattle.key_lists.specs.declared.Order.{Order}

@@ -1,4 +1,4 @@
--- Document 01's numbers for kinds, join types, distributions and refusals. These are definitions.
+-- Document 01's numbers for kinds, join types, distributions, no fetch and refusals. These are definitions.
 use mathlib.Core.List.{List, [], _∷_}
 use Prim.Native.Nat.{ℕ, zero, suc}
 use lib.ListN.{getD}
@@ -29,6 +29,10 @@ kindNumber HashJoin = 12
 kindNumber OutputRequirement = 13
 kindNumber PartialSort = 14
 kindNumber Aggregate = 15
+
+-- '4-7 fetch, 4294967295 for none'
+abbrev pub noFetch : ℕ
+noFetch = 4294967295
 
 -- The kind of a number; a number that no kind has is read as 14, and refused before anything is read from it
 abbrev pub kinds : List Kind

@@ -8,6 +8,7 @@ use lib.ListN.{length, getD}
 use Rattle.row_order.specs.Iso.{Key}
 use Rattle.plan.specs.Forest.{Forest, none, tree, roots, size}
 use Rattle.plan.specs.Op.{On, Op, source, filter, projection, union, repartition, coalesce, sortOp, mergeOp, globalLimit, localLimit, sortMergeJoin, hashJoin, outputRequirement, partialSort, aggregate, Plan}
+use Rattle.plan.specs.Numbers.{noFetch}
 use Rattle.plan.specs.declared.JoinType.{JoinType}
 use Rattle.plan.specs.declared.JoinType.the-variants.{Inner, Left, Right, Full, LeftSemi, LeftAnti, RightSemi, RightAnti}
 use Rattle.plan.specs.declared.Distribution.{Distribution}
@@ -24,10 +25,10 @@ between low high n = leb low n && leb n high
 
 -- ---- 6: another field outside its rule
 
--- A fetch is four bytes, and 4294967295 stands for none
+-- A fetch is four bytes, and the largest number stands for none
 abbrev pub fetchOk : Fetch → Bool
 fetchOk Unlimited = true
-fetchOk (AtMost n) = ltb n 4294967295
+fetchOk (AtMost n) = ltb n noFetch
 
 abbrev pub someFetch : Fetch → Bool
 someFetch Unlimited = false

@@ -44,6 +44,9 @@ pub enum Fetch {
     AtMost(u32),
 }
 
+// The number that stands for no fetch (Numbers, noFetch).
+pub const NO_FETCH: u32 = 4294967295;
+
 // Why a call is refused, or that it is not.
 pub enum Refusal {
     Accepted,

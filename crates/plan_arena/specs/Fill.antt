@@ -10,7 +10,7 @@ use lib.ListN.{length, getD, take, drop, set, length-drop, drop-of-length-le}
 use lib.Seq.{drop-cons, drop-length, length-take-le}
 use borrow.Author.Tests.{leb-true, eqb-true}
 use Rattle.scan.specs.Below.{all-at, and-right, or-false}
-use Rattle.scan.specs.Bytes.{cut, length-part}
+use Rattle.scan.specs.ByteLaws.{cut, length-part}
 use Rattle.plan.specs.Forest.{none, tree}
 use Rattle.plan.specs.WellFormed.{between}
 use Rattle.plan_format.specs.Record.{children, kindByte, either, childrenOk, kindOk}

@@ -7,9 +7,8 @@ use Rattle.plan.specs.Numbers.{numberOf}
 use Rattle.plan.specs.declared.Refusal.{Refusal}
 use Rattle.plan.specs.declared.Refusal.the-variants.{Accepted}
 use Rattle.plan_format.specs.Blocks.{blockCount, recordCount}
-use Rattle.plan_format.specs.Passed.{accepted, passed}
+use Rattle.plan_format.specs.Passed.{accepted, passed, few-records}
 use Rattle.plan_format.specs.Reading.{refusalOf}
-use Rattle.block_passes.specs.Laws.{few-records}
 use Rattle.plan_arena.specs.declared.PlanRead.{PlanRead}
 use Rattle.arena.specs.Arena.{slotSize}
 use Rattle.plan_arena.specs.Fill.{HoldsTree, Fillable}

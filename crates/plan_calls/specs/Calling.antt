@@ -12,7 +12,7 @@ use Rattle.plan.specs.WellFormed.{wellFormed}
 use Rattle.plan.specs.declared.Refusal.the-variants.{Accepted}
 use Rattle.plan_format.specs.Reading.{refusalOf}
 use Rattle.plan_format.specs.Tree as file
-use Rattle.plan_roundtrip.specs.Back.{AllBytes}
+use Rattle.scan.specs.Bytes.{AllBytes}
 use Rattle.plan_codec.specs.Decode.{decode}
 use Rattle.plan_codec.specs.Reading.{planOf, reading}
 use Rattle.plan_codec.specs.RoundTrip.{read-well-formed}

@@ -6,8 +6,9 @@ use native.Mathlib.Omega.{arith}
 use lib.Dec.{leb, ltb, eqb}
 use borrow.Author.Tests.{eqb-true, eqb-false, ltb-true, leb-true, lt-ltb, ne-eqb}
 use Rattle.row_order.specs.Packed.{bit}
-use Rattle.scan.specs.Below.{allBelow, all-at, and-right}
-use Rattle.plan.specs.Numbers.{kindNumber, kindOf, joinNumber, joinTypeOf}
+use Rattle.scan.specs.Bytes.{allBelow, oneIf}
+use Rattle.scan.specs.Below.{all-at, and-right}
+use Rattle.plan.specs.Numbers.{kindNumber, kindOf, joinNumber, joinTypeOf, noFetch}
 use Rattle.plan.specs.WellFormed.{between, fetchOk}
 use Rattle.plan.specs.declared.Kind.{Kind}
 use Rattle.plan.specs.declared.Kind.the-variants.{Source, Filter, Projection, Union, Repartition, Coalesce, Sort, Merge, GlobalLimit, LocalLimit, SortMergeJoin, HashJoin, OutputRequirement, PartialSort, Aggregate}
@@ -15,9 +16,7 @@ use Rattle.plan.specs.declared.JoinType.{JoinType}
 use Rattle.plan.specs.declared.JoinType.the-variants.{Inner, Left, Right, Full, LeftSemi, LeftAnti, RightSemi, RightAnti}
 use Rattle.plan.specs.declared.Fetch.{Fetch}
 use Rattle.plan.specs.declared.Fetch.the-variants.{Unlimited, AtMost}
-use Rattle.plan_format.specs.Record.{noFetch}
 use Rattle.plan_codec.specs.Decode.{fetchOf, keyOfBytes}
-use Rattle.scan.specs.Bytes.{oneIf}
 use Rattle.plan_codec.specs.Encode.{marksByte, fetchNumber, optionsByte}
 
 -- ---- Booleans

@@ -7,7 +7,8 @@ use native.Mathlib.Omega.{arith}
 use lib.Dec.{ltb, eqb}
 use lib.ListN.{length, getD}
 use borrow.Author.Tests.{not-true}
-use Rattle.scan.specs.Below.{allBelow, all-at, all-intro, and-left, and-right}
+use Rattle.scan.specs.Bytes.{allBelow}
+use Rattle.scan.specs.Below.{all-at, all-intro, and-left, and-right}
 use Rattle.plan.specs.WellFormed.{every, member, distinct, below, columnsFit}
 use Rattle.plan_format.specs.LastPass.{belowOk, freshOk, columnOk, columnsOk, sameWidths}
 use Rattle.plan_codec.specs.Bits.{no-false, both, iff}

@@ -8,14 +8,13 @@ use Rattle.row_order.specs.Iso.{Key}
 use Rattle.row_order.specs.Packed.{bit}
 use Rattle.scan.specs.Bytes.{part, le32}
 use Rattle.plan.specs.Op.{On, Op, source, filter, projection, union, repartition, coalesce, sortOp, mergeOp, globalLimit, localLimit, sortMergeJoin, hashJoin, outputRequirement, partialSort, aggregate}
-use Rattle.plan.specs.Numbers.{kindOf, joinTypeOf}
+use Rattle.plan.specs.Numbers.{kindOf, joinTypeOf, noFetch}
 use Rattle.plan.specs.declared.Kind.{Kind}
 use Rattle.plan.specs.declared.Kind.the-variants.{Source, Filter, Projection, Union, Repartition, Coalesce, Sort, Merge, GlobalLimit, LocalLimit, SortMergeJoin, HashJoin, OutputRequirement, PartialSort, Aggregate}
 use Rattle.plan.specs.declared.Distribution.{Distribution}
 use Rattle.plan.specs.declared.Distribution.the-variants.{Unspecified, Single, Keyed}
 use Rattle.plan.specs.declared.Fetch.{Fetch}
 use Rattle.plan.specs.declared.Fetch.the-variants.{Unlimited, AtMost}
-use Rattle.plan_format.specs.Record.{noFetch}
 use Rattle.plan_codec.specs.NodeRecord.{NodeRecord}
 
 -- "4-7 fetch, 4294967295 for none"

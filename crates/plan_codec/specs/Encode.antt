@@ -5,14 +5,13 @@ use Prim.Native.Nat.{ℕ, zero, suc, _+_, _*_}
 use lib.ListN.{length}
 use Rattle.row_order.specs.Iso.{Key}
 use Rattle.plan.specs.Op.{Op, source, filter, projection, union, repartition, coalesce, sortOp, mergeOp, globalLimit, localLimit, sortMergeJoin, hashJoin, outputRequirement, partialSort, aggregate}
-use Rattle.plan.specs.Numbers.{kindNumber, joinNumber, distributionNumber}
+use Rattle.plan.specs.Numbers.{kindNumber, joinNumber, distributionNumber, noFetch}
 use Rattle.plan.specs.declared.Kind.{Kind}
 use Rattle.plan.specs.declared.Kind.the-variants.{Source, Filter, Projection, Union, Repartition, Coalesce, Sort, Merge, GlobalLimit, LocalLimit, SortMergeJoin, HashJoin, OutputRequirement, PartialSort, Aggregate}
 use Rattle.plan.specs.declared.Distribution.{Distribution}
 use Rattle.plan.specs.declared.Distribution.the-variants.{Unspecified, Single, Keyed}
 use Rattle.plan.specs.declared.Fetch.{Fetch}
 use Rattle.plan.specs.declared.Fetch.the-variants.{Unlimited, AtMost}
-use Rattle.plan_format.specs.Record.{noFetch}
 use Rattle.scan.specs.Bytes.{oneIf}
 use Rattle.plan_format.specs.Writing.{fourBytes}
 use Rattle.plan_codec.specs.NodeRecord.{NodeRecord}

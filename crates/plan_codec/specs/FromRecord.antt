@@ -13,7 +13,7 @@ use Rattle.row_order.specs.Iso.{Key}
 use Rattle.scan.specs.Below.{and-left, and-right, or-false}
 use Rattle.scan.specs.Bytes.{le32}
 use Rattle.plan.specs.Op.{kind}
-use Rattle.plan.specs.Numbers.{kindNumber, joinNumber, joinTypeOf, distributionNumber}
+use Rattle.plan.specs.Numbers.{kindNumber, joinNumber, joinTypeOf, distributionNumber, noFetch}
 use Rattle.plan.specs.WellFormed.{between, every, plain, few, some, someFetch, distributionOk, fetchOk, fieldsOk}
 use Rattle.plan.specs.declared.Kind.{Kind}
 use Rattle.plan.specs.declared.Kind.the-variants.{Source, Filter, Projection, Union, Repartition, Coalesce, Sort, Merge, GlobalLimit, LocalLimit, SortMergeJoin, HashJoin, OutputRequirement, PartialSort, Aggregate}
@@ -22,7 +22,7 @@ use Rattle.plan.specs.declared.Fetch.the-variants.{Unlimited, AtMost}
 use Rattle.plan_format.specs.declared.Fields.{Fields}
 use Rattle.plan_format.specs.Blocks.{span}
 use Rattle.plan_format.specs.Fields.{fieldsOf}
-use Rattle.plan_format.specs.Record.{either, noFetch, tailUsed}
+use Rattle.plan_format.specs.Record.{either, tailUsed}
 use Rattle.plan_format.specs.Writing.{fourBytes}
 use Rattle.plan_roundtrip.specs.Same.{fourth}
 use Rattle.plan_codec.specs.NodeRecord.{NodeRecord}

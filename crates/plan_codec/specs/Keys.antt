@@ -16,7 +16,7 @@ use Rattle.plan_format.specs.Record.{either, keyOk}
 use Rattle.plan_codec.specs.Decode.{keyOfBytes, keysOf, onOf}
 use Rattle.scan.specs.Bytes.{oneIf}
 use Rattle.plan_codec.specs.Encode.{fill, optionsByte, keyBytes}
-use Rattle.record_lists.specs.Slots.{even, slot-next}
+use Rattle.plan_format.specs.KeySlots.{even, slot-next}
 use Rattle.plan_codec.specs.Bits.{no-false, both, options-bits, bits-options}
 
 pub length-bytes : (ks : List Key) → length (keyBytes ks) ≡ 2 * length ks

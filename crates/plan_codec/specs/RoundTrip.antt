@@ -17,7 +17,7 @@ use Rattle.plan_format.specs.Blocks.{records}
 use Rattle.plan_format.specs.Reading.{refusalOf}
 use Rattle.plan_format.specs.Writing.{fileOf}
 use Rattle.plan_format.specs.Tree.{treeOf, fileOfTree}
-use Rattle.plan_roundtrip.specs.Back.{AllBytes}
+use Rattle.scan.specs.Bytes.{AllBytes}
 use Rattle.plan_format.specs.Passed.{accepted, passed-last}
 use Rattle.plan_roundtrip.specs.Plans.{FineTree, tree-accepted, tree-back, accepted-tree, file-back}
 use Rattle.plan_codec.specs.Decode.{decode}

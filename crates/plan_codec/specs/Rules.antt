@@ -9,7 +9,8 @@ use lib.ListN.{length, getD, take, drop, take-append-drop}
 use lib.Seq.{take-at, drop-at, drop-drop, getD-take, getD-drop}
 use borrow.Author.Tests.{eqb-true, leb-true, ltb-true}
 use Rattle.scan.specs.Below.{all-at, all-intro, and-left, and-right}
-use Rattle.scan.specs.Bytes.{part, zeros, le32, length-part}
+use Rattle.scan.specs.Bytes.{part, zeros, le32}
+use Rattle.scan.specs.ByteLaws.{length-part}
 use Rattle.plan.specs.WellFormed.{between, every, plain, fetchOk as fits}
 use Rattle.plan_format.specs.declared.Fields.{Fields}
 use Rattle.plan_format.specs.Blocks.{span}

@@ -12,7 +12,7 @@ use Rattle.row_order.specs.Iso.{Key}
 use Rattle.scan.specs.Below.{and-left, and-right, or-false}
 use Rattle.scan.specs.Bytes.{zeros, le32}
 use Rattle.plan.specs.Op.{On, Op, source, filter, projection, union, repartition, coalesce, sortOp, mergeOp, globalLimit, localLimit, sortMergeJoin, hashJoin, outputRequirement, partialSort, aggregate, kind}
-use Rattle.plan.specs.Numbers.{kindNumber, joinNumber, distributionNumber}
+use Rattle.plan.specs.Numbers.{kindNumber, joinNumber, distributionNumber, noFetch}
 use Rattle.plan.specs.WellFormed.{between, every, plain, few, some, someFetch, distributionOk, fetchOk, fieldsOk}
 use Rattle.plan.specs.declared.Distribution.{Distribution}
 use Rattle.plan.specs.declared.Distribution.the-variants.{Unspecified, Single, Keyed}
@@ -20,7 +20,7 @@ use Rattle.plan.specs.declared.Fetch.{Fetch}
 use Rattle.plan.specs.declared.Fetch.the-variants.{Unlimited, AtMost}
 use Rattle.plan_format.specs.declared.Fields.{Fields}
 use Rattle.plan_format.specs.Fields.{fieldsOf}
-use Rattle.plan_format.specs.Record.{either, noFetch}
+use Rattle.plan_format.specs.Record.{either}
 use Rattle.plan_format.specs.Writing.{fourBytes}
 use Rattle.scan.specs.Words.{four-again}
 use Rattle.plan_codec.specs.NodeRecord.{NodeRecord}

@@ -6,7 +6,8 @@ use Prim.Native.Nat.{ℕ, suc, _+_, _*_, _-_, _≤_, _<_}
 use native.Mathlib.Omega.{arith}
 use lib.ListN.{length, getD, drop, length-drop, drop-of-length-le}
 use lib.Seq.{drop-cons}
-use Rattle.row_order.specs.Lists.{all-nil, all-head, tab}
+use Rattle.row_order.specs.Lists.{all-nil, tab}
+use Rattle.row_order.specs.ListLaws.{all-head}
 use Rattle.plan.specs.Forest.{none, tree}
 use Rattle.plan.specs.Op.{Plan}
 use Rattle.plan.specs.WellFormed.{nodesOk}

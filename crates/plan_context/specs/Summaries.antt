@@ -9,6 +9,7 @@ use lib.ListN.{length, getD, drop, drop-of-length-le}
 use lib.Seq.{drop-cons}
 use Rattle.plan.specs.Forest.{Forest, none, size}
 use Rattle.plan.specs.declared.Fetch.the-variants.{Unlimited}
+use Rattle.plan.specs.Numbers.{noFetch}
 use Rattle.plan_codec.specs.Decode.{decode, fetchOf}
 use Rattle.plan_codec.specs.Encode.{encode}
 use Rattle.semantics.specs.Properties.{anyOf, endless as endlessEach, fetches}
@@ -33,7 +34,7 @@ pub record SumsEach (c : Forest Marked) (s : Summary) : Type 0 where
 
 -- Over no children
 abbrev pub ofNone : Summary
-ofNone = record { passes = true; endless = false; nodes = 0; fetch = 4294967295 }
+ofNone = record { passes = true; endless = false; nodes = 0; fetch = noFetch }
 
 sums-none : SumsEach none ofNone
 sums-none = record { passes = refl; endless = refl; nodes = refl; fetch = refl }

@@ -59,7 +59,7 @@ forest m (h ∷ hs) = plant (treeOf m h) (forest m hs)
 
 -- ---- what a slot keeps of its node beside the facts, so that nobody goes down again to ask it: in the last eight bytes,
 -- 104 whether the order check passes in its tree, 105 whether it is unbounded, 106-107 the nodes of its tree, 108-111 the plan's fetch,
--- 4294967295 for none. Bytes 48-103 are room for more known orders
+-- noFetch for none. Bytes 48-103 are room for more known orders
 
 abbrev pub summaryFrom : ℕ
 summaryFrom = 104

@@ -1,11 +1,13 @@
 // What the slot of a handle keeps of its node.
+use plan::Fetch;
+use record_fields::fetch_from;
 use tree_summary::Summary;
 ghost use mathlib.Core.Path.{_≡_};
 ghost use mathlib.Core.List.{_++_};
 ghost use Prim.Native.Nat.{_<_};
 ghost use lib.ListN.{length, take};
 ghost use Rattle.arena.specs.Arena.{keptSize, keptPart, index};
-ghost use Rattle.walks.specs.Marks.{sizeT};
+ghost use Rattle.walks.specs.Marks.{fetchT, sizeT};
 ghost use Rattle.plan_context.specs.View.{treeOf, summaryFrom, summaryIn, Sums, Here};
 ghost use Rattle.plan_context.specs.Facts.{Tells};
 ghost use Rattle.semantics.specs.Check.{check};
@@ -56,6 +58,15 @@ pub fn summary(m: &[u8], h: usize) -> Summary
     ensures { λ s. ⌜ Sums (treeOf (now (m .entry)) h) s ⌝ }
 {
     load_summary(row(m, h))
+}
+
+// Its fetch: for a projection its input's.
+pub fn fetch_at(m: &[u8], h: usize) -> Fetch
+    requires { ⌜ Here (now m) h ⌝ }
+    ensures { λ f. ⌜ f ≡ fetchT (treeOf (now (m .entry)) h) ⌝ }
+{
+    let s: Summary = summary(m, h);
+    fetch_from(s.fetch)
 }
 
 // How many nodes it has.

@@ -4,8 +4,7 @@ use mathlib.Core.List.{List, [], _∷_}
 use Prim.Native.Nat.{ℕ, _+_, _/_, _^_}
 use lib.Dec.{leb, ltb, eqb}
 use lib.ListN.{length, getD, take, drop}
-use Rattle.scan.specs.Below.{allBelow}
-use Rattle.scan.specs.Bytes.{part, le32}
+use Rattle.scan.specs.Bytes.{allBelow, part, le32}
 use Rattle.plan.specs.Numbers.{numberOf}
 use Rattle.plan.specs.declared.Refusal.{Refusal}
 use Rattle.plan.specs.declared.Refusal.the-variants.{Accepted, Field, Column, Width}

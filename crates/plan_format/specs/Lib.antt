@@ -1,5 +1,6 @@
 pub mod Fields
 pub mod Record
+pub mod KeySlots
 pub mod Blocks
 pub mod LastPass
 pub mod Reading

@@ -5,7 +5,7 @@ use mathlib.Core.List.{List, [], _∷_}
 use Prim.Native.Nat.{ℕ, _+_, _-_}
 use lib.Dec.{leb, eqb}
 use lib.ListN.{length}
-use Rattle.scan.specs.Below.{allBelow}
+use Rattle.scan.specs.Bytes.{allBelow}
 use Rattle.plan.specs.declared.Refusal.{Refusal}
 use Rattle.plan.specs.declared.Refusal.the-variants.{Accepted, Length, BlockSum, Header, KindOrChildren, RecordCount, Field}
 use Rattle.plan_format.specs.Record.{children, kindOk, recordOk}

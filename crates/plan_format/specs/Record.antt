@@ -6,8 +6,8 @@ use Prim.Native.Nat.{ℕ, _+_, _*_, _/_, _%_, _^_}
 use lib.Dec.{leb, ltb, eqb}
 use lib.Count.{ones}
 use lib.ListN.{getD, drop}
-use Rattle.scan.specs.Below.{allBelow}
-use Rattle.scan.specs.Bytes.{zeros, le32}
+use Rattle.scan.specs.Bytes.{allBelow, zeros, le32}
+use Rattle.plan.specs.Numbers.{noFetch}
 use Rattle.plan.specs.WellFormed.{between}
 use Rattle.plan_format.specs.declared.Fields.{Fields}
 use Rattle.plan_format.specs.Fields.{fieldsOf}
@@ -49,10 +49,6 @@ mark m i = eqb (m / 2 ^ i % 2) 1
 -- '3 marks: bit 0 preserve, bit 1 hash, bit 2 unbounded'
 abbrev pub marksOk : Fields → ℕ → Bool
 marksOk f m = ltb m 8 && ((f .preserve || not (mark m 0)) && ((f .hash || not (mark m 1)) && (f .unbounded || not (mark m 2))))
-
--- '4294967295 for none'
-abbrev pub noFetch : ℕ
-noFetch = 4294967295
 
 -- '4-7 fetch, .. local limit must have one'; without a fetch field the bytes are zero (reading 16)
 abbrev pub fetchOk : Fields → ℕ → Bool

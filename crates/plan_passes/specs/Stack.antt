@@ -10,7 +10,8 @@ use lib.ListN.{length, getD, take, drop, set, length-drop, length-set}
 use lib.Seq.{drop-cons, drop-drop, getD-set-same, drop-set-lt}
 use borrow.Author.Tests.{leb-true, eqb-true}
 use Rattle.scan.specs.Below.{and-left, and-right}
-use Rattle.scan.specs.Bytes.{part, cut}
+use Rattle.scan.specs.Bytes.{part}
+use Rattle.scan.specs.ByteLaws.{cut}
 use Rattle.scan.specs.Parts.{at-part}
 use Rattle.plan_format.specs.Record.{children}
 use Rattle.plan_format.specs.Blocks.{span, recordAt, recordCount, recordStart}

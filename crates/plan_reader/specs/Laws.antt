@@ -9,7 +9,7 @@ use lib.ListN.{length, getD, take, drop, set}
 use lib.Seq.{drop-length}
 use borrow.Author.Tests.{leb-true, eqb-true, ne-eqb}
 use Rattle.scan.specs.Below.{all-at, and-left, and-right, or-false}
-use Rattle.scan.specs.Bytes.{cut}
+use Rattle.scan.specs.ByteLaws.{cut}
 use Rattle.plan.specs.Numbers.{numberOf}
 use Rattle.plan.specs.declared.Refusal.{Refusal}
 use Rattle.plan.specs.declared.Refusal.the-variants.{Accepted, Field, Column, Width}

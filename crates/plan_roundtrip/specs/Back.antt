@@ -9,8 +9,8 @@ use lib.Dec.{eqb}
 use lib.ListN.{length, getD, take, drop, replicate, length-append, length-take, length-drop, length-replicate}
 use lib.Seq.{take-at, take-all, getD-append-add}
 use borrow.Author.Tests.{eq-eqb, le-leb, eqb-false}
-use Rattle.scan.specs.Below.{allBelow, all-intro}
-use Rattle.scan.specs.Bytes.{part, total, zeros, le32}
+use Rattle.scan.specs.Bytes.{AllBytes, allBelow, part, total, zeros, le32}
+use Rattle.scan.specs.Below.{all-intro}
 use Rattle.scan.specs.Words.{four-again}
 use Rattle.plan_format.specs.Blocks.{lengthOk, blockCount, block, sumOk, countOk, headerOk, recordStart, recordAt, recordCount}
 use Rattle.plan_format.specs.Reading.{sumsOk, headersOk}
@@ -19,9 +19,6 @@ use Rattle.scan.specs.Parts.{at-part, part-part, part-left, part-right}
 use Rattle.plan_format.specs.Written.{length-block, length-seven, length-blocks, length-whole}
 
 -- ---- bytes
-
-pub record AllBytes (l : List ℕ) : Type 0 where
-  pub below : (i : ℕ) → i < length l → getD l i 0 < 256
 
 total-le : (l : List ℕ) → AllBytes l → total l ≤ 255 * length l
 total-le [] b = omega arith

@@ -8,20 +8,20 @@ use lib.Dec.{ltb, eqb}
 use lib.ListN.{length, getD, take, drop, length-append, length-take, length-drop}
 use lib.Seq.{take-add, take-at, drop-drop}
 use borrow.Author.Tests.{eqb-true, eq-eqb, ltb-true, lt-ltb}
-use Rattle.scan.specs.Below.{allBelow, all-at, all-intro, and-left, and-right}
-use Rattle.scan.specs.Bytes.{part, length-part}
+use Rattle.scan.specs.Bytes.{allBelow, part, AllBytes}
+use Rattle.scan.specs.Below.{all-at, all-intro, and-left, and-right}
+use Rattle.scan.specs.ByteLaws.{length-part}
 use Rattle.plan.specs.WellFormed.{every}
 use Rattle.plan.specs.declared.Refusal.{Refusal}
 use Rattle.plan.specs.declared.Refusal.the-variants.{Accepted, Length, BlockSum, Header, KindOrChildren, RecordCount, Field}
-use Rattle.block_passes.specs.Laws.{length-facts}
+use Rattle.plan_format.specs.Passed.{length-facts, passed, passed-last}
 use Rattle.scan.specs.Parts.{at-part, part-part, part-right}
 use Rattle.plan_format.specs.Record.{children, kindOk, recordOk}
 use Rattle.plan_format.specs.Blocks.{lengthOk, block, blockCount, recordCount, recordStart, recordAt, records, span}
 use Rattle.plan_format.specs.LastPass.{andThen, lastPass}
-use Rattle.plan_format.specs.Passed.{passed, passed-last}
 use Rattle.plan_format.specs.Reading.{sumsOk, headersOk, kindsOk, childrenAt, treeOk, oneTree, recordsOk, earlyRefusal, refusalOf}
 use Rattle.plan_format.specs.Writing.{joined, fileOfBytes, fileOf}
-use Rattle.plan_roundtrip.specs.Back.{AllBytes, file-record, file-headers, file-sums, file-length, file-count}
+use Rattle.plan_roundtrip.specs.Back.{file-record, file-headers, file-sums, file-length, file-count}
 use Rattle.plan_roundtrip.specs.Same.{inBlock, gather, same-bytes, few, whole}
 
 abbrev pub long : List ℕ → Bool

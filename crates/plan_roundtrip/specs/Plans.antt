@@ -13,7 +13,7 @@ use Rattle.plan_format.specs.Record.{children}
 use Rattle.plan_format.specs.Blocks.{records}
 use Rattle.plan_format.specs.Reading.{finished, enough, refusalOf}
 use Rattle.plan_format.specs.Tree.{build, treeOf, fileOfTree}
-use Rattle.plan_roundtrip.specs.Back.{AllBytes}
+use Rattle.scan.specs.Bytes.{AllBytes}
 use Rattle.plan_roundtrip.specs.Tree.{_⊕_, arity, nodes-build, build-nodes, roots-build, arity-build}
 use Rattle.plan_roundtrip.specs.Files.{Acceptable, records-back, fine-accepted, accepted-fine, accepted-same}
 

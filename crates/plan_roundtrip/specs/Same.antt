@@ -12,13 +12,13 @@ use lib.ListN.{length, getD, take, drop, replicate, length-append, length-drop, 
 use lib.Seq.{take-add, take-all, getD-drop}
 use borrow.Author.Tests.{leb-true, eqb-true}
 use Rattle.scan.specs.Below.{all-at, and-left, and-right, or-false}
-use Rattle.scan.specs.Bytes.{part, total, zeros, le16, le32, length-part}
+use Rattle.scan.specs.Bytes.{part, total, zeros, le16, le32, AllBytes}
+use Rattle.scan.specs.ByteLaws.{length-part}
 use Rattle.plan_format.specs.Blocks.{lengthOk, blockCount, block, sumOk, countOk, paddingOk, headerOk}
 use Rattle.plan_format.specs.Reading.{sumsOk, headersOk}
 use Rattle.plan_format.specs.Writing.{header, fourBytes, body, blockOf, blocksFor, sevenAt, blocksTo, fileOfBytes}
-use Rattle.block_passes.specs.Laws.{count-small}
+use Rattle.plan_format.specs.Passed.{count-small}
 use Rattle.scan.specs.Parts.{at-part, part-left, part-right}
-use Rattle.plan_roundtrip.specs.Back.{AllBytes}
 
 -- lists by their elements
 eight : (b : List ℕ) → 8 ≤ length b → take 8 b ≡ getD b 0 0 ∷ getD b 1 0 ∷ getD b 2 0 ∷ getD b 3 0 ∷ getD b 4 0 ∷ getD b 5 0 ∷ getD b 6 0 ∷ getD b 7 0 ∷ []

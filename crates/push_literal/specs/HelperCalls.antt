@@ -15,8 +15,7 @@ use Rattle.semantics.specs.Facts.{compatible, Facts, facts, factsOp, isNil, met
 use Rattle.semantics.specs.Properties.{distOf, fetches, fetchOp, freshKeys, rebuilt, wanted}
 use Rattle.walks.specs.Marks.{coverWith, node, strip}
 use Rattle.walks.specs.Utils.{isSort, mergeAbove, needsMerge, newMerge, newSort, sortAbove, sortAboveWithDistribution}
-use Rattle.walks.specs.SortPushdown.{defaultRequirements, goes, minFetch, ParentRequirements, pushdownRequirementToChildren, Pushed, stop, strongerDistribution}
-use Rattle.walks.specs.PushdownSorts.{childCount, effectiveDist}
+use Rattle.walks.specs.SortPushdown.{defaultRequirements, goes, minFetch, ParentRequirements, pushdownRequirementToChildren, Pushed, stop, strongerDistribution, childCount, effectiveDist}
 use Rattle.push_literal.specs.PushdownSortsLiteral.{assignInitial, callsItself, firstChildData, helper, helperOn, internalError, nodePushes, Required, returns, SortPushDown}
 use Rattle.walks.specs.theorems.parallelize.Bottlenecks.{rebuilt-facts}
 use Rattle.push_literal.specs.Contexts.{each-holding, holding, plan-holding}

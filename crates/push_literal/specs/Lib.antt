@@ -7,5 +7,6 @@ pub mod Agrees
 pub mod HelperCalls
 pub mod Nodes
 pub mod Sorts
+pub mod WholePlans
 pub mod SameAnswers
 pub mod Pinned

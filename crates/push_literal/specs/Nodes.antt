@@ -19,8 +19,8 @@ use Rattle.semantics.specs.Canonical.{Canon}
 use Rattle.semantics.specs.theorems.canonical.EveryNode.{canon, op-canon}
 use Rattle.walks.specs.Marks.{coverWith, Marked, node, over, plant, rebuild, strip, Tree}
 use Rattle.walks.specs.Utils.{isSort, mergeAbove, needsMerge, sortAboveWithDistribution}
-use Rattle.walks.specs.SortPushdown.{defaultRequirements, goes, minFetch, ParentRequirements, Pushed, stop, strongerDistribution}
-use Rattle.walks.specs.PushdownSorts.{afterMerge, afterTry, asked, assignInitialRequirements, covered, Decision, decideNode, effectiveDist, handDown, mergeAdded, newOrdering, nodeAsked, pushDown, satisfied, sortAdded, stays, unasked, unsatisfied, Visit, withOwnDistribution}
+use Rattle.walks.specs.SortPushdown.{defaultRequirements, goes, minFetch, ParentRequirements, Pushed, stop, strongerDistribution, effectiveDist}
+use Rattle.walks.specs.PushdownSorts.{afterMerge, afterTry, asked, assignInitialRequirements, covered, Decision, decideNode, handDown, mergeAdded, newOrdering, nodeAsked, pushDown, satisfied, sortAdded, stays, unasked, unsatisfied, Visit, withOwnDistribution}
 use Rattle.walks.specs.Counted.{bind, Counted, counted, stopped}
 use Rattle.push_literal.specs.PushdownSortsLiteral.{afterCall, assignInitial, callsItself, helper, Outcome, returns, SortPushDown, transformDown}
 use Rattle.walks.specs.theorems.common.Keeps.{remark-same}

@@ -4,7 +4,8 @@
 -- This is what a reader has to believe of push. `accepted-is-literal` (SameAnswers) proves that `pushed`, by the structural recursion of
 -- PushdownSorts and Counted, answers the same for every plan, 23 and 25 included; and that the number that bounds the recursion here, the
 -- fuel, is enough, and no index passes the end.
-use mathlib.Core.Bool.{Bool, false, cond, not, _&&_}
+use mathlib.Core.Path.{_≡_}
+use mathlib.Core.Bool.{Bool, true, false, cond, not, _&&_}
 use mathlib.Core.List.{List, []}
 use Prim.Native.Nat.{ℕ, zero, suc, _+_}
 use Rattle.row_order.specs.Iso.{Key}
@@ -19,8 +20,7 @@ use Rattle.semantics.specs.Facts.{compatible, Facts, facts, factsOp, isNil, kno
 use Rattle.semantics.specs.Properties.{distOf, fetches, fetchOp, wanted}
 use Rattle.walks.specs.Marks.{at, marked, node, Noted, opT, PlanContext, plant, rebuild, setMark, sizeT, strip}
 use Rattle.walks.specs.Utils.{addSortAboveWithDistribution, isSort}
-use Rattle.walks.specs.SortPushdown.{defaultRequirements, goes, minFetch, ParentRequirements, pushdownRequirementToChildren, Pushed, stop, strongerDistribution}
-use Rattle.walks.specs.PushdownSorts.{childCount, effectiveDist}
+use Rattle.walks.specs.SortPushdown.{defaultRequirements, goes, minFetch, ParentRequirements, pushdownRequirementToChildren, Pushed, stop, strongerDistribution, childCount, effectiveDist}
 use Rattle.walks.specs.Counted.{Answer, answered, hasPartialSort, refused, tooMany}
 
 -- ---- SortPushDown = PlanContext<ParentRequirements>
@@ -219,3 +219,10 @@ literalPush n f = givenBy (pushdownSortsBy (λ m. false) n f)
 -- 21, then 23 or 25 as reached
 abbrev pub literalPushed : ℕ → Plan → Given
 literalPushed n f = cond (hasPartialSort f) (gives (refused HasPartialSort)) (givenBy (pushdownSortsBy tooMany n f))
+
+-- ---- what is asked of a plan
+
+-- Every sort has one child: all that is asked of a plan. Without it the Rust panics at a sort that has none
+abbrev pub OneChild : Plan → Type 0
+OneChild none = Unit {0}
+OneChild (tree o c r) = (isSort o ≡ true → childCount c ≡ 1) × OneChild c × OneChild r

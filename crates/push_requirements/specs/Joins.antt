@@ -6,7 +6,8 @@ use Prim.Native.Nat.{ℕ, zero, suc, _-_, _<_, _≤_}
 use native.Mathlib.Omega.{arith}
 use Rattle.row_order.specs.Iso.{Key}
 use Rattle.row_order.specs.Order.{no-bool}
-use Rattle.row_order.specs.Lists.{All, all-nil, all-cons, all-map, all-over}
+use Rattle.row_order.specs.Lists.{All, all-nil, all-cons}
+use Rattle.row_order.specs.ListLaws.{all-map, all-over}
 use Rattle.plan.specs.WellFormed.{joinWidth, member}
 use Rattle.plan.specs.declared.JoinType.{JoinType}
 use Rattle.plan.specs.declared.JoinType.the-variants.{Inner, Left, Right, Full, LeftSemi, LeftAnti, RightSemi, RightAnti}

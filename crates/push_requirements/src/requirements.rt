@@ -11,8 +11,7 @@ ghost use mathlib.Core.Path.{_≡_};
 ghost use Prim.Native.Nat.{min};
 ghost use Rattle.key_lists.specs.Keys.{Keyed, orderOf, Real};
 ghost use Rattle.asked_facts.specs.Asked.{told, FactRow};
-ghost use Rattle.walks.specs.SortPushdown.{minFetch, strongerDistribution};
-ghost use Rattle.walks.specs.PushdownSorts.{effectiveDist};
+ghost use Rattle.walks.specs.SortPushdown.{minFetch, strongerDistribution, effectiveDist};
 ghost use Rattle.walks.specs.Utils.{needsMerge};
 
 fn lower(m: u32, n: u32) -> u32

@@ -24,6 +24,7 @@ use Rattle.asked_facts.specs.Asked.{told, FactRow}
 use Rattle.arena.specs.Arena.{index, slot, keptPart}
 use Rattle.arena.specs.Laws.{index-even, below-at}
 use Rattle.walks.specs.Marks.{strip, known, fact, fetchT}
+use Rattle.walks.specs.SortPushdown.{childCount}
 use Rattle.walks.specs.PushdownSorts as walk
 use Rattle.plan_context.specs.View.{treeIn, treeOf, forest, Arena}
 use Rattle.plan_context.specs.Laws.{here, facts-at, length-facts}
@@ -103,7 +104,7 @@ module _ (a : List ℕ) (ua i : ℕ) (g : Arena a ua) (l : i < ua) where
       let t : Tells (treeOf a (2 * i)) r = tells a (2 * i) (here a ua (2 * i) g (omega arith)) r (f ∙ ap (keptPart a) (sym (index-even i))) in
       (t .row, t .is ∙ ap (λ x. fact (treeIn a x)) (index-even i) ∙ ap fact (shown a ua i g l .tree))
 
-  pub count-at : childrenOk (decode (slot a i .rec)) (walk.childCount (strip (forest a (slot a i .kids)))) ≡ true
+  pub count-at : childrenOk (decode (slot a i .rec)) (childCount (strip (forest a (slot a i .kids)))) ≡ true
   count-at = subst (λ n. childrenOk (decode (slot a i .rec)) n ≡ true)
       (sym (length-facts a (slot a i .kids)) ∙ roots-long (strip (forest a (slot a i .kids)))) (rule .count)
 
@@ -148,7 +149,7 @@ module _ (a : List ℕ) (ua i : ℕ) (g : Arena a ua) (l : i < ua) where
         (at1 (known (forest a (slot a i .kids)))))
 
     pub seen-at : SeenNode (decode (slot a i .rec)) (decode (slot a i .rec)) (facts (strip (forest a (slot a i .kids))))
-        (walk.childCount (strip (forest a (slot a i .kids)))) (told own) (told f) (told s)
+        (childCount (strip (forest a (slot a i .kids)))) (told own) (told f) (told s)
     seen-at =
         let c = roots-long (strip (forest a (slot a i .kids))) in let n = length-facts a (slot a i .kids) in
         record {

@@ -3,17 +3,13 @@ use arena::child;
 use arena::child_count;
 use arena::kept_at;
 use arena::record_at;
-use node_properties::fetch_from;
-use plan::Fetch;
-use plan_context::kept::summary;
+use plan_context::kept::fetch_at;
 use sort_pushdown::Decision;
 use sort_pushdown::Visit;
 use sort_pushdown::deciding::pushdown_sorts_helper;
-use tree_summary::Summary;
 ghost use mathlib.Core.Path.{_≡_};
 ghost use Prim.Native.Nat.{ℕ, _*_, _<_, _≤_};
 ghost use Rattle.arena.specs.Arena.{index};
-ghost use Rattle.walks.specs.Marks.{fetchT};
 ghost use Rattle.walks.specs.PushdownSorts.{pushdownSortsHelper};
 ghost use Rattle.plan_context.specs.View.{treeOf, Arena, Here};
 ghost use Rattle.sort_pushdown.specs.Decisions.{Decides, visitOf};
@@ -29,15 +25,6 @@ pub fn child_row(a: &[u8], ua: usize, i: usize, j: usize) -> &[u8]
         return kept_at(a, k / 2);
     }
     kept_at(a, i)
-}
-
-// The fetch of the tree at h: for a projection its input's.
-pub fn fetch_at(a: &[u8], h: usize) -> Fetch
-    requires { ⌜ Here (now a) h ⌝ }
-    ensures { λ f. ⌜ f ≡ fetchT (treeOf (now (a .entry)) h) ⌝ }
-{
-    let s: Summary = summary(a, h);
-    fetch_from(s.fetch)
 }
 
 pub fn decide_at(a: &[u8], ua: usize, h: usize, v: Visit) -> Decision

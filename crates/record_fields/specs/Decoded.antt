@@ -10,7 +10,8 @@ use borrow.Author.Tests.{ltb-true}
 use Rattle.row_order.specs.Iso.{Key}
 use Rattle.row_order.specs.Packed as row_order
 use Rattle.scan.specs.Below.{and-left, and-right}
-use Rattle.scan.specs.Bytes.{part, length-part}
+use Rattle.scan.specs.Bytes.{part}
+use Rattle.scan.specs.ByteLaws.{length-part}
 use Rattle.plan.specs.WellFormed.{below, columnsOf}
 use Rattle.plan_format.specs.Blocks.{span}
 use Rattle.plan_format.specs.LastPass.{keyColumns}

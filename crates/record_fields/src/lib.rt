@@ -1,10 +1,13 @@
 // The fields of a record of 64 bytes, as the facts of a node ask for them.
+use plan::Fetch;
 use plan::JoinType;
 use plan::Kind;
+use plan::NO_FETCH;
 ghost use mathlib.Core.Path.{_≡_};
 ghost use lib.ListN.{length, getD};
 ghost use Rattle.row_order.specs.Packed.{bit};
 ghost use Rattle.plan.specs.Numbers.{kindOf, joinTypeOf};
+ghost use Rattle.plan_codec.specs.Decode.{fetchOf};
 ghost use Rattle.record_fields.specs.Fields.{tailColumns};
 
 // Where the fields stand that are asked for by name (01, 'A plan file comes in').
@@ -29,6 +32,17 @@ pub const ROLE: usize = 14;
 pub const TAIL: usize = 32;
 
 pub const RECORD: usize = 64;
+
+// The fetch that a number stands for.
+pub fn fetch_from(n: u32) -> Fetch
+    ensures { λ f. ⌜ f ≡ fetchOf n ⌝ }
+{
+    if n == NO_FETCH {
+        Fetch::Unlimited
+    } else {
+        Fetch::AtMost(n)
+    }
+}
 
 pub fn kind_of(k: u8) -> Kind
     ensures { λ r. ⌜ r ≡ kindOf k ⌝ }

@@ -9,33 +9,13 @@ use lib.Dec.{eqb, ltb}
 use lib.Bits.{bitAnd, and-mask, and-high, and-zero-r, and-zero-l}
 use lib.ListN.{length, getD, drop, drop-of-length-le}
 use borrow.Author.Tests.{eqb-true, eqb-false, eq-eqb, ne-eqb, le-ltb, lt-ltb, ltb-true, ltb-false}
-use Rattle.scan.specs.Below.{allBelow, all-ap, all-first, all-add, and-false, and-true, or-false, and-assoc}
-use Rattle.scan.specs.Bytes.{zeros, part, length-part}
+use Rattle.scan.specs.Bytes.{allBelow, zeros, part}
+use Rattle.scan.specs.Below.{all-ap, all-first, all-add, and-false, and-true, or-false, and-assoc}
+use Rattle.scan.specs.ByteLaws.{length-part}
 use Rattle.scan.specs.Parts.{at-part}
 use Rattle.scan.specs.Words.{value, Small, small-part, clear, value-mask, value-drop, value-zero, zeros-clear}
+use Rattle.plan_format.specs.KeySlots.{sooner, slot-next}
 use Rattle.plan_format.specs.Record.{either, keyOk, keySlotOk, keySlotsOk}
-
-sooner : (k i n : ℕ) → ltb (k + i) n ≡ ltb i (n - k)
-sooner k i n = go (ltb i (n - k)) refl
-  where
-    go : (b : Bool) → ltb i (n - k) ≡ b → ltb (k + i) n ≡ b
-    go true e = lt-ltb (k + i) n (let l = ltb-true i (n - k) e in omega arith)
-    go false e = le-ltb (k + i) n (let l = ltb-false i (n - k) e in omega arith)
-
--- ---- the next slot of some bytes is the first of those two bytes on
-
-module _ (c o : ℕ) (l : List ℕ) (i : ℕ) where
-  pub even : getD (c ∷ o ∷ l) (2 * suc i) 0 ≡ getD l (2 * i) 0
-  even = let e : 2 * suc i ≡ suc (suc (2 * i)) = omega arith in rw e
-
-  odd : getD (c ∷ o ∷ l) (2 * suc i + 1) 0 ≡ getD l (2 * i + 1) 0
-  odd = let e : 2 * suc i + 1 ≡ suc (suc (2 * i + 1)) = omega arith in rw e
-
-  pub slot-next : (p : Bool) (n m : ℕ) → m ≡ n - 1
-      → keyOk p n (suc i) (getD (c ∷ o ∷ l) (2 * suc i) 0) (getD (c ∷ o ∷ l) (2 * suc i + 1) 0) ≡ keyOk p m i (getD l (2 * i) 0) (getD l (2 * i + 1) 0)
-  slot-next p n m e =
-      let t : ltb (suc i) n ≡ ltb i m = ap (λ k. ltb k n) (let q : suc i ≡ 1 + i = omega arith in q) ∙ sooner 1 i n ∙ ap (ltb i) (sym e) in
-      rw (t, even, odd)
 
 -- ---- the slots of k keys, n of them used
 

@@ -9,7 +9,8 @@ use lib.Count.{ones}
 use lib.ListN.{length, getD, drop, length-drop}
 use lib.Seq.{drop-drop, take-all}
 use borrow.Author.Tests.{eq-eqb, ne-eqb}
-use Rattle.scan.specs.Bytes.{part, zeros, le32, zeros-parts, zeros-from}
+use Rattle.scan.specs.Bytes.{part, zeros, le32}
+use Rattle.scan.specs.ByteLaws.{zeros-parts, zeros-from}
 use Rattle.scan.specs.Words.{value, Small, small-part, value-zero, value-drop}
 use Rattle.plan_format.specs.Fields.{fieldsOf}
 use Rattle.plan_format.specs.Record.{tailOk}

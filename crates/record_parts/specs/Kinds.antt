@@ -12,7 +12,8 @@ use Rattle.scan.specs.Bytes.{part, le16, le32}
 use Rattle.scan.specs.Words.{value, eight-bytes}
 use Rattle.plan_format.specs.declared.Fields.{Fields}
 use Rattle.plan_format.specs.Fields.{fieldsOf}
-use Rattle.plan_format.specs.Record.{mark, marksOk, headOk, bodyOk, noFetch}
+use Rattle.plan_format.specs.Record.{mark, marksOk, headOk, bodyOk}
+use Rattle.plan.specs.Numbers.{noFetch}
 
 -- ---- a test that is true of small numbers alone, asked of several bytes at once
 

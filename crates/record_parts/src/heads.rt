@@ -1,10 +1,9 @@
 // Bytes 2 to 11 of a record: streams, marks, fetch and skip, by the kinds that have them.
+use plan::NO_FETCH;
 ghost use mathlib.Core.Path.{_≡_};
 ghost use lib.ListN.{length};
 ghost use Rattle.plan_format.specs.Fields.{fieldsOf};
 ghost use Rattle.plan_format.specs.Record.{headOk};
-
-const NO_FETCH: u32 = 4294967295;
 
 // Kinds with none of these fields: 2, 3, 4, 11 and 12.
 pub fn none(r: &[u8]) -> bool

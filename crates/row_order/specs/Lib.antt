@@ -1,6 +1,8 @@
 pub mod Iso
-pub mod Order
 pub mod Lists
+pub mod RowLists
+pub mod ListLaws
+pub mod Order
 pub mod Sorting
 pub mod Forms
 pub mod Packed

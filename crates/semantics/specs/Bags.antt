@@ -1,36 +1,15 @@
 -- The rows of a plan that has no joins and no aggregates and cuts nothing off, one bag for each root. These are definitions.
-use mathlib.Core.Bool.{Bool, true, not, _&&_, _||_}
+use mathlib.Core.Bool.{Bool, true, _&&_}
 use mathlib.Core.List.{List, [], _∷_, map}
 use Prim.Native.Nat.{ℕ}
-use lib.Dec.{eqb}
 use lib.ListN.{getD}
 use Rattle.row_order.specs.Iso.{Row}
 use Rattle.row_order.specs.Lists.{concat, Same, tab}
 use Rattle.plan.specs.Forest.{none, tree}
 use Rattle.plan.specs.Op.{Op, source, filter, projection, union, repartition, coalesce, sortOp, mergeOp, globalLimit, localLimit, sortMergeJoin, hashJoin, outputRequirement, partialSort, aggregate, Plan}
-use Rattle.plan.specs.Numbers.{code}
-use Rattle.plan.specs.WellFormed.{someFetch}
-use Rattle.plan.specs.declared.Fetch.{Fetch}
-use Rattle.semantics.specs.Properties.{Cut, cuts}
+use Rattle.semantics.specs.Properties.{simpleOp}
 use Rattle.semantics.specs.Joins.{keep}
 use Rattle.semantics.specs.Runs.{Streams, Env, nextS, nextF, past, proj}
-
--- A node that is no join and no aggregate, and cuts nothing off
-abbrev pub isAll : Fetch → Bool
-isAll f = not (someFetch f)
-
-abbrev pub whole : Cut → Bool
-whole k = eqb (k .skip) 0 && isAll (k .fetch)
-
-abbrev pub isJoin : Op → Bool
-isJoin o = eqb (code o) 11 || eqb (code o) 12
-
--- 02, P1: "The sentence on lost rows stays for trees without aggregates."
-abbrev pub isAggregate : Op → Bool
-isAggregate o = eqb (code o) 15
-
-abbrev pub simpleOp : Op → Bool
-simpleOp o = whole (cuts o) && not (isJoin o || isAggregate o)
 
 abbrev pub simplePlan : Plan → Bool
 simplePlan none = true

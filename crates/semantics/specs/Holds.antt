@@ -6,7 +6,7 @@ use Prim.Native.Nat.{ℕ}
 use lib.ListN.{length, getD}
 use Rattle.row_order.specs.Iso.{Cell, Row, cell}
 use Rattle.row_order.specs.Lists.{All}
-use Rattle.row_order.specs.Sorting.{Sorted}
+use Rattle.row_order.specs.RowLists.{Sorted}
 use Rattle.plan.specs.Forest.{Forest, none, tree, roots}
 use Rattle.plan.specs.Op.{Op, Plan}
 use Rattle.semantics.specs.Facts.{Facts, cl, isC, factsOp, facts}

@@ -1,5 +1,5 @@
 -- What the check and the walks ask of a node (01, 'Facts of a node'): wanted orders and distributions, what it maintains, its
--- fetch, boundedness. These are definitions.
+-- fetch, boundedness; which nodes are no join and no aggregate and cut nothing off. These are definitions.
 use mathlib.Core.Bool.{Bool, true, false, cond, not, _&&_, _||_}
 use mathlib.Core.List.{List, [], _∷_, map}
 use Prim.Native.Nat.{ℕ, zero, suc, _^_}
@@ -238,3 +238,21 @@ rebuilt o fs = remark (λ p. counts p (at0 fs)) o
 abbrev pub freshKeys : Facts → List ℕ → List Key → List Key
 freshKeys F seen [] = []
 freshKeys F seen (k ∷ ks) = cond (isC F (k .col) || member (k .col) seen) (freshKeys F seen ks) (k ∷ freshKeys F (k .col ∷ seen) ks)
+
+-- ---- a node that is no join and no aggregate, and cuts nothing off
+
+abbrev pub isAll : Fetch → Bool
+isAll f = not (someFetch f)
+
+abbrev pub whole : Cut → Bool
+whole k = eqb (k .skip) 0 && isAll (k .fetch)
+
+abbrev pub isJoin : Op → Bool
+isJoin o = eqb (code o) 11 || eqb (code o) 12
+
+-- 02, P1: "The sentence on lost rows stays for trees without aggregates."
+abbrev pub isAggregate : Op → Bool
+isAggregate o = eqb (code o) 15
+
+abbrev pub simpleOp : Op → Bool
+simpleOp o = whole (cuts o) && not (isJoin o || isAggregate o)

@@ -8,7 +8,7 @@ use lib.ListN.{length, getD, take, drop}
 use Rattle.row_order.specs.Iso.{Cell, Row, Key, cell, peers}
 use Rattle.row_order.specs.Lists.{All, Mixes, Same, concat, tab}
 use Rattle.row_order.specs.Packed.{bit}
-use Rattle.row_order.specs.Sorting.{Sorted}
+use Rattle.row_order.specs.RowLists.{Sorted}
 use Rattle.plan.specs.Forest.{Forest, none, tree, roots}
 use Rattle.plan.specs.Op.{On, SourceInfo, Op, source, filter, projection, union, repartition, coalesce, sortOp, mergeOp, globalLimit, localLimit, sortMergeJoin, hashJoin, outputRequirement, partialSort, aggregate, Plan}
 use Rattle.plan.specs.Numbers.{code}

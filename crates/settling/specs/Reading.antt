@@ -22,7 +22,7 @@ use Rattle.plan_codec.specs.Plans.{every-left, every-right}
 use Rattle.plan_codec.specs.Reading.{plan, planOf, reading}
 use Rattle.plan_codec.specs.RoundTrip.{read-well-formed}
 use Rattle.plan_roundtrip.specs.Files.{byte}
-use Rattle.plan_roundtrip.specs.Back.{AllBytes}
+use Rattle.scan.specs.Bytes.{AllBytes}
 use Rattle.plan_roundtrip.specs.Plans.{accepted-tree}
 use Rattle.plan_arena.specs.Parts.{Part, here, under, beside}
 use Rattle.plan_arena.specs.Fill.{HoldsTree}

@@ -11,6 +11,7 @@ use facts::Facts;
 use facts::union_facts;
 use node_facts::source_of;
 use plan::Kind;
+use plan::NO_FETCH;
 use plan_context::kept::load_summary;
 use plan_context::kept::store_summary;
 use record_fields::kind_of;
@@ -99,7 +100,7 @@ fn below(m: &[u8], i: usize) -> Summary
         passes: true,
         endless: false,
         nodes: 0,
-        fetch: 4294967295,
+        fetch: NO_FETCH,
     };
     let mut j = child_count(m, i);
     while 0 < j {

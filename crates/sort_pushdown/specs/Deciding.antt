@@ -25,7 +25,7 @@ use Rattle.push_requirements.specs.Answers.{some-keys}
 use Rattle.push_requirements.specs.Pushing.{required, orderBy, Handed, SeenNode}
 use Rattle.walks.specs.Utils.{needsMerge, newMerge, sortAboveWithDistribution}
 use Rattle.walks.specs.theorems.common.Keeps.{remark-same}
-use Rattle.walks.specs.SortPushdown.{ParentRequirements, strongerDistribution}
+use Rattle.walks.specs.SortPushdown.{childCount, ParentRequirements, strongerDistribution}
 use Rattle.walks.specs.PushdownSorts as walk
 use Rattle.walks.specs.Counted.{one}
 use Rattle.sort_pushdown.specs.declared.NewNodes.{NewNodes}
@@ -131,15 +131,15 @@ module _ (o : Op) (a b : Order) (f : Fetch) (d₀ d₁ : Distribution) where
       at (suc i) l = let e = e₁ ∙ dist-rest o i in λ j. record { order = y j; fetch = z j; dist = e j }
 
   pub initial-asks : d₀ ≡ distOf o 0 → d₁ ≡ distOf o 1 → Ordered (wanted o 0) a → Ordered (wanted o 1) b → (c : Plan)
-      → childrenOk o (walk.childCount c) ≡ true
-      → Asks (walk.childCount c) (fetches c) (λ i. walk.assignInitialRequirements o c i .req)
+      → childrenOk o (childCount c) ≡ true
+      → Asks (childCount c) (fetches c) (λ i. walk.assignInitialRequirements o c i .req)
       (record { first = record { order = a; fetch = f; distribution = d₀ }; rest = record { order = b; fetch = f; distribution = d₁ }; initial = true })
   initial-asks e₀ e₁ x y c v = record { is = at; first = x .real; rest = y .real }
     where
-      at : (i : ℕ) → i < walk.childCount c → reqFor (both true) (fetches c) i ≡ walk.assignInitialRequirements o c i .req
+      at : (i : ℕ) → i < childCount c → reqFor (both true) (fetches c) i ≡ walk.assignInitialRequirements o c i .req
       at zero l = let g = x .is in λ j. record { order = g j; fetch = getD (fetches c) 0 Unlimited; dist = e₀ j }
       at (suc i) l =
-          let e = e₁ ∙ dist-rest o i in let g = y .is ∙ wanted-rest o (walk.childCount c) v i l in
+          let e = e₁ ∙ dist-rest o i in let g = y .is ∙ wanted-rest o (childCount c) v i l in
           λ j. record { order = g j; fetch = getD (fetches c) (suc i) Unlimited; dist = e j }
 
 pub wanted-going : (o : Op) (a b : Order) (m : ℕ) → childrenOk o m ≡ true → Ordered (wanted o 0) a → Ordered (wanted o 1) b → Handed m (wanted o) a b
@@ -171,7 +171,7 @@ gone-by p ks f c us P b tops req r x a d h =
     subst⁻¹ (Decides (sortOp p ks f) c (record { tops = us; gone = true; op = sortOp p ks f; reqs = λ i. walk.belowSort P; peak = 0; quiet = b })) x
     (record { tops = a; gone = refl; op = refl; reqs = at; first = h; rest = h; peak = refl; quiet = refl })
   where
-    at : (i : ℕ) → i < walk.childCount c → visitFor (removedBy tops req b) (fetches c) i ≡ walk.belowSort P
+    at : (i : ℕ) → i < childCount c → visitFor (removedBy tops req b) (fetches c) i ≡ walk.belowSort P
     at zero l = ap walk.belowSort d
     at (suc i) l = ap walk.belowSort d
 
@@ -220,7 +220,7 @@ requirement-none o e = ap (λ x. isNil (orderOf x)) e
 
 pub stay-by : (o : Op) (c : Plan) (us : List Op) (p : Op) (g : ℕ → ParentRequirements) (j : ℕ) (b x : Bool) (tops : NewNodes) (reqs : ChildRequirements)
     (r : Decision)
-    → r ≡ staysBy b tops reqs x → Adds us tops → cond b (rebuilt o (facts c)) o ≡ p → one x ≡ j → Asks (walk.childCount c) (fetches c) g reqs
+    → r ≡ staysBy b tops reqs x → Adds us tops → cond b (rebuilt o (facts c)) o ≡ p → one x ≡ j → Asks (childCount c) (fetches c) g reqs
     → Decides o c (record { tops = us; gone = false; op = p; reqs = λ i. walk.asked (g i); peak = j; quiet = false }) r
 stay-by o c us p g j b x tops reqs r e a d k h =
     subst⁻¹ (Decides o c (record { tops = us; gone = false; op = p; reqs = λ i. walk.asked (g i); peak = j; quiet = false })) e

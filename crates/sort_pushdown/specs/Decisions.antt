@@ -22,7 +22,7 @@ use Rattle.asked_facts.specs.Asked.{told, FactRow}
 use Rattle.push_requirements.specs.declared.ParentRequirements.{ParentRequirements as Coded}
 use Rattle.push_requirements.specs.Pushing.{required, JoinRows}
 use Rattle.walks.specs.Utils.{needsMerge, newMerge, newSort, sortAboveWithDistribution}
-use Rattle.walks.specs.SortPushdown.{ParentRequirements, minFetch}
+use Rattle.walks.specs.SortPushdown.{childCount, ParentRequirements, minFetch}
 use Rattle.walks.specs.PushdownSorts as walk
 use Rattle.walks.specs.Counted.{one}
 use Rattle.sort_pushdown.specs.declared.Visit.{Visit}
@@ -67,7 +67,7 @@ pub record Decides (o : Op) (c : Plan) (D : walk.Decision) (r : Decision) : Type
   pub tops : Adds (D .tops) (r .tops)
   pub gone : r .gone ≡ D .gone
   pub op : cond (r .rebuilt) (rebuilt o (facts c)) o ≡ D .op
-  pub reqs : (i : ℕ) → i < walk.childCount c → visitFor r (fetches c) i ≡ D .reqs i
+  pub reqs : (i : ℕ) → i < childCount c → visitFor r (fetches c) i ≡ D .reqs i
   pub first : Real (r .reqs .first .order)
   pub rest : Real (r .reqs .rest .order)
   pub peak : one (r .peak) ≡ D .peak

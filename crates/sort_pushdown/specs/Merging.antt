@@ -31,7 +31,7 @@ use Rattle.walks.specs.Utils.{needsMerge, newMerge, sortAboveWithDistribution}
 use Rattle.walks.specs.Marks.{shape}
 use Rattle.walks.specs.theorems.common.Keeps.{remark-same}
 use Rattle.walks.specs.theorems.parallelize.Bottlenecks.{rebuilt-facts, rebuilt-twice}
-use Rattle.walks.specs.SortPushdown.{minFetch, Pushed, goes, stop, pushdownRequirementToChildren}
+use Rattle.walks.specs.SortPushdown.{childCount, effectiveDist, minFetch, Pushed, goes, stop, pushdownRequirementToChildren}
 use Rattle.walks.specs.PushdownSorts as walk
 use Rattle.sort_pushdown.specs.declared.NewNodes.{NewNodes}
 use Rattle.sort_pushdown.specs.declared.ChildRequirements.{ChildRequirements}
@@ -42,17 +42,17 @@ use Rattle.sort_pushdown.specs.Deciding.{facts-like, handed-like, if-not
 -- ---- what a try answered
 module _ (o p : Op) (c : Plan) (r : Decision) (q : walk.Visit) where
   abbrev m : ℕ
-  m = walk.childCount c
+  m = childCount c
 
-  pub try-goes : (P : Pushed) (a b : Order) → HandsOn (walk.childCount c) P (Goes a b)
-      → ((ks : ℕ → List Key) → Handed (walk.childCount c) ks a b
+  pub try-goes : (P : Pushed) (a b : Order) → HandsOn (childCount c) P (Goes a b)
+      → ((ks : ℕ → List Key) → Handed (childCount c) ks a b
       → Decides o c (walk.stays p (walk.handDown ks (minFetch (fetchOp p (fetches c)) (q .req .fetch))
-      (walk.effectiveDist (factsOp p (facts c)) (q .req .dist)) p)) r)
+      (effectiveDist (factsOp p (facts c)) (q .req .dist)) p)) r)
       → Decides o c (walk.afterTry P q p c) r
   try-goes (goes ks) a b h k = k ks h
   try-goes stop a b h k = absurd h
 
-  pub try-stop : (P : Pushed) → HandsOn (walk.childCount c) P Stop
+  pub try-stop : (P : Pushed) → HandsOn (childCount c) P Stop
       → Decides o c (cond (needsMerge (factsOp p (facts c)) (q .req .dist)) (walk.mergeAdded q p c) (walk.sortAdded q p c)) r
       → Decides o c (walk.afterTry P q p c) r
   try-stop (goes ks) h k = absurd h
@@ -150,41 +150,41 @@ seen-again n o fs m F L R s =
     }
 
 -- ---- where a merge comes too
-module _ (c : Plan) (n o : Op) (q : walk.Visit) (F L R : Facts) (s : SeenNode n o (facts c) (walk.childCount c) F L R) (limit fetch : Fetch)
+module _ (c : Plan) (n o : Op) (q : walk.Visit) (F L R : Facts) (s : SeenNode n o (facts c) (childCount c) F L R) (limit fetch : Fetch)
     (order new again : Keys)
     (e : limit ≡ fetchOp o (fetches c)) (eo : keysOf order ≡ q .req .order) (ef : fetch ≡ q .req .fetch) (kn : Keyed (freshKeys F [] (keysOf order)) new)
     (ka : Keyed (nf F [] (keysOf new)) again) where
   abbrev p : Op
   p = rebuilt o (facts c)
 
-  pub seen₁ : SeenNode n (rebuilt o (facts c)) (facts c) (walk.childCount c) F L R
-  seen₁ = seen-again n o (facts c) (walk.childCount c) F L R s
+  pub seen₁ : SeenNode n (rebuilt o (facts c)) (facts c) (childCount c) F L R
+  seen₁ = seen-again n o (facts c) (childCount c) F L R s
 
   pub limit₁ : limit ≡ fetchOp (rebuilt o (facts c)) (fetches c)
   limit₁ = e ∙ sym (remark-same (λ x. fetchOp x (fetches c)) (λ b. counts b (at0 (facts c))) (λ p q m h ks. refl) o)
 
   facts₁ : F ≡ factsOp p (facts c)
-  facts₁ = facts-like n p (facts c) (walk.childCount c) F L R seen₁
+  facts₁ = facts-like n p (facts c) (childCount c) F L R seen₁
 
   new₁ : keysOf new ≡ freshKeys (factsOp p (facts c)) [] (q .req .order)
   new₁ = kn .is ∙ ap₂ (λ G l. freshKeys G [] l) facts₁ eo
 
   again₁ : keysOf again ≡ nf (factsOp o (facts c)) [] (freshKeys (factsOp o (facts c)) [] (q .req .order))
-  again₁ = ka .is ∙ ap₂ (λ G l. nf G [] l) (facts-like n o (facts c) (walk.childCount c) F L R s)
-      (kn .is ∙ ap₂ (λ G l. freshKeys G [] l) (facts-like n o (facts c) (walk.childCount c) F L R s) eo)
+  again₁ = ka .is ∙ ap₂ (λ G l. nf G [] l) (facts-like n o (facts c) (childCount c) F L R s)
+      (kn .is ∙ ap₂ (λ G l. freshKeys G [] l) (facts-like n o (facts c) (childCount c) F L R s) eo)
 
-  tried : (x : Answered) → HandsOn (walk.childCount c) (pushdownRequirementToChildren p limit (walk.childCount c) (facts c) (keysOf again) fetch) x
-      → HandsOn (walk.childCount c) (walk.triedAgain q o c) x
+  tried : (x : Answered) → HandsOn (childCount c) (pushdownRequirementToChildren p limit (childCount c) (facts c) (keysOf again) fetch) x
+      → HandsOn (childCount c) (walk.triedAgain q o c) x
   tried x h =
-      subst (λ P. HandsOn (walk.childCount c) P x)
-      (ap₂ (λ (l : Fetch) (f : Fetch). pushdownRequirementToChildren p l (walk.childCount c) (facts c) (keysOf again) f) limit₁ ef
-      ∙ ap (λ (l : List Key). pushdownRequirementToChildren p (fetchOp p (fetches c)) (walk.childCount c) (facts c) l (q .req .fetch)) again₁) h
+      subst (λ P. HandsOn (childCount c) P x)
+      (ap₂ (λ (l : Fetch) (f : Fetch). pushdownRequirementToChildren p l (childCount c) (facts c) (keysOf again) f) limit₁ ef
+      ∙ ap (λ (l : List Key). pushdownRequirementToChildren p (fetchOp p (fetches c)) (childCount c) (facts c) l (q .req .fetch)) again₁) h
 
   module _ (tops : NewNodes) (reqs : ChildRequirements) (r : Decision) where
-    pub merge-goes : (a b : Order) → HandsOn (walk.childCount c) (pushdownRequirementToChildren (rebuilt o (facts c)) limit (walk.childCount c) (facts c)
+    pub merge-goes : (a b : Order) → HandsOn (childCount c) (pushdownRequirementToChildren (rebuilt o (facts c)) limit (childCount c) (facts c)
         (keysOf again) fetch) (Goes a b) → (f : Fetch) → f ≡ minFetch limit fetch
         → r ≡ staysBy true tops reqs true → Adds (newMerge (keysOf new) fetch) tops
-        → ((ks : ℕ → List Key) → Handed (walk.childCount c) ks a b → Asks (walk.childCount c) (fetches c) (λ i. walk.handDown ks f Unspecified n i .req)
+        → ((ks : ℕ → List Key) → Handed (childCount c) ks a b → Asks (childCount c) (fetches c) (λ i. walk.handDown ks f Unspecified n i .req)
         reqs)
         → Decides o c (walk.mergeAdded q o c) r
     merge-goes a b h f g w t asks =
@@ -192,13 +192,13 @@ module _ (c : Plan) (n o : Op) (q : walk.Visit) (F L R : Facts) (s : SeenNode n 
         (λ ks k.
         stay-by o c _ p (λ i. walk.handDown ks (minFetch (fetchOp p (fetches c)) (q .req .fetch)) Unspecified p i .req) 1 true true tops reqs r w
         (subst (λ l. Adds l tops) (ap₂ newMerge new₁ ef) t) refl refl
-        (subst (λ l. Asks (walk.childCount c) (fetches c) (λ i. walk.handDown ks l Unspecified p i .req) reqs) (g ∙ ap₂ minFetch limit₁ ef)
-        (handed-like n p (facts c) (walk.childCount c) F L R seen₁ (fetches c) ks f Unspecified reqs (asks ks k))))
+        (subst (λ l. Asks (childCount c) (fetches c) (λ i. walk.handDown ks l Unspecified p i .req) reqs) (g ∙ ap₂ minFetch limit₁ ef)
+        (handed-like n p (facts c) (childCount c) F L R seen₁ (fetches c) ks f Unspecified reqs (asks ks k))))
 
-    pub merge-stop : HandsOn (walk.childCount c) (pushdownRequirementToChildren (rebuilt o (facts c)) limit (walk.childCount c) (facts c)
+    pub merge-stop : HandsOn (childCount c) (pushdownRequirementToChildren (rebuilt o (facts c)) limit (childCount c) (facts c)
         (keysOf again) fetch) Stop
         → r ≡ staysBy true tops reqs false → Adds (newMerge (keysOf new) fetch ++ sortAboveWithDistribution F (keysOf again) fetch Unspecified) tops
-        → Asks (walk.childCount c) (fetches c) (λ i. walk.withOwnDistribution n i .req) reqs
+        → Asks (childCount c) (fetches c) (λ i. walk.withOwnDistribution n i .req) reqs
         → Decides o c (walk.mergeAdded q o c) r
     merge-stop h w t asks =
         let G : Facts = factsOp p (facts c) in
@@ -209,7 +209,7 @@ module _ (c : Plan) (n o : Op) (q : walk.Visit) (F L R : Facts) (s : SeenNode n 
         (q .req .fetch) Unspecified) facts₁ (ka .is ∙ ap₂ (λ H l. nf H [] l) facts₁ new₁) in
         after-stop o p c r q (walk.triedAgain q o c) (tried Stop h)
         (stay-by o c _ p (λ i. walk.withOwnDistribution p i .req) 0 true false tops reqs r w (subst (λ l. Adds l tops) x t) refl refl
-        (own-like n p (facts c) (walk.childCount c) F L R seen₁ (fetches c) reqs asks))
+        (own-like n p (facts c) (childCount c) F L R seen₁ (fetches c) reqs asks))
 
 -- ---- the helper
 
@@ -266,15 +266,15 @@ pub sort-one : (o : Op) (p : Bool) (ks : List Key) (f : Fetch) (m : ℕ) → o �
 sort-one o p ks f m e h = let x = eqb-true m 1 (sym (ap (λ n. childrenOk n m) e) ∙ h) in omega arith
 
 -- ---- at another node that an order is required of
-module _ (c : Plan) (n o : Op) (q : walk.Visit) (F L R : Facts) (s : SeenNode n o (facts c) (walk.childCount c) F L R) (limit : Fetch)
+module _ (c : Plan) (n o : Op) (q : walk.Visit) (F L R : Facts) (s : SeenNode n o (facts c) (childCount c) F L R) (limit : Fetch)
     (e : limit ≡ fetchOp o (fetches c)) (k : Keys) (eo : keysOf k ≡ q .req .order) where
   met-is : met F (keysOf k) ≡ met (factsOp o (facts c)) (q .req .order)
-  met-is = ap₂ met (facts-like n o (facts c) (walk.childCount c) F L R s) eo
+  met-is = ap₂ met (facts-like n o (facts c) (childCount c) F L R s) eo
 
-  pub pushed-down : (p : Answered) → HandsOn (walk.childCount c) (pushdownRequirementToChildren o limit (walk.childCount c) (facts c) (keysOf k)
-      (q .req .fetch)) p → HandsOn (walk.childCount c) (walk.pushDown (q .req .order) q o c) p
-  pushed-down p h = subst (λ P. HandsOn (walk.childCount c) P p)
-      (ap₂ (λ (l : Fetch) (ks : List Key). pushdownRequirementToChildren o l (walk.childCount c) (facts c) ks (q .req .fetch)) e eo) h
+  pub pushed-down : (p : Answered) → HandsOn (childCount c) (pushdownRequirementToChildren o limit (childCount c) (facts c) (keysOf k)
+      (q .req .fetch)) p → HandsOn (childCount c) (walk.pushDown (q .req .order) q o c) p
+  pushed-down p h = subst (λ P. HandsOn (childCount c) P p)
+      (ap₂ (λ (l : Fetch) (ks : List Key). pushdownRequirementToChildren o l (childCount c) (facts c) ks (q .req .fetch)) e eo) h
 
   module _ (some : isNil (q .req .order) ≡ false) (r : Decision) (x : Bool) (h : x ≡ met F (keysOf k)) where
     pub node-met : x ≡ true → Decides o c (walk.satisfied q o c) r → Decides o c (walk.decideNode q o c) r

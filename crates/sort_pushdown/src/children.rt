@@ -22,6 +22,7 @@ ghost use Rattle.plan.specs.declared.Fetch.the-variants as fetch;
 ghost use Rattle.plan_codec.specs.Decode.{decode};
 ghost use Rattle.record_fields.specs.Proper.{Proper};
 ghost use Rattle.semantics.specs.Properties.{fetches};
+ghost use Rattle.walks.specs.SortPushdown.{childCount};
 ghost use Rattle.walks.specs.PushdownSorts as walk;
 ghost use Rattle.push_requirements.specs.Pushing.{Handed};
 ghost use Rattle.sort_pushdown.specs.Decisions.{Asks, ofChild, visitOf, visitFor};
@@ -85,7 +86,7 @@ pub fn with_own_distribution(r: &[u8]) -> ChildRequirements
 // Each child's own order, fetch and distribution.
 pub fn assign_initial_requirements(r: &[u8]) -> ChildRequirements
     requires { ⌜ Proper (now r) ⌝ }
-    ensures { λ q. ⌜ ((c : Plan) → childrenOk (decode (now (r .entry))) (walk.childCount c) ≡ true → Asks (walk.childCount c) (fetches c)
+    ensures { λ q. ⌜ ((c : Plan) → childrenOk (decode (now (r .entry))) (childCount c) ≡ true → Asks (childCount c) (fetches c)
         (λ i. walk.assignInitialRequirements (decode (now (r .entry))) c i .req) q) ⌝ }
 {
     let fetch = Fetch::Unlimited;

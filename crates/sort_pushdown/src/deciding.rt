@@ -40,6 +40,7 @@ ghost use Rattle.semantics.specs.Properties.{fetches, fetchOp};
 ghost use Rattle.key_lists.specs.Keys.{keysOf};
 ghost use Rattle.asked_facts.specs.Asked.{told, FactRow};
 ghost use Rattle.walks.specs.Utils.{sortAboveWithDistribution};
+ghost use Rattle.walks.specs.SortPushdown.{childCount, effectiveDist};
 ghost use Rattle.walks.specs.PushdownSorts as walk;
 ghost use Rattle.push_requirements.specs.Pushing.{Asked, Handed, SeenNode};
 ghost use Rattle.sort_pushdown.specs.Decisions.{Decides, Visited, staysBy, rebuiltBy, visitOf};
@@ -61,7 +62,7 @@ fn stays(rebuilt: bool, tops: NewNodes, reqs: ChildRequirements, peak: bool) -> 
 // No order is required: each child is handed its own distribution; the root's children their initial requirements.
 fn unasked(root: bool, r: &[u8]) -> Decision
     requires { ⌜ Proper (now r) ⌝ }
-    ensures { λ d. ⌜ ((c : Plan) (o : Op) (F L R : sem.Facts) → SeenNode (decode (now (r .entry))) o (sem.facts c) (walk.childCount c) F L R
+    ensures { λ d. ⌜ ((c : Plan) (o : Op) (F L R : sem.Facts) → SeenNode (decode (now (r .entry))) o (sem.facts c) (childCount c) F L R
         → Decides o c (walk.stays o (cond root (walk.assignInitialRequirements o c) (walk.withOwnDistribution o))) d) ⌝ }
 {
     if root {
@@ -80,9 +81,9 @@ fn handed_on(
     d: Distribution,
 ) -> Decision
     requires { ⌜ Proper (now r) × FactRow (now own) ⌝ }
-    ensures { λ x. ⌜ ((c : Plan) (o : Op) (L R : sem.Facts) (ks : ℕ → List Key) → SeenNode (decode (now (r .entry))) o (sem.facts c) (walk.childCount c)
-        (told (now (own .entry))) L R → Handed (walk.childCount c) ks first rest
-        → Decides o c (walk.stays o (walk.handDown ks fetch (walk.effectiveDist (sem.factsOp o (sem.facts c)) d) o)) x) ⌝ }
+    ensures { λ x. ⌜ ((c : Plan) (o : Op) (L R : sem.Facts) (ks : ℕ → List Key) → SeenNode (decode (now (r .entry))) o (sem.facts c) (childCount c)
+        (told (now (own .entry))) L R → Handed (childCount c) ks first rest
+        → Decides o c (walk.stays o (walk.handDown ks fetch (effectiveDist (sem.factsOp o (sem.facts c)) d) o)) x) ⌝ }
 {
     let e = effective_distribution(own, d);
     let reqs = hand_down(r, first, rest, fetch, e);
@@ -92,7 +93,7 @@ fn handed_on(
 // The order cannot be pushed down: a new sort.
 fn sort_added(r: &[u8], own: &[u8], order: Keys, fetch: Fetch, d: Distribution) -> Decision
     requires { ⌜ Proper (now r) × FactRow (now own) × (order .len ≤ 8) ⌝ }
-    ensures { λ x. ⌜ ((c : Plan) (o : Op) (L R : sem.Facts) → SeenNode (decode (now (r .entry))) o (sem.facts c) (walk.childCount c)
+    ensures { λ x. ⌜ ((c : Plan) (o : Op) (L R : sem.Facts) → SeenNode (decode (now (r .entry))) o (sem.facts c) (childCount c)
         (told (now (own .entry))) L R → Decides o c (walk.covered (sortAboveWithDistribution (sem.factsOp o (sem.facts c)) (keysOf order) fetch d) 0 o
         (walk.withOwnDistribution o)) x) ⌝ }
 {
@@ -111,7 +112,7 @@ fn merge_added(
     fetch: Fetch,
 ) -> Decision
     requires { ⌜ Asked (now r) (now own) (now a) (now b) order ⌝ }
-    ensures { λ x. ⌜ ((c : Plan) (o : Op) (q : walk.Visit) → SeenNode (decode (now (r .entry))) o (sem.facts c) (walk.childCount c) (told (now (own .entry)))
+    ensures { λ x. ⌜ ((c : Plan) (o : Op) (q : walk.Visit) → SeenNode (decode (now (r .entry))) o (sem.facts c) (childCount c) (told (now (own .entry)))
         (told (now (a .entry))) (told (now (b .entry))) → limit ≡ fetchOp o (fetches c) → keysOf order ≡ q .req .order → fetch ≡ q .req .fetch
         → Decides o c (walk.mergeAdded q o c) x) ⌝ }
 {
@@ -134,7 +135,7 @@ fn merge_added(
 
 fn decide_node(v: Visit, r: &[u8], own: &[u8], a: &[u8], b: &[u8], limit: Fetch) -> Decision
     requires { ⌜ Visited (now r) (now own) (now a) (now b) (v .req .order) ⌝ }
-    ensures { λ x. ⌜ ((c : Plan) (o : Op) → SeenNode (decode (now (r .entry))) o (sem.facts c) (walk.childCount c) (told (now (own .entry)))
+    ensures { λ x. ⌜ ((c : Plan) (o : Op) → SeenNode (decode (now (r .entry))) o (sem.facts c) (childCount c) (told (now (own .entry)))
         (told (now (a .entry))) (told (now (b .entry))) → limit ≡ fetchOp o (fetches c) → Decides o c (walk.decideNode (visitOf v) o c) x) ⌝ }
 {
     let req = v.req;
@@ -182,7 +183,7 @@ pub fn pushdown_sorts_helper(
     limit: Fetch,
 ) -> Decision
     requires { ⌜ Visited (now r) (now own) (now a) (now b) (v .req .order) ⌝ }
-    ensures { λ x. ⌜ ((c : Plan) → SeenNode (decode (now (r .entry))) (decode (now (r .entry))) (sem.facts c) (walk.childCount c) (told (now (own .entry)))
+    ensures { λ x. ⌜ ((c : Plan) → SeenNode (decode (now (r .entry))) (decode (now (r .entry))) (sem.facts c) (childCount c) (told (now (own .entry)))
         (told (now (a .entry))) (told (now (b .entry))) → limit ≡ fetchOp (decode (now (r .entry))) (fetches c) → Decides (decode (now (r .entry))) c
         (walk.pushdownSortsHelper (visitOf v) (decode (now (r .entry))) c) x) ⌝ }
 {

@@ -4,13 +4,12 @@ use mathlib.Core.Bool.{Bool, true, false, cond, _&&_}
 use mathlib.Core.List.{List, [], _∷_}
 use Prim.Native.Nat.{ℕ, zero, suc, _+_, _*_, _≤_, _<_}
 use native.Mathlib.Omega.{arith}
-use borrow.Author.Tests.{eq-eqb, ne-eqb}
 use lib.Dec.{ltb}
 use lib.ListN.{length}
 use Rattle.plan.specs.Forest.{none, size}
 use Rattle.plan.specs.declared.Fetch.{Fetch}
-use Rattle.plan.specs.declared.Fetch.the-variants.{AtMost, Unlimited}
-use Rattle.plan_codec.specs.Decode.{decode, fetchOf}
+use Rattle.plan.specs.declared.Fetch.the-variants.{Unlimited}
+use Rattle.plan_codec.specs.Decode.{decode}
 use Rattle.plan_codec.specs.Encode.{encode}
 use Rattle.plan_codec.specs.OneRecord.{decode-encode}
 use Rattle.semantics.specs.Facts.{knownOrder}
@@ -33,12 +32,6 @@ use Rattle.plan_updates.specs.Opening.{grown-none}
 use Rattle.sort_connection.specs.Standing.{Standing}
 
 -- ---- the record of the new node
-
-pub fetch-none : (n : ℕ) (f : Fetch) → fetchOf n ≡ f → n ≡ 4294967295 → Unlimited ≡ f
-fetch-none n f e z = sym (ap (λ b. cond b Unlimited (AtMost n)) (eq-eqb n 4294967295 z)) ∙ e
-
-pub fetch-some : (n : ℕ) (f : Fetch) → fetchOf n ≡ f → (n ≡ 4294967295 → ⊥) → AtMost n ≡ f
-fetch-some n f e z = sym (ap (λ b. cond b Unlimited (AtMost n)) (ne-eqb n 4294967295 z)) ∙ e
 
 some-keys : (n w : ℕ) (f : Fetch) → 0 < n → mergeOp (keysIn n w) f ≡ singleStreamOp (keysIn n w) f
 some-keys zero w f h = absurd (omega arith)

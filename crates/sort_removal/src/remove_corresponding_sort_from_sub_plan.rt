@@ -18,15 +18,14 @@ use node_properties::is_sort_preserving_merge;
 use plan::Fetch;
 use plan_context::handles::is_marked;
 use plan_context::handles::set_mark;
+use plan_context::kept::fetch_at;
 use plan_context::kept::row;
-use plan_context::kept::summary;
 use plan_updates::put_again;
 use plan_updates::put_over;
 use plan_updates::update_plan_from_children;
 use sort_connection::update_sort_ctx_children_data::any_marked;
 use sort_connection::update_sort_ctx_children_data::is_connected;
 use sort_connection::update_sort_ctx_children_data::update_sort_ctx_children_data;
-use tree_summary::Summary;
 use wanted_inputs::wants_single;
 ghost use mathlib.Core.Path.{_≡_};
 ghost use mathlib.Core.Bool.{true};
@@ -36,26 +35,13 @@ ghost use Rattle.plan_codec.specs.Decode.{decode};
 ghost use Rattle.plan_codec.specs.Encode.{encode};
 ghost use Rattle.key_lists.specs.Keys.{orderOf, Real};
 ghost use Rattle.arena.specs.Arena.{index, marked, slot};
-ghost use Rattle.walks.specs.Marks.{fetchT, sizeT};
+ghost use Rattle.walks.specs.Marks.{sizeT};
 ghost use Rattle.walks.specs.EnsureSorting.{singleStreamOp, withSingleStream};
 ghost use Rattle.plan_context.specs.View.{treeOf, Grown};
 ghost use Rattle.sort_connection.specs.Standing.{Standing};
 ghost use Rattle.sort_removal.specs.SingleStream.{AsksSingleStream};
 ghost use Rattle.sort_removal.specs.Removing.{Rems, Overs, Removed, removeOne};
 ghost use Rattle.sort_removal.specs.Recursion.{Removes};
-
-// The plan's fetch at h.
-fn plan_fetch(m: &[u8], u: usize, h: usize) -> Fetch
-    requires { ⌜ Standing (now m) u h ⌝ }
-    ensures { λ f. ⌜ f ≡ fetchT (treeOf (now (m .entry)) h) ⌝ }
-{
-    let s: Summary = summary(m, h);
-    let n = s.fetch;
-    if n == 4294967295 {
-        return Fetch::Unlimited;
-    }
-    Fetch::AtMost(n)
-}
 
 // A merge of the order, or a coalesce where there is none.
 fn single_stream_record(order: Order, fetch: Fetch) -> [u8; 64]
@@ -80,7 +66,7 @@ fn with_single_stream(m: &mut [u8], u: usize, h: usize, single: bool) -> At
     if !several_streams(own) {
         return At { used: u, root: h };
     }
-    let r = single_stream_record(known_order(own), plan_fetch(m, u, h));
+    let r = single_stream_record(known_order(own), fetch_at(m, h));
     let k = set_mark(h, is_connected(m, u, h));
     put_over(m, u, &r, k)
 }

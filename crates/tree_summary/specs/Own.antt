@@ -8,7 +8,7 @@ use lib.Dec.{eqb, ltb}
 use lib.ListN.{getD}
 use Rattle.row_order.specs.Packed.{bit}
 use Rattle.scan.specs.Bytes.{le32}
-use Rattle.plan.specs.Numbers.{kindNumber, kindOf}
+use Rattle.plan.specs.Numbers.{kindNumber, kindOf, noFetch}
 use Rattle.plan.specs.declared.Kind.{Kind}
 use Rattle.plan.specs.declared.Kind.the-variants.{Source, Filter, Projection, Union, Repartition, Coalesce, Sort, Merge, GlobalLimit, LocalLimit, SortMergeJoin, HashJoin, OutputRequirement, PartialSort, Aggregate}
 use Rattle.plan_codec.specs.NodeRecord.{NodeRecord}
@@ -23,15 +23,15 @@ kind-same : (r : List ℕ) (n : ℕ) → r ≡ encode n (decode r) → getD r 0 
 unfolding decode
 kind-same r n e = code-byte r n e ∙ ap kindNumber (operator-kind (kindOf (getD r 0 0)) (fromBytes r))
 
--- ---- the fetch, 4294967295 for none
+-- ---- the fetch, noFetch for none
 
 abbrev hasFetch : ℕ → Bool
 hasFetch k = (ltb 5 k && ltb k 11) || (ltb 12 k && ltb k 15)
 
 abbrev pub fetchIn : List ℕ → ℕ
-fetchIn r = cond ((ltb 5 (getD r 0 0) && ltb (getD r 0 0) 11) || (ltb 12 (getD r 0 0) && ltb (getD r 0 0) 15)) (le32 r 4) 4294967295
+fetchIn r = cond ((ltb 5 (getD r 0 0) && ltb (getD r 0 0) 11) || (ltb 12 (getD r 0 0) && ltb (getD r 0 0) 15)) (le32 r 4) noFetch
 
-fetch-by : (k : Kind) (x : NodeRecord) (n : ℕ) → x .fetch ≡ fetchOf n → fetchOf (cond (hasFetch (kindNumber k)) n 4294967295) ≡ cuts (operatorOf k x) .fetch
+fetch-by : (k : Kind) (x : NodeRecord) (n : ℕ) → x .fetch ≡ fetchOf n → fetchOf (cond (hasFetch (kindNumber k)) n noFetch) ≡ cuts (operatorOf k x) .fetch
 fetch-by Source x n e = refl
 fetch-by Filter x n e = refl
 fetch-by Projection x n e = refl
@@ -50,7 +50,7 @@ fetch-by Aggregate x n e = refl
 
 pub fetch-is : (r : List ℕ) (n : ℕ) → r ≡ encode n (decode r) → fetchOf (fetchIn r) ≡ cuts (decode r) .fetch
 unfolding decode
-fetch-is r n e = ap (λ k. fetchOf (cond (hasFetch k) (le32 r 4) 4294967295)) (kind-same r n e) ∙ fetch-by (kindOf (getD r 0 0)) (fromBytes r)
+fetch-is r n e = ap (λ k. fetchOf (cond (hasFetch k) (le32 r 4) noFetch)) (kind-same r n e) ∙ fetch-by (kindOf (getD r 0 0)) (fromBytes r)
     (le32 r 4) refl
 
 -- ---- boundedness

@@ -1,4 +1,5 @@
 // The summary of a tree: what a slot keeps of its node's tree beside the facts, from the node's record and from the summary of its children.
+use plan::NO_FETCH;
 ghost use mathlib.Core.Path.{_≡_};
 ghost use mathlib.Core.Bool.{cond};
 ghost use Prim.Native.Nat.{_<_};
@@ -6,7 +7,7 @@ ghost use lib.Dec.{eqb};
 ghost use lib.ListN.{length, getD};
 ghost use Rattle.tree_summary.specs.Own.{fetchIn, endlessIn, own};
 
-// Whether the order check passes in the tree, whether it is unbounded, its nodes, and the plan's fetch, 4294967295 for none.
+// Whether the order check passes in the tree, whether it is unbounded, its nodes, and the plan's fetch, NO_FETCH for none.
 pub struct Summary {
     pub passes: bool,
     pub endless: bool,
@@ -14,7 +15,7 @@ pub struct Summary {
     pub fetch: u32,
 }
 
-// The node's own fetch, 4294967295 for none.
+// The node's own fetch, NO_FETCH for none.
 fn own_fetch(r: &[u8]) -> u32
     requires { ⌜ length (now r) ≡ 64 ⌝ }
     ensures { λ n. ⌜ n ≡ fetchIn (now (r .entry)) ⌝ }
@@ -23,7 +24,7 @@ fn own_fetch(r: &[u8]) -> u32
     if ((5 < k) & (k < 11)) | ((12 < k) & (k < 15)) {
         return scan::get32(r, 4);
     }
-    4294967295
+    NO_FETCH
 }
 
 // Whether it is a source whose rows do not end.

@@ -6,10 +6,9 @@
 use mathlib.Core.Bool.{Bool, true, false, cond, _||_}
 use mathlib.Core.List.{List, [], _++_}
 use Prim.Native.Nat.{ℕ, suc}
-use lib.Dec.{eqb}
-use lib.ListN.{length, getD}
+use lib.ListN.{getD}
 use Rattle.row_order.specs.Iso.{Key}
-use Rattle.plan.specs.Forest.{Forest, none, roots, tree}
+use Rattle.plan.specs.Forest.{Forest, none, tree}
 use Rattle.plan.specs.Op.{Op, Plan, sortOp}
 use Rattle.plan.specs.declared.Distribution.{Distribution}
 use Rattle.plan.specs.declared.Distribution.the-variants.{Unspecified}
@@ -19,7 +18,7 @@ use Rattle.semantics.specs.Facts.{at0, compatible, Facts, facts, factsOp, isNil
 use Rattle.semantics.specs.Properties.{distOf, fetches, fetchOp, freshKeys, rebuilt, sortDist, wanted}
 use Rattle.walks.specs.Marks.{cover, ifSort, kid0, Marked, node, plant, rebuild, Shape, shape, strip, Tree}
 use Rattle.walks.specs.Utils.{mergeAbove, needsMerge, sortAboveWithDistribution}
-use Rattle.walks.specs.SortPushdown.{defaultRequirements, goes, minFetch, ParentRequirements, pushdownRequirementToChildren, Pushed, stop, strongerDistribution}
+use Rattle.walks.specs.SortPushdown.{childCount, defaultRequirements, effectiveDist, goes, minFetch, ParentRequirements, pushdownRequirementToChildren, Pushed, stop, strongerDistribution}
 
 -- ---- what a node is visited with
 
@@ -51,10 +50,6 @@ assignInitialRequirements o c i = asked (record { order = wanted o i; fetch = ge
 -- "child.data.distribution_requirement = stronger_distribution(..)": orders ks, fetch f and distribution d for the children of o
 abbrev pub handDown : (ℕ → List Key) → Fetch → Distribution → Op → ℕ → Visit
 handDown ks f d o i = asked (record { order = ks i; fetch = f; dist = strongerDistribution d (distOf o i) })
-
--- "If this node already outputs single partition, don't push SinglePartition requirement to children"
-abbrev pub effectiveDist : Facts → Distribution → Distribution
-effectiveDist F d = cond (eqb (F .streams) 1) Unspecified d
 
 -- ---- a decision
 
@@ -132,9 +127,6 @@ abbrev pub decideSort : Bool → List Key → Fetch → Visit → Plan → Decis
 decideSort p ks f q c = cond (isNil (q .req .order)) (sortUnasked p ks f q c) (sortAsked p ks f q c)
 
 -- ---- pushdown_sorts_helper at another node o over c, visited with q
-
-abbrev pub childCount : Plan → ℕ
-childCount c = length (roots c)
 
 -- pushdown_requirement_to_children, for an order ks
 abbrev pub pushDown : List Key → Visit → Op → Plan → Pushed

@@ -7,7 +7,8 @@ use Prim.Native.Nat.{ℕ, zero, suc, _+_, _-_, min}
 use lib.Dec.{eqb, ltb, leb}
 use lib.ListN.{length, getD}
 use Rattle.row_order.specs.Iso.{Key}
-use Rattle.plan.specs.Op.{Op, source, filter, projection, union, repartition, coalesce, sortOp, mergeOp, globalLimit, localLimit, sortMergeJoin, hashJoin, outputRequirement, partialSort, aggregate}
+use Rattle.plan.specs.Forest.{roots}
+use Rattle.plan.specs.Op.{Op, source, filter, projection, union, repartition, coalesce, sortOp, mergeOp, globalLimit, localLimit, sortMergeJoin, hashJoin, outputRequirement, partialSort, aggregate, Plan}
 use Rattle.plan.specs.Numbers.{code}
 use Rattle.plan.specs.WellFormed.{every, someFetch, columnsOf}
 use Rattle.plan.specs.declared.JoinType.{JoinType}
@@ -44,6 +45,15 @@ strongerDistribution d Single = Single
 strongerDistribution Unspecified (Keyed s) = Keyed s
 strongerDistribution Single (Keyed s) = Single
 strongerDistribution (Keyed r) (Keyed s) = Keyed r
+
+-- "If this node already outputs single partition, don't push SinglePartition requirement to children"
+abbrev pub effectiveDist : Facts → Distribution → Distribution
+effectiveDist F d = cond (eqb (F .streams) 1) Unspecified d
+
+-- ---- how many children stand below a node, from their plans
+
+abbrev pub childCount : Plan → ℕ
+childCount c = length (roots c)
 
 -- ---- what goes to the children: nothing, the Rust's None; or an order for each child by its number, the empty list being none
 

@@ -15,8 +15,7 @@ use Rattle.plan.specs.WellFormed.{every, width}
 use Rattle.plan.specs.declared.Fetch.{Fetch}
 use Rattle.plan.specs.declared.Refusal.the-variants.{ConstantSort, HasPartialSort, TooManyNodes}
 use Rattle.semantics.specs.Facts.{at0, Facts, facts, met}
-use Rattle.semantics.specs.Properties.{anyOf, endless, isLimit}
-use Rattle.semantics.specs.Bags.{simpleOp}
+use Rattle.semantics.specs.Properties.{anyOf, endless, isLimit, simpleOp}
 use Rattle.walks.specs.Marks.{rebuild, sizeT, strip, transformUp, Tree}
 use Rattle.walks.specs.PartialSort.{fromNode}
 use Rattle.walks.specs.PushdownSorts.{atRoot, carryOut, Decision, push, pushdownSorts, pushdownSortsHelper, Visit}

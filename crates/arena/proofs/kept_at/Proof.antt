@@ -1,6 +1,6 @@
 use borrow.Author.Needs.{needs}
 use Prim.Native.Nat.{_+_, _*_}
-use Rattle.scan.specs.Bytes.{cut}
+use Rattle.scan.specs.ByteLaws.{cut}
 use Rattle.arena.specs.Arena.{slotSize, keptFrom, keptSize}
 use Rattle.arena.proofs.kept_at.Statement.{statement}
 use Rattle.arena.proofs.kept_at.Tie as tie

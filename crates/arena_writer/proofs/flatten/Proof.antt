@@ -3,7 +3,7 @@ use native.Mathlib.Omega.{arith}
 use mathlib.Core.Path.{_≡_, refl, sym, ap, _∙_}
 use Prim.Native.Nat.{_+_, _*_, _-_}
 use lib.ListN.{length, replicate}
-use Rattle.scan.specs.Bytes.{cut, length-part}
+use Rattle.scan.specs.ByteLaws.{cut, length-part}
 use Rattle.arena_writer.specs.Flat.{Flat, flat-start, flat-here, flat-fine, flat-room, flat-more, flat-next, flat-end}
 use Rattle.arena_writer.proofs.flatten.Statement.{statement}
 use Rattle.arena_writer.proofs.flatten.Tie as tie

@@ -5,8 +5,9 @@ use native.Mathlib.Omega.{arith}
 use lib.ListN.{length, take, drop}
 use Rattle.plan_format.specs.Blocks.{block, blockCount, headerOk}
 use Rattle.plan_format.specs.Reading.{headersOk}
-use Rattle.scan.specs.Below.{allBelow, all-none, all-more, all-fail, all-end}
-use Rattle.scan.specs.Bytes.{cut, length-part}
+use Rattle.scan.specs.Bytes.{allBelow}
+use Rattle.scan.specs.Below.{all-none, all-more, all-fail, all-end}
+use Rattle.scan.specs.ByteLaws.{cut, length-part}
 use Rattle.block_passes.specs.Laws.{fails, holds}
 use borrow.Author.Needs.{needs}
 use Rattle.block_passes.proofs.headers_ok.Statement.{statement}

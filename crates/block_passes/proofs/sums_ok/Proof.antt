@@ -5,8 +5,9 @@ use native.Mathlib.Omega.{arith}
 use lib.ListN.{length}
 use Rattle.plan_format.specs.Blocks.{block, blockCount, sumOk}
 use Rattle.plan_format.specs.Reading.{sumsOk}
-use Rattle.scan.specs.Below.{allBelow, all-none, all-more, all-fail, all-end}
-use Rattle.scan.specs.Bytes.{cut, length-part}
+use Rattle.scan.specs.Bytes.{allBelow}
+use Rattle.scan.specs.Below.{all-none, all-more, all-fail, all-end}
+use Rattle.scan.specs.ByteLaws.{cut, length-part}
 use Rattle.block_passes.specs.Laws.{fails, holds}
 use borrow.Author.Needs.{needs}
 use Rattle.block_passes.proofs.sums_ok.Statement.{statement}

@@ -6,7 +6,8 @@ use lib.Dec.{ltb}
 use lib.ListN.{length, getD}
 use borrow.Author.Tests.{lt-ltb, le-ltb}
 use Rattle.plan_format.specs.LastPass.{belowOk}
-use Rattle.scan.specs.Below.{allBelow, all-none, all-more, all-fail, all-end}
+use Rattle.scan.specs.Bytes.{allBelow}
+use Rattle.scan.specs.Below.{all-none, all-more, all-fail, all-end}
 use borrow.Author.Needs.{needs}
 use Rattle.column_rules.proofs.below_ok.Statement.{statement}
 use Rattle.column_rules.proofs.below_ok.Tie as tie

@@ -3,7 +3,7 @@ use mathlib.Core.Path.{ap, _∙_}
 use mathlib.Core.List.{List}
 use Prim.Native.Nat.{ℕ}
 use lib.ListN.{getD}
-use Rattle.scan.specs.Bytes.{cut}
+use Rattle.scan.specs.ByteLaws.{cut}
 use Rattle.plan_format.specs.LastPass.{belowOk}
 use Rattle.column_rules.proofs.child_columns_ok.Statement.{statement}
 use Rattle.column_rules.proofs.child_columns_ok.Tie as tie

@@ -5,7 +5,8 @@ use native.Mathlib.Omega.{arith}
 use lib.ListN.{length}
 use borrow.Author.Tests.{not-true, not-false}
 use Rattle.plan_format.specs.LastPass.{columnOk, columnsOk}
-use Rattle.scan.specs.Below.{allBelow, all-none, all-more, all-fail, all-end}
+use Rattle.scan.specs.Bytes.{allBelow}
+use Rattle.scan.specs.Below.{all-none, all-more, all-fail, all-end}
 use borrow.Author.Needs.{needs}
 use Rattle.column_rules.proofs.columns_ok.Statement.{statement}
 use Rattle.column_rules.proofs.columns_ok.Tie as tie

@@ -6,7 +6,8 @@ use lib.Dec.{eqb}
 use lib.ListN.{getD}
 use borrow.Author.Tests.{eq-eqb, ne-eqb}
 use Rattle.plan_format.specs.LastPass.{freshOk}
-use Rattle.scan.specs.Below.{allBelow, all-none, all-more, all-fail, all-end}
+use Rattle.scan.specs.Bytes.{allBelow}
+use Rattle.scan.specs.Below.{all-none, all-more, all-fail, all-end}
 use borrow.Author.Needs.{needs}
 use Rattle.column_rules.proofs.fresh_ok.Statement.{statement}
 use Rattle.column_rules.proofs.fresh_ok.Tie as tie

@@ -5,7 +5,7 @@ use Prim.Native.Nat.{ℕ}
 use native.Mathlib.Omega.{arith}
 use borrow.Author.Needs.{needs}
 use borrow.Author.Tests.{eqb-true, ne-eqb}
-use Rattle.plan_roundtrip.specs.Back.{AllBytes}
+use Rattle.scan.specs.Bytes.{AllBytes}
 use Rattle.demands.specs.CheckedFiles.{checked-feeds, told, told-refused}
 use Rattle.feeds_in_order.proofs.feeds_in_order.Statement.{statement}
 use Rattle.feeds_in_order.proofs.feeds_in_order.Tie as tie

@@ -3,7 +3,8 @@ use borrow.Author.Needs.{needs}
 use native.Mathlib.Omega.{arith}
 use mathlib.Core.Path.{refl, subst}
 use Prim.Native.Nat.{_+_, _≤_}
-use Rattle.row_order.specs.Lists.{All, all-map}
+use Rattle.row_order.specs.Lists.{All}
+use Rattle.row_order.specs.ListLaws.{all-map}
 use Rattle.plan.specs.WellFormed.{joinWidth}
 use Rattle.plan.specs.declared.JoinType.{JoinType}
 use Rattle.key_lists.specs.Keys.{keysOf}

@@ -3,7 +3,7 @@ use mathlib.Core.Path.{refl, sym, _∙_}
 use lib.ListN.{length}
 use borrow.Author.Tests.{not-false}
 use Rattle.plan_format.specs.Reading.{earlyRefusal}
-use Rattle.block_passes.specs.Laws.{length-facts, count-le}
+use Rattle.plan_format.specs.Passed.{length-facts, count-le}
 use Rattle.plan_passes.specs.Laws.{refuse-stop, refuse-on}
 use Rattle.plan_passes.proofs.early_refusal.Statement.{statement}
 use Rattle.plan_passes.proofs.early_refusal.Tie as tie

@@ -5,7 +5,8 @@ use Prim.Native.Nat.{ℕ, _-_, _+_}
 use mathlib.Core.Path.{_≡_, refl, ap, _∙_}
 use mathlib.Core.Bool.{_&&_}
 use mathlib.Core.List.{List}
-use Rattle.scan.specs.Below.{allBelow, all-down, all-down-end}
+use Rattle.scan.specs.Bytes.{allBelow}
+use Rattle.scan.specs.Below.{all-down, all-down-end}
 use Rattle.plan_format.specs.Blocks.{span, recordAt, recordStart}
 use Rattle.plan_format.specs.Record.{kindOk, recordOk}
 use Rattle.plan_format.specs.Reading.{kindsOk, treeOk, recordsOk, childrenAt, oneTree}

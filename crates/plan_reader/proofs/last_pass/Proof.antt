@@ -4,7 +4,7 @@ use native.Mathlib.Omega.{arith}
 use mathlib.Core.Path.{sym, ap, refl, _∙_}
 use Prim.Native.Nat.{_+_, _-_, _≤_, _<_}
 use lib.ListN.{length}
-use Rattle.scan.specs.Bytes.{length-part}
+use Rattle.scan.specs.ByteLaws.{length-part}
 use Rattle.plan_format.specs.Blocks.{recordStart}
 use Rattle.plan_passes.specs.Stack.{childByte, record-lent, byte-fits}
 use Rattle.plan_reader.specs.Laws.{Late, late-start, record-small, visit-fail, visit-narrow, visit-more, visit-end}

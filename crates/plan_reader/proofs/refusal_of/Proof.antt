@@ -1,8 +1,7 @@
 use mathlib.Core.Path.{refl, sym, ap, _∙_}
 use native.Mathlib.Omega.{arith}
 use Rattle.plan.specs.Numbers.{numberOf}
-use Rattle.plan_format.specs.Passed.{passed-early}
-use Rattle.block_passes.specs.Laws.{few-records}
+use Rattle.plan_format.specs.Passed.{passed-early, few-records}
 use Rattle.plan_reader.specs.Laws.{first-stop, first-on}
 use borrow.Author.Needs.{needs}
 use Rattle.plan_reader.proofs.refusal_of.Statement.{statement}

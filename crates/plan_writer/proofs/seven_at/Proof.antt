@@ -2,7 +2,7 @@ use mathlib.Core.Path.{sym, _∙_}
 use Prim.Native.Nat.{ℕ, _*_}
 use native.Mathlib.Omega.{arith}
 use lib.ListN.{drop}
-use Rattle.scan.specs.Bytes.{cut, cut-end}
+use Rattle.scan.specs.ByteLaws.{cut, cut-end}
 use lib.Seq.{take-all}
 use lib.ListN.{length-drop}
 use borrow.Author.Needs.{needs}

@@ -3,7 +3,7 @@ use mathlib.Core.Bool.{cond}
 use Prim.Native.Nat.{_*_, _-_}
 use native.Mathlib.Omega.{arith}
 use lib.ListN.{length}
-use Rattle.scan.specs.Bytes.{cut, length-part}
+use Rattle.scan.specs.ByteLaws.{cut, length-part}
 use Rattle.plan.specs.declared.Refusal.the-variants.{Accepted, OutputTooShort}
 use Rattle.plan_format.specs.Writing.{blockOf, blocksFor}
 use borrow.Author.Tests.{lt-ltb, le-ltb}

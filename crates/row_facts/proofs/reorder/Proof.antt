@@ -5,7 +5,7 @@ use mathlib.Core.Path.{sym, ap, subst, _∙_}
 use mathlib.Core.List.{List, _++_}
 use Prim.Native.Nat.{ℕ, _%_, _<_, _^_}
 use lib.ListN.{take, drop, set, length-set}
-use Rattle.scan.specs.Bytes.{length-part}
+use Rattle.scan.specs.ByteLaws.{length-part}
 use Rattle.scan.specs.Parts.{splice, splice-length}
 use Rattle.byte_rows.specs.Rows.{lowBytes}
 use Rattle.semantics.specs.Facts as sem

@@ -15,11 +15,10 @@ use Rattle.plan.specs.declared.JoinType.the-variants.{Inner, Left, Right, Full,
 use Rattle.plan.specs.declared.Distribution.the-variants.{Unspecified, Single, Keyed}
 use Rattle.plan.specs.declared.Fetch.the-variants.{Unlimited, AtMost}
 use Rattle.semantics.specs.Facts.{Facts, isNil, counts, keepsOrder, at0, facts}
-use Rattle.semantics.specs.Properties.{wanted, cuts, maintains, supportsLimitPushdown, cardinalityEqual, endless, endlessOp, distOf}
+use Rattle.semantics.specs.Properties.{wanted, cuts, maintains, supportsLimitPushdown, cardinalityEqual, endless, endlessOp, distOf, simpleOp}
 use Rattle.semantics.specs.Check.{check}
 use Rattle.semantics.specs.Joins.{sql}
 use Rattle.semantics.specs.Runs.{cutRows, zipLeft, zipRight}
-use Rattle.semantics.specs.Bags.{simpleOp}
 use Rattle.semantics.specs.examples.SampleRows.{row, pair}
 
 abbrev byFirst : List On

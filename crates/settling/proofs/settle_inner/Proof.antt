@@ -7,14 +7,13 @@ use Rattle.node_facts.specs.Ready.{kidsOf, Ready}
 use Rattle.row_facts.specs.Over.{OverRows as Rows}
 use Prim.Native.Nat.{_+_, _*_, _-_}
 use lib.ListN.{length, take, drop}
-use Rattle.scan.specs.Bytes.{cut}
+use Rattle.scan.specs.ByteLaws.{cut}
 use Rattle.semantics.specs.Facts as sem
 use Rattle.plan_codec.specs.Decode.{decode}
 use Rattle.facts.specs.Known.{Says}
 use Rattle.arena.specs.Arena.{slotSize, keptFrom, keptSize, slot}
 use Rattle.arena.specs.Keeping.{kept-long}
-use Rattle.settling.specs.Settling.{shown, over-kids, few-below, settled-with, inner-ready, inner-rows, inner-says, inner-wants}
-use Rattle.settling.specs.Settling.{inner-some}
+use Rattle.settling.specs.Settling.{shown, over-kids, few-below, settled-with, inner-ready, inner-rows, inner-says, inner-wants, inner-some}
 use Rattle.settling.proofs.settle_inner.Statement.{statement}
 use Rattle.settling.proofs.settle_inner.Tie as tie
 

@@ -10,13 +10,12 @@ use Rattle.record_fields.specs.Fields.{tailColumns}
 use Rattle.node_facts.specs.Ready.{count, lentKeys}
 use Prim.Native.Nat.{_+_, _*_, _≤_}
 use lib.ListN.{length, getD}
-use Rattle.scan.specs.Bytes.{cut}
+use Rattle.scan.specs.ByteLaws.{cut}
 use Rattle.semantics.specs.Facts as sem
 use Rattle.facts.specs.Known.{Says}
 use Rattle.arena.specs.Arena.{slotSize, keptFrom, keptSize, slot}
 use Rattle.arena.specs.Keeping.{kept-long}
-use Rattle.settling.specs.Settling.{shown, over-kids, few-below, few-streams, settled-with, source-asks, source-fact, source-wants}
-use Rattle.settling.specs.Settling.{not-union}
+use Rattle.settling.specs.Settling.{shown, over-kids, few-below, few-streams, settled-with, source-asks, source-fact, source-wants, not-union}
 use Rattle.settling.proofs.settle_source.Statement.{statement}
 use Rattle.settling.proofs.settle_source.Tie as tie
 

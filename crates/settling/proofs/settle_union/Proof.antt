@@ -4,7 +4,7 @@ use mathlib.Core.Path.{ap, _∙_}
 use mathlib.Core.Bool.{true}
 use Prim.Native.Nat.{_+_, _*_}
 use lib.ListN.{length}
-use Rattle.scan.specs.Bytes.{cut}
+use Rattle.scan.specs.ByteLaws.{cut}
 use Rattle.arena.specs.Arena.{slotSize, keptFrom, keptSize, slot}
 use Rattle.arena.specs.Keeping.{kept-long}
 use Rattle.plan_context.specs.Nodes.{union-some, union-says}

@@ -7,7 +7,7 @@ use Rattle.call_parts.specs.Calls.{CalledAs}
 use Rattle.plan_calls.specs.Results.{resultOf}
 use Rattle.plan.specs.Numbers.{numberOf}
 use lib.ListN.{length}
-use Rattle.plan_roundtrip.specs.Back.{AllBytes}
+use Rattle.scan.specs.Bytes.{AllBytes}
 use Rattle.plan_arena.specs.ReadFile.{is-accepted}
 use Rattle.plan_calls.specs.Calling.{file-refused, file-loads, file-called}
 use Rattle.plan_calls.proofs.calls.call_in.Statement.{statement}

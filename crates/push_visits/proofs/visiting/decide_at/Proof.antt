@@ -13,6 +13,7 @@ use Rattle.sort_pushdown.specs.Decisions.{Decides, Visited, visitOf}
 use Rattle.push_visits.specs.Carried.{planAt}
 use Rattle.push_visits.specs.Visiting.{seen-at, visited-at, fetch-in}
 use Rattle.semantics.specs.Facts as sem
+use Rattle.walks.specs.SortPushdown.{childCount}
 use Rattle.walks.specs.PushdownSorts as walk
 use Rattle.push_visits.proofs.visiting.decide_at.Statement.{statement}
 use Rattle.push_visits.proofs.visiting.decide_at.Tie as tie
@@ -44,7 +45,7 @@ pushdown-sorts-helper-requires c κs = let s = c .before .before .before .before
 returns : tie.Need-returns
 returns c = let s = c .before .before .before .before .before .before .before in let a = s .args .a .now in let ua = s .args .ua in let h = s .args .h in
     let i = h / 2 in let g = s .pre .from in let z = s .pre .here in let l : i < ua = omega arith in let q = visitOf (s .args .v) in let c' = planAt a h in
-    subst (λ (x : List ℕ). SeenNode (decode x) (decode x) (sem.facts c') (walk.childCount c') (told (c .before .before .kept-at .result .now))
+    subst (λ (x : List ℕ). SeenNode (decode x) (decode x) (sem.facts c') (childCount c') (told (c .before .before .kept-at .result .now))
     (told (c .before .before .before .before .before .child-row .result .now)) (told (c .before .before .before .before .child-row2 .result .now))
     → c .before .fetch-at .result ≡ fetchOp (decode x) (fetches c') → Decides (decode x) c' (walk.pushdownSortsHelper q (decode x) c')
     (c .pushdown-sorts-helper .result)) (c .before .before .before .record-at .ensures)

@@ -29,7 +29,7 @@ use Rattle.arena.proofs.kept_at.Reads as kept-at-reads
 use Rattle.arena.proofs.record_at.Reads as record-at-reads
 use Rattle.push_visits.proofs.carrying.carry_out.Reads as carry-out-reads
 use Rattle.push_visits.proofs.visiting.decide_at.Reads as decide-at-reads
-use Rattle.push_visits.proofs.visiting.fetch_at.Reads as fetch-at-reads
+use Rattle.plan_context.proofs.kept.fetch_at.Reads as fetch-at-reads
 use Rattle.pushdown_sorts.proofs.walking.refused.Reads as refused-reads
 use Rattle.sort_pushdown.proofs.children.child_visit.Reads as child-visit-reads
 use Rattle.push_steps.proofs.step_at.Reads as step-at-reads

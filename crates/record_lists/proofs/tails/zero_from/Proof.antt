@@ -5,7 +5,8 @@ use mathlib.Core.Path.{sym, ap, ap₂, _∙_}
 use mathlib.Core.Bool.{_&&_}
 use lib.Dec.{eqb}
 use lib.ListN.{drop-of-length-le}
-use Rattle.scan.specs.Bytes.{zeros, cut-end}
+use Rattle.scan.specs.Bytes.{zeros}
+use Rattle.scan.specs.ByteLaws.{cut-end}
 use Rattle.record_lists.specs.Tails.{last-from}
 use Rattle.record_lists.proofs.tails.zero_from.Statement.{statement}
 use Rattle.record_lists.proofs.tails.zero_from.Tie as tie

@@ -4,7 +4,7 @@ use mathlib.Core.Path.{ap, ap₂, _∙_}
 use mathlib.Core.Bool.{Bool, _&&_, _||_, not}
 use lib.Dec.{eqb, leb, ltb}
 use lib.ListN.{getD}
-use Rattle.plan_format.specs.Record.{noFetch}
+use Rattle.plan.specs.Numbers.{noFetch}
 use Rattle.record_parts.specs.Kinds.{head-local-limit}
 use Rattle.record_parts.proofs.heads.local_limit.Statement.{statement}
 use Rattle.record_parts.proofs.heads.local_limit.Tie as tie

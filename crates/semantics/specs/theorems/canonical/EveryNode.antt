@@ -10,7 +10,8 @@ use lib.Dec.{eqb, ltb, leb}
 use lib.ListN.{length, getD}
 use Rattle.row_order.specs.Iso.{Key}
 use Rattle.row_order.specs.Order.{which}
-use Rattle.row_order.specs.Lists.{All, all-nil, all-cons, all-head, all-tail, all-map, tab, length-tab, getD-tab}
+use Rattle.row_order.specs.Lists.{All, all-nil, all-cons, tab}
+use Rattle.row_order.specs.ListLaws.{all-head, all-tail, all-map, length-tab, getD-tab}
 use Rattle.plan.specs.Forest.{none, tree}
 use Rattle.plan.specs.Op.{On, Op, source, filter, projection, union, repartition, coalesce, sortOp, mergeOp, globalLimit, localLimit, sortMergeJoin, hashJoin, outputRequirement, partialSort, aggregate, Plan}
 use Rattle.plan.specs.declared.JoinType.{JoinType}

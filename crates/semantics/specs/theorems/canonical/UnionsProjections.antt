@@ -10,7 +10,8 @@ use lib.Dec.{eqb, ltb}
 use lib.ListN.{length, getD, List·getD-eq-default}
 use Rattle.row_order.specs.Iso.{Key}
 use Rattle.row_order.specs.Order.{which, no-bool}
-use Rattle.row_order.specs.Lists.{All, all-nil, all-cons, all-head, all-map, tab, length-tab, getD-tab}
+use Rattle.row_order.specs.Lists.{All, all-nil, all-cons, tab}
+use Rattle.row_order.specs.ListLaws.{all-head, all-map, length-tab, getD-tab}
 use Rattle.row_order.specs.Packed.{bit}
 use Rattle.plan.specs.WellFormed.{width, member}
 use Rattle.semantics.specs.Facts.{Facts, cl, isC, withColumn, nf, eqKey, common, ordered, reorder, unknown, nothing, sourceFacts, lowest, both, unionFacts, carried, projOrder, projFacts}

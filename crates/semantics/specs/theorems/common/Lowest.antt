@@ -8,7 +8,8 @@ use borrow.Author.Tests.{ltb-true, ltb-false, leb-true, leb-false}
 use lib.Dec.{ltb, leb}
 use lib.ListN.{getD, List·getD-eq-default}
 use Rattle.row_order.specs.Order.{which}
-use Rattle.row_order.specs.Lists.{tab, length-tab, getD-tab, tab-at}
+use Rattle.row_order.specs.Lists.{tab}
+use Rattle.row_order.specs.ListLaws.{length-tab, getD-tab, tab-at}
 use Rattle.semantics.specs.Facts.{lowest}
 
 -- ---- the lowest

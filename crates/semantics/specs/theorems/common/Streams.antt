@@ -5,9 +5,9 @@ use mathlib.Core.List.{List, [], _∷_}
 use Prim.Native.Nat.{ℕ, zero, suc}
 use lib.ListN.{length, getD, take, drop}
 use Rattle.row_order.specs.Iso.{Row, Key}
-use Rattle.row_order.specs.Order.{le}
-use Rattle.row_order.specs.Lists.{concat, All, all-nil, all-cons, all-head, all-tail, all-map, all-zip, all-left, all-right, Pw, pw-nil, pw-cons, pw-head, pw-tail, pw-map, tab}
-use Rattle.row_order.specs.Sorting.{Rel, Sorted}
+use Rattle.row_order.specs.RowLists.{le, Rel, Sorted}
+use Rattle.row_order.specs.Lists.{concat, All, all-nil, all-cons, Pw, pw-nil, pw-cons, tab}
+use Rattle.row_order.specs.ListLaws.{all-head, all-tail, all-map, all-zip, all-left, all-right, pw-head, pw-tail, pw-map}
 use Rattle.semantics.specs.Joins.{keep}
 use Rattle.semantics.specs.Runs.{Streams, Each, each-nil, each-cons}
 

@@ -5,7 +5,8 @@ use mathlib.Core.List.{List, [], _∷_, _++_, map}
 use Prim.Native.Nat.{ℕ, _+_}
 use native.Mathlib.Omega.{arith}
 use Rattle.row_order.specs.Iso.{Row, Key}
-use Rattle.row_order.specs.Lists.{sum, concat, sum-append}
+use Rattle.row_order.specs.Lists.{sum, concat}
+use Rattle.row_order.specs.ListLaws.{sum-append}
 use Rattle.semantics.specs.Joins.{keep}
 use Rattle.semantics.specs.Runs.{Streams, Each, each-nil, each-cons, OneStream, SortOf}
 

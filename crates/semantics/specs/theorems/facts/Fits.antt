@@ -8,7 +8,8 @@ use borrow.Author.Tests.{ltb-true, lt-ltb}
 use lib.Dec.{eqb, ltb}
 use lib.ListN.{getD, length-map}
 use Rattle.row_order.specs.Iso.{Key}
-use Rattle.row_order.specs.Lists.{All, all-nil, all-cons, all-head, all-tail, all-map, all-over}
+use Rattle.row_order.specs.Lists.{All, all-nil, all-cons}
+use Rattle.row_order.specs.ListLaws.{all-head, all-tail, all-map, all-over}
 use Rattle.plan.specs.Forest.{none, tree}
 use Rattle.plan.specs.Op.{On, Op, source, filter, projection, union, repartition, coalesce, sortOp, mergeOp, globalLimit, localLimit, sortMergeJoin, hashJoin, outputRequirement, partialSort, aggregate, Plan}
 use Rattle.plan.specs.WellFormed.{joinWidth, width, widths, below, keysFit, columnsOk, nodesOk, columnsOf}

@@ -7,7 +7,8 @@ use native.Mathlib.Omega.{arith}
 use borrow.Author.Tests.{leb-true, eqb-true}
 use lib.Dec.{eqb}
 use lib.ListN.{length, getD}
-use Rattle.row_order.specs.Lists.{sum, All, all-nil, all-cons, all-head}
+use Rattle.row_order.specs.Lists.{sum, All, all-nil, all-cons}
+use Rattle.row_order.specs.ListLaws.{all-head}
 use Rattle.plan.specs.Forest.{none, tree, size}
 use Rattle.plan.specs.Op.{Op, source, filter, projection, union, repartition, coalesce, sortOp, mergeOp, globalLimit, localLimit, sortMergeJoin, hashJoin, outputRequirement, partialSort, aggregate, Plan}
 use Rattle.plan.specs.WellFormed.{fieldsOk, childrenOk, widths, nodesOk}

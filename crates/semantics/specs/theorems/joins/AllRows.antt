@@ -5,7 +5,8 @@ use mathlib.Core.List.{List, map}
 use Prim.Native.Nat.{ℕ}
 use native.Mathlib.Omega.{arith}
 use Rattle.row_order.specs.Iso.{Row}
-use Rattle.row_order.specs.Lists.{sum, concat, sum-append, Same, same-trans}
+use Rattle.row_order.specs.Lists.{sum, concat, Same}
+use Rattle.row_order.specs.ListLaws.{sum-append, same-trans}
 use Rattle.plan.specs.Op.{On}
 use Rattle.plan.specs.declared.JoinType.{JoinType}
 use Rattle.plan.specs.declared.JoinType.the-variants.{Inner, Left, Right, Full, LeftSemi, LeftAnti, RightSemi, RightAnti}

@@ -9,9 +9,10 @@ use lib.IntN.{ℤ, pos, negsuc}
 use lib.ListN.{List·getD-append}
 use lib.Seq.{getD-append-add}
 use Rattle.row_order.specs.Iso.{Cell, null, num, Row, Key, cell, eqℤ}
-use Rattle.row_order.specs.Order.{le, row-discrete, no-bool, le-refl}
-use Rattle.row_order.specs.Lists.{concat, All, all-nil, all-cons, all-head, all-tail, all-map, all-append, same-all, pw-nil, pw-cons, pw-head, pw-tail, all-concat, all-over, tab, length-tab, getD-tab}
-use Rattle.row_order.specs.Sorting.{Rel, Sorted}
+use Rattle.row_order.specs.RowLists.{le, row-discrete, Rel, Sorted}
+use Rattle.row_order.specs.Order.{no-bool, le-refl}
+use Rattle.row_order.specs.Lists.{concat, All, all-nil, all-cons, pw-nil, pw-cons, tab}
+use Rattle.row_order.specs.ListLaws.{all-head, all-tail, all-map, all-append, same-all, pw-head, pw-tail, all-concat, all-over, length-tab, getD-tab}
 use Rattle.semantics.specs.Joins.{keep, joinRow, eqCells, orElse, ifAny, Grouped, grouped-nil, grouped-cons}
 
 pub cell-left : (w : ℕ) (l r : Row) (c : ℕ) → c < w → cell (joinRow w l r) c ≡ cell l c

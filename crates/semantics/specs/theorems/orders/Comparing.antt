@@ -9,8 +9,10 @@ use borrow.Author.Tests.{ltb-true, eqb-true}
 use lib.Dec.{eqb, ltb}
 use lib.ListN.{length, getD}
 use Rattle.row_order.specs.Iso.{Cell, Row, Key, cell}
-use Rattle.row_order.specs.Order.{leCell, leK, le, no-bool, le-in, le-head, le-tail, le-skip, le-cons}
-use Rattle.row_order.specs.Lists.{All, all-nil, all-cons, all-head, all-tail}
+use Rattle.row_order.specs.Order.{leCell, leK, no-bool, le-in, le-head, le-tail, le-skip, le-cons}
+use Rattle.row_order.specs.RowLists.{le}
+use Rattle.row_order.specs.Lists.{All, all-nil, all-cons}
+use Rattle.row_order.specs.ListLaws.{all-head, all-tail}
 use Rattle.plan.specs.WellFormed.{member}
 use Rattle.semantics.specs.Facts.{Facts, cl, isC, withColumn, nf, eqKey, prefixb, common, met, carried, projOrder}
 use Rattle.semantics.specs.Runs.{proj}

@@ -4,7 +4,8 @@ use mathlib.Core.Bool.{Bool, true, false, cond, _||_}
 use mathlib.Core.List.{List·Memᴰ as Mem, List, [], _∷_}
 use Prim.Native.Nat.{ℕ}
 use Rattle.row_order.specs.Iso.{Key}
-use Rattle.row_order.specs.Lists.{All, all-nil, all-cons, tabulate}
+use Rattle.row_order.specs.Lists.{All, all-nil, all-cons}
+use Rattle.row_order.specs.ListLaws.{tabulate}
 use Rattle.plan.specs.WellFormed.{member}
 use Rattle.semantics.specs.Facts.{withColumn, nfBy}
 use Rattle.semantics.specs.Canonical.{Normal, n-nil, n-cons}

@@ -7,8 +7,10 @@ use native.Mathlib.Omega.{arith}
 use borrow.Author.Tests.{leb-true}
 use lib.ListN.{length, getD}
 use Rattle.row_order.specs.Iso.{null, Row, Key}
-use Rattle.row_order.specs.Lists.{sum, concat, sum-append, Same, same-refl, all-cons, pw-nil, mixes-sum, tab, length-tab}
-use Rattle.row_order.specs.Sorting.{Sorted, merges, merges-mixes, merges-sorted, sort, sort-same, sort-sorted}
+use Rattle.row_order.specs.Lists.{sum, concat, Same, all-cons, pw-nil, tab}
+use Rattle.row_order.specs.ListLaws.{sum-append, same-refl, mixes-sum, length-tab}
+use Rattle.row_order.specs.RowLists.{Sorted}
+use Rattle.row_order.specs.Sorting.{merges, merges-mixes, merges-sorted, sort, sort-same, sort-sorted}
 use Rattle.plan.specs.Forest.{Forest, none, tree, roots}
 use Rattle.plan.specs.Op.{On, Op, source, filter, projection, union, repartition, coalesce, sortOp, mergeOp, globalLimit, localLimit, sortMergeJoin, hashJoin, outputRequirement, partialSort, aggregate, Plan}
 use Rattle.plan.specs.WellFormed.{fieldsOk, nodesOk, wellFormed}

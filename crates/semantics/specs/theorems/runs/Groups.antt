@@ -10,7 +10,8 @@ use lib.IntN.{pos}
 use lib.ListN.{length}
 use Rattle.row_order.specs.Iso.{Cell, null, num, Row, Key, cell, peers}
 use Rattle.row_order.specs.Order.{leK, no-bool, peers-is, leK-anti, agree}
-use Rattle.row_order.specs.Lists.{All, all-nil, all-cons, all-map, Pw, pw-nil, pw-cons}
+use Rattle.row_order.specs.Lists.{All, all-nil, all-cons, Pw, pw-nil, pw-cons}
+use Rattle.row_order.specs.ListLaws.{all-map}
 use Rattle.plan.specs.Forest.{Forest, roots}
 use Rattle.plan.specs.Op.{aggregate}
 use Rattle.plan.specs.Samples.{by}

@@ -9,9 +9,9 @@ use Prim.Native.Nat.{ℕ, suc}
 use native.Mathlib.Omega.{arith}
 use lib.ListN.{length}
 use Rattle.row_order.specs.Iso.{Row, Key}
-use Rattle.row_order.specs.Order.{le, no-bool}
+use Rattle.row_order.specs.RowLists.{le, Sorted}
+use Rattle.row_order.specs.Order.{no-bool}
 use Rattle.row_order.specs.Lists.{concat, Same, All, all-nil, all-cons, pw-nil, pw-cons, mix-nil, mix-left, mix-right, Mixes, mixes-nil, mixes-cons, tab}
-use Rattle.row_order.specs.Sorting.{Sorted}
 use Rattle.plan.specs.Forest.{Forest, none, tree}
 use Rattle.plan.specs.Op.{On, Op, filter, union, repartition, coalesce, sortOp, mergeOp, globalLimit, sortMergeJoin, hashJoin, aggregate, Plan}
 use Rattle.plan.specs.Samples.{sourceOf}

@@ -9,18 +9,19 @@ use lib.Dec.{eqb}
 use lib.ListN.{getD, drop}
 use Rattle.row_order.specs.Iso.{Row, Key}
 use Rattle.row_order.specs.Order.{no-bool}
-use Rattle.row_order.specs.Lists.{sum, concat, sum-append, Same, same-refl, same-sym, same-trans, same-append, mixes-sum}
+use Rattle.row_order.specs.Lists.{sum, concat, Same}
+use Rattle.row_order.specs.ListLaws.{sum-append, same-refl, same-sym, same-trans, same-append, mixes-sum}
 use Rattle.plan.specs.Forest.{Forest, none, tree, roots}
 use Rattle.plan.specs.Op.{Op, source, filter, projection, union, repartition, coalesce, sortOp, mergeOp, globalLimit, localLimit, sortMergeJoin, hashJoin, outputRequirement, partialSort, aggregate, Plan}
 use Rattle.plan.specs.declared.Fetch.{Fetch}
 use Rattle.plan.specs.declared.Fetch.the-variants.{Unlimited, AtMost}
 use Rattle.semantics.specs.Facts.{Facts, facts}
-use Rattle.semantics.specs.Properties.{Cut, cuts}
+use Rattle.semantics.specs.Properties.{Cut, cuts, isAll, whole, isJoin, isAggregate, simpleOp}
 use Rattle.semantics.specs.Runs.{Streams, Env, nextS, nextF, past, Each, each-nil, each-cons, proj, Sorting, in0, Made, front, cutRows, Run, run-none, run-tree, AtSource, EachSource, SameSource, SameInputs}
 use Rattle.semantics.specs.theorems.common.Bools.{and-left, and-right}
 use Rattle.semantics.specs.theorems.common.Streams.{each-at}
 use Rattle.semantics.specs.theorems.common.Sums.{sum-concat-append, sum-map, sum-keep, sum-concat-map, sum-concat-keep, sum-sorts, sum-single, sum-ext}
-use Rattle.semantics.specs.Bags.{isAll, whole, isJoin, isAggregate, simpleOp, simplePlan, bagOp, bags, Fills, SameRows}
+use Rattle.semantics.specs.Bags.{simplePlan, bagOp, bags, Fills, SameRows}
 
 fills-concat : {css : List Streams} {bs : List (List Row)} → Each Fills css bs → Same (concat (concat css)) (concat bs)
 fills-concat each-nil = same-refl []

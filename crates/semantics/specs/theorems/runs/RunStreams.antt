@@ -6,7 +6,8 @@ use Prim.Native.Nat.{ℕ, suc, _+_}
 use native.Mathlib.Omega.{arith}
 use lib.ListN.{length, drop, length-append, length-map}
 use Rattle.row_order.specs.Iso.{Row, Key}
-use Rattle.row_order.specs.Lists.{concat, length-tab}
+use Rattle.row_order.specs.Lists.{concat}
+use Rattle.row_order.specs.ListLaws.{length-tab}
 use Rattle.plan.specs.Forest.{Forest, roots}
 use Rattle.plan.specs.Op.{Op, source, filter, projection, union, repartition, coalesce, sortOp, mergeOp, globalLimit, localLimit, sortMergeJoin, hashJoin, outputRequirement, partialSort, aggregate, Plan}
 use Rattle.semantics.specs.Facts.{Facts, nothing, unionFacts, sortStreams, byRight, at0, at1, factsOp, facts}

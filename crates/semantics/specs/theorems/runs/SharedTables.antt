@@ -13,9 +13,9 @@ use lib.IntN.{pos}
 use lib.Dec.{leb}
 use lib.ListN.{length}
 use Rattle.row_order.specs.Iso.{null, num, Row, Key}
-use Rattle.row_order.specs.Order.{row-discrete}
-use Rattle.row_order.specs.Lists.{concat, Same, same-mem, All, all-nil, all-cons, all-head, all-tail, tab}
-use Rattle.row_order.specs.Sorting.{Sorted}
+use Rattle.row_order.specs.RowLists.{row-discrete, Sorted}
+use Rattle.row_order.specs.Lists.{concat, Same, All, all-nil, all-cons, tab}
+use Rattle.row_order.specs.ListLaws.{same-mem, all-head, all-tail}
 use Rattle.plan.specs.Forest.{Forest, none, tree, roots}
 use Rattle.plan.specs.Op.{On, Op, repartition, sortMergeJoin, hashJoin, Plan}
 use Rattle.plan.specs.Samples.{up, by, sourceOf}

@@ -6,8 +6,9 @@ use Prim.Native.Nat.{ℕ, zero, suc, _+_}
 use native.Mathlib.Omega.{arith}
 use lib.ListN.{length, getD}
 use Rattle.row_order.specs.Iso.{Row, Key}
-use Rattle.row_order.specs.Lists.{sum, concat, sum-append, All, all-nil, all-cons, Mixes, mixes-sum, tab, length-tab}
-use Rattle.row_order.specs.Sorting.{Sorted}
+use Rattle.row_order.specs.Lists.{sum, concat, All, all-nil, all-cons, Mixes, tab}
+use Rattle.row_order.specs.ListLaws.{sum-append, mixes-sum, length-tab}
+use Rattle.row_order.specs.RowLists.{Sorted}
 use Rattle.semantics.specs.Runs.{Streams, Each, each-nil, each-cons, Split}
 use Rattle.semantics.specs.Sending.{sentTo, Sends}
 use Rattle.semantics.specs.theorems.common.Streams.{each-length}

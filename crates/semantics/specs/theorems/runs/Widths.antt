@@ -8,8 +8,9 @@ use borrow.Author.Tests.{eqb-true}
 use lib.Dec.{eqb}
 use lib.ListN.{length, getD, length-append, length-map}
 use Rattle.row_order.specs.Iso.{null, Row, Key, cell}
-use Rattle.row_order.specs.Order.{row-discrete}
-use Rattle.row_order.specs.Lists.{concat, All, all-nil, all-cons, all-append, all-map, all-over, all-concat, same-all, mixes-all, tab, length-tab}
+use Rattle.row_order.specs.RowLists.{row-discrete}
+use Rattle.row_order.specs.Lists.{concat, All, all-nil, all-cons, tab}
+use Rattle.row_order.specs.ListLaws.{all-append, all-map, all-over, all-concat, same-all, mixes-all, length-tab}
 use Rattle.plan.specs.Forest.{Forest, roots}
 use Rattle.plan.specs.Op.{On, Op, source, filter, projection, union, repartition, coalesce, sortOp, mergeOp, globalLimit, localLimit, sortMergeJoin, hashJoin, outputRequirement, partialSort, aggregate, Plan}
 use Rattle.plan.specs.WellFormed.{every, joinWidth, width, widths, unionOk, nodesOk, columnsOf}

@@ -11,9 +11,10 @@ use lib.IntN.{ℤ, pos, negsuc}
 use lib.Dec.{ltb}
 use lib.ListN.{length, getD}
 use Rattle.row_order.specs.Iso.{Cell, null, num, Row, Key, cell}
-use Rattle.row_order.specs.Order.{leCell, leK, le, no-bool, le-in, le-skip, leK-anti}
-use Rattle.row_order.specs.Lists.{concat, All, all-nil, all-map, tabulate, lookup, all-concat, Pw, tab, length-tab, getD-tab}
-use Rattle.row_order.specs.Sorting.{Sorted}
+use Rattle.row_order.specs.Order.{leCell, leK, no-bool, le-in, le-skip, leK-anti}
+use Rattle.row_order.specs.RowLists.{le, Sorted}
+use Rattle.row_order.specs.Lists.{concat, All, all-nil, Pw, tab}
+use Rattle.row_order.specs.ListLaws.{all-map, tabulate, lookup, all-concat, length-tab, getD-tab}
 use Rattle.row_order.specs.Forms.{Ordered, ordered-sorted, sorted-ordered, at-pw}
 use Rattle.row_order.specs.Packed.{bit}
 use Rattle.plan.specs.Forest.{none, tree}

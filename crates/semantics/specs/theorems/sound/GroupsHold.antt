@@ -6,9 +6,9 @@ use mathlib.Core.List.{List, [], _∷_, _++_}
 use Prim.Native.Nat.{ℕ, _≤_}
 use lib.ListN.{length, getD}
 use Rattle.row_order.specs.Iso.{Cell, Row, Key, cell}
-use Rattle.row_order.specs.Order.{le}
-use Rattle.row_order.specs.Lists.{All, all-nil, all-cons, all-zip, Pw, pw-nil, pw-cons, pw-map, tab}
-use Rattle.row_order.specs.Sorting.{Sorted}
+use Rattle.row_order.specs.RowLists.{le, Sorted}
+use Rattle.row_order.specs.Lists.{All, all-nil, all-cons, Pw, pw-nil, pw-cons, tab}
+use Rattle.row_order.specs.ListLaws.{all-zip, pw-map}
 use Rattle.plan.specs.WellFormed.{columnsOf}
 use Rattle.semantics.specs.Facts.{Facts, cl, projOrder, projFacts, placed}
 use Rattle.semantics.specs.Joins.{joinRow}

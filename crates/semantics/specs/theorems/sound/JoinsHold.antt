@@ -8,9 +8,10 @@ use native.Mathlib.Omega.{arith}
 use borrow.Author.Tests.{ltb-true, ltb-false, leb-true, eqb-true}
 use lib.Dec.{eqb, ltb, leb}
 use Rattle.row_order.specs.Iso.{Cell, null, Row, Key, cell}
-use Rattle.row_order.specs.Order.{leCell, le, row-discrete, no-bool, le-in, le-head, le-tail}
-use Rattle.row_order.specs.Lists.{All, all-nil, all-cons, all-zip, same-all, all-over, tab-true, tab-at}
-use Rattle.row_order.specs.Sorting.{Sorted}
+use Rattle.row_order.specs.Order.{leCell, no-bool, le-in, le-head, le-tail}
+use Rattle.row_order.specs.RowLists.{le, row-discrete, Sorted}
+use Rattle.row_order.specs.Lists.{All, all-nil, all-cons}
+use Rattle.row_order.specs.ListLaws.{all-zip, same-all, all-over, tab-true, tab-at}
 use Rattle.plan.specs.Op.{On}
 use Rattle.plan.specs.declared.JoinType.{JoinType}
 use Rattle.plan.specs.declared.JoinType.the-variants.{Inner, Left, Right, Full, LeftSemi, LeftAnti, RightSemi, RightAnti}

@@ -9,9 +9,10 @@ use borrow.Author.Tests.{eqb-true, eq-eqb}
 use lib.Dec.{eqb}
 use lib.ListN.{length, getD, length-append, length-map}
 use Rattle.row_order.specs.Iso.{Cell, null, Row, Key, cell}
-use Rattle.row_order.specs.Order.{row-discrete, no-bool}
-use Rattle.row_order.specs.Lists.{concat, All, all-nil, all-cons, all-head, all-tail, all-map, all-zip, all-append, same-all, Pw, pw-map, all-concat, all-over, pw-over, Mix, mix-nil, mix-left, Mixes, mixes-nil, mixes-cons, mixes-all, tab, tab-true, tab-at}
-use Rattle.row_order.specs.Sorting.{Sorted}
+use Rattle.row_order.specs.RowLists.{row-discrete, Sorted}
+use Rattle.row_order.specs.Order.{no-bool}
+use Rattle.row_order.specs.Lists.{concat, All, all-nil, all-cons, Pw, Mix, mix-nil, mix-left, Mixes, mixes-nil, mixes-cons, tab}
+use Rattle.row_order.specs.ListLaws.{all-head, all-tail, all-map, all-zip, all-append, same-all, pw-map, all-concat, all-over, pw-over, mixes-all, tab-true, tab-at}
 use Rattle.plan.specs.declared.Fetch.{Fetch}
 use Rattle.plan.specs.declared.Fetch.the-variants.{Unlimited, AtMost}
 use Rattle.semantics.specs.Facts.{Facts, cl, isC, nf, common, met, ordered, lowest, both, unionFacts, projFacts, sortStreams}

@@ -10,8 +10,9 @@ use lib.IntN.{pos}
 use lib.ListN.{length}
 use Rattle.row_order.specs.Iso.{null, num, Row, cell, equal}
 use Rattle.row_order.specs.Order.{no-bool}
-use Rattle.row_order.specs.Lists.{same-refl, All, all-nil, all-cons, pw-nil, pw-cons, mix-nil, mix-left, mix-right, mixes-nil, mixes-cons}
-use Rattle.row_order.specs.Sorting.{Sorted}
+use Rattle.row_order.specs.ListLaws.{same-refl}
+use Rattle.row_order.specs.Lists.{All, all-nil, all-cons, pw-nil, pw-cons, mix-nil, mix-left, mix-right, mixes-nil, mixes-cons}
+use Rattle.row_order.specs.RowLists.{Sorted}
 use Rattle.row_order.specs.Packed.{bit}
 use Rattle.plan.specs.Forest.{Forest, none, tree}
 use Rattle.plan.specs.Op.{filter, repartition, sortOp, mergeOp, sortMergeJoin, outputRequirement, Plan}

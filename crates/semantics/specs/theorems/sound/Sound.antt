@@ -7,8 +7,9 @@ use Prim.Native.Nat.{ℕ, suc, _≤_}
 use lib.Dec.{eqb}
 use lib.ListN.{length, getD, drop, length-map}
 use Rattle.row_order.specs.Iso.{Cell, null, Row, cell}
-use Rattle.row_order.specs.Lists.{concat, All, all-nil, all-cons, all-head, all-tail, all-map, pw-nil, all-concat, all-over, mixes-all, tab, length-tab, tab-true}
-use Rattle.row_order.specs.Sorting.{Sorted}
+use Rattle.row_order.specs.Lists.{concat, All, all-nil, all-cons, pw-nil, tab}
+use Rattle.row_order.specs.ListLaws.{all-head, all-tail, all-map, all-concat, all-over, mixes-all, length-tab, tab-true}
+use Rattle.row_order.specs.RowLists.{Sorted}
 use Rattle.row_order.specs.Packed.{bit}
 use Rattle.plan.specs.Forest.{Forest, roots}
 use Rattle.plan.specs.Op.{On, Op, source, filter, projection, union, repartition, coalesce, sortOp, mergeOp, globalLimit, localLimit, sortMergeJoin, hashJoin, outputRequirement, partialSort, aggregate, Plan}

@@ -12,7 +12,7 @@ use Rattle.push_requirements.specs.declared.Pushed.{Pushed}
 use Rattle.push_requirements.specs.declared.Pushed.the-variants.{Stop}
 use Rattle.push_requirements.specs.Pushing.{HandsOn}
 use Rattle.walks.specs.Utils.{needsMerge, sortAboveWithDistribution}
-use Rattle.walks.specs.SortPushdown.{minFetch, pushdownRequirementToChildren}
+use Rattle.walks.specs.SortPushdown.{childCount, effectiveDist, minFetch, pushdownRequirementToChildren}
 use Rattle.sort_pushdown.specs.Decisions.{Decides, visitOf}
 use Rattle.sort_pushdown.specs.Deciding.{wanted-going, if-so, if-not, requirement-is, requirement-few, requirement-some, requirement-none, facts-like, count-like, wanted-like}
 use Rattle.sort_pushdown.specs.Merging.{try-goes, try-stop, visited-asked, pushed-down, node-met, node-tried}
@@ -56,10 +56,10 @@ returns-2 c = let s = c .before .before .before .before .before .before .before 
     (requirement-is (s .args .v .req .order) _ (s .pre .real) (c .before .before .before .before .before .before .requirement .given .1))
     (requirement-some (s .args .v .req .order) _ (s .pre .real) (c .before .before .before .before .before .before .requirement .given .1)) _
     (c .before .before .before .before .meets .result) (c .before .before .before .before .meets .ensures) (c .before .before .before .if1 .taken)
-    (c .handed-on .ensures pl o L R (wanted o) z (wanted-going o _ _ (walk.childCount pl) (count-like n o (sem.facts pl) (walk.childCount pl) F L R z)
-    (subst (λ (l : List Key). Ordered l (c .before .before .wanted-order .result)) (wanted-like n o (sem.facts pl) (walk.childCount pl) F L R z 0)
+    (c .handed-on .ensures pl o L R (wanted o) z (wanted-going o _ _ (childCount pl) (count-like n o (sem.facts pl) (childCount pl) F L R z)
+    (subst (λ (l : List Key). Ordered l (c .before .before .wanted-order .result)) (wanted-like n o (sem.facts pl) (childCount pl) F L R z 0)
     (c .before .before .wanted-order .ensures))
-    (subst (λ (l : List Key). Ordered l (c .before .wanted-order2 .result)) (wanted-like n o (sem.facts pl) (walk.childCount pl) F L R z 1)
+    (subst (λ (l : List Key). Ordered l (c .before .wanted-order2 .result)) (wanted-like n o (sem.facts pl) (childCount pl) F L R z 1)
     (c .before .wanted-order2 .ensures))))
 
 pushdown-requirement-to-children-requires : tie.Need-pushdown-requirement-to-children-requires
@@ -92,11 +92,11 @@ returns-3 c = let s = c .before .before .before .before .before .before .before 
     (c .before .before .before .before .before .before .before .before .before .requirement .given .0 .0)
     (requirement-is (s .args .v .req .order) _ (s .pre .real)
     (c .before .before .before .before .before .before .before .before .before .requirement .given .1)) _
-    (subst (λ (x : Pushed). HandsOn (walk.childCount pl) (pushdownRequirementToChildren o (s .args .limit) (walk.childCount pl) (sem.facts pl)
+    (subst (λ (x : Pushed). HandsOn (childCount pl) (pushdownRequirementToChildren o (s .args .limit) (childCount pl) (sem.facts pl)
     (keysOf (c .before .before .before .before .before .before .before .before .before .requirement .given .0 .0)) (q .req .fetch)) x)
     (c .before .before .before .p .given .1) (c .before .before .before .before .before .pushdown-requirement-to-children .ensures o (sem.facts pl)
-    (fetches pl) (walk.childCount pl) z e)))
-    (λ ks k. subst (λ (f : Fetch). Decides o pl (walk.stays o (walk.handDown ks f (walk.effectiveDist (sem.factsOp o (sem.facts pl)) (q .req .dist)) o))
+    (fetches pl) (childCount pl) z e)))
+    (λ ks k. subst (λ (f : Fetch). Decides o pl (walk.stays o (walk.handDown ks f (effectiveDist (sem.factsOp o (sem.facts pl)) (q .req .dist)) o))
     (c .handed-on2 .result)) (c .before .min-fetch .ensures ∙ ap (λ (g : Fetch). minFetch g (q .req .fetch)) e)
     (c .handed-on2 .ensures pl o L R ks z k)))
 
@@ -127,13 +127,13 @@ returns-4 c = let s = c .before .before .before .before .before .before .before 
     (c .before .before .before .before .before .before .before .before .before .requirement .given .0 .0)
     (requirement-is (s .args .v .req .order) _ (s .pre .real)
     (c .before .before .before .before .before .before .before .before .before .requirement .given .1)) Stop
-    (subst (λ (x : Pushed). HandsOn (walk.childCount pl) (pushdownRequirementToChildren o (s .args .limit) (walk.childCount pl) (sem.facts pl)
+    (subst (λ (x : Pushed). HandsOn (childCount pl) (pushdownRequirementToChildren o (s .args .limit) (childCount pl) (sem.facts pl)
     (keysOf (c .before .before .before .before .before .before .before .before .before .requirement .given .0 .0)) (q .req .fetch)) x)
     (c .before .before .before .enum-told2 .given .1) (c .before .before .before .before .before .pushdown-requirement-to-children .ensures o
-    (sem.facts pl) (fetches pl) (walk.childCount pl) z e)))
+    (sem.facts pl) (fetches pl) (childCount pl) z e)))
     (if-so o pl _ _ (needsMerge (sem.factsOp o (sem.facts pl)) (q .req .dist)) _
     (sym (c .before .before .needs-merge .ensures ∙ ap (λ (G : sem.Facts). needsMerge G (q .req .dist))
-    (facts-like n o (sem.facts pl) (walk.childCount pl) F L R z)) ∙ c .before .if2 .taken)
+    (facts-like n o (sem.facts pl) (childCount pl) F L R z)) ∙ c .before .if2 .taken)
     (c .merge-added .ensures pl o q z e
     (requirement-is (s .args .v .req .order) _ (s .pre .real)
     (c .before .before .before .before .before .before .before .before .before .requirement .given .1)) refl)))
@@ -163,13 +163,13 @@ returns-5 c = let s = c .before .before .before .before .before .before .before 
     (c .before .before .before .before .before .before .before .before .before .requirement .given .0 .0)
     (requirement-is (s .args .v .req .order) _ (s .pre .real)
     (c .before .before .before .before .before .before .before .before .before .requirement .given .1)) Stop
-    (subst (λ (x : Pushed). HandsOn (walk.childCount pl) (pushdownRequirementToChildren o (s .args .limit) (walk.childCount pl) (sem.facts pl)
+    (subst (λ (x : Pushed). HandsOn (childCount pl) (pushdownRequirementToChildren o (s .args .limit) (childCount pl) (sem.facts pl)
     (keysOf (c .before .before .before .before .before .before .before .before .before .requirement .given .0 .0)) (q .req .fetch)) x)
     (c .before .before .before .enum-told2 .given .1) (c .before .before .before .before .before .pushdown-requirement-to-children .ensures o
-    (sem.facts pl) (fetches pl) (walk.childCount pl) z e)))
+    (sem.facts pl) (fetches pl) (childCount pl) z e)))
     (if-not o pl _ _ (needsMerge (sem.factsOp o (sem.facts pl)) (q .req .dist)) _
     (sym (c .before .before .needs-merge .ensures ∙ ap (λ (G : sem.Facts). needsMerge G (q .req .dist))
-    (facts-like n o (sem.facts pl) (walk.childCount pl) F L R z)) ∙ c .before .if2 .left)
+    (facts-like n o (sem.facts pl) (childCount pl) F L R z)) ∙ c .before .if2 .left)
     (subst (λ (l : List Key). Decides o pl (walk.covered (sortAboveWithDistribution (sem.factsOp o (sem.facts pl)) l (q .req .fetch) (q .req .dist)) 0 o
     (walk.withOwnDistribution o)) (c .sort-added .result))
     (requirement-is (s .args .v .req .order) _ (s .pre .real)

@@ -10,6 +10,7 @@ use Rattle.asked_facts.specs.Asked.{told}
 use Rattle.sort_pushdown.specs.Decisions.{Asks}
 use Rattle.sort_pushdown.specs.Deciding.{stay-by, facts-like, handed-like}
 use Rattle.semantics.specs.Facts as sem
+use Rattle.walks.specs.SortPushdown.{childCount, effectiveDist}
 use Rattle.walks.specs.PushdownSorts as walk
 use Rattle.sort_pushdown.proofs.deciding.handed_on.Statement.{statement}
 use Rattle.sort_pushdown.proofs.deciding.handed_on.Tie as tie
@@ -29,12 +30,12 @@ stays-requires c κs = search needs
 returns : tie.Need-returns
 returns c = let s = c .before .before .before .before .before .before in let n = decode (s .args .r .now) in
     λ pl o L R ks z h. let F = told (s .args .own .now) in let d = s .args .d in
-    stay-by o pl [] o (λ i. walk.handDown ks (s .args .fetch) (walk.effectiveDist (sem.factsOp o (sem.facts pl)) d) o i .req) 0 false false
+    stay-by o pl [] o (λ i. walk.handDown ks (s .args .fetch) (effectiveDist (sem.factsOp o (sem.facts pl)) d) o i .req) 0 false false
     (c .before .no-nodes .result) (c .before .before .hand-down .result) (c .stays .result) (c .stays .ensures) (c .before .no-nodes .ensures) refl refl
-    (handed-like n o (sem.facts pl) (walk.childCount pl) F L R z (fetches pl) ks (s .args .fetch) (walk.effectiveDist (sem.factsOp o (sem.facts pl)) d) _
-    (subst (λ (e : Distribution). Asks (walk.childCount pl) (fetches pl) (λ i. walk.handDown ks (s .args .fetch) e n i .req)
-    (c .before .before .hand-down .result)) (c .before .before .before .effective-distribution .ensures ∙ ap (λ (G : sem.Facts). walk.effectiveDist G d)
-    (facts-like n o (sem.facts pl) (walk.childCount pl) F L R z)) (c .before .before .hand-down .ensures (walk.childCount pl) (fetches pl) ks h)))
+    (handed-like n o (sem.facts pl) (childCount pl) F L R z (fetches pl) ks (s .args .fetch) (effectiveDist (sem.factsOp o (sem.facts pl)) d) _
+    (subst (λ (e : Distribution). Asks (childCount pl) (fetches pl) (λ i. walk.handDown ks (s .args .fetch) e n i .req)
+    (c .before .before .hand-down .result)) (c .before .before .before .effective-distribution .ensures ∙ ap (λ (G : sem.Facts). effectiveDist G d)
+    (facts-like n o (sem.facts pl) (childCount pl) F L R z)) (c .before .before .hand-down .ensures (childCount pl) (fetches pl) ks h)))
 
 pub handed-on-spec : {M : Type 1} → statement M
 handed-on-spec =

@@ -8,7 +8,7 @@ use Rattle.asked_facts.specs.Asked.{told}
 use Rattle.push_requirements.specs.declared.Pushed.{Pushed}
 use Rattle.push_requirements.specs.Pushing.{HandsOn}
 use Rattle.sort_pushdown.specs.Merging.{asked-again, seen₁, limit₁, merge-goes, merge-stop}
-use Rattle.walks.specs.SortPushdown.{pushdownRequirementToChildren}
+use Rattle.walks.specs.SortPushdown.{childCount, pushdownRequirementToChildren}
 use Rattle.semantics.specs.Facts as sem
 use Rattle.walks.specs.PushdownSorts as walk
 use Rattle.sort_pushdown.proofs.deciding.merge_added.Statement.{statement}
@@ -50,11 +50,11 @@ returns c = let s = c .before .before .before .before .before .before .before .b
     (c .before .before .before .before .before .before .before .before .before .fresh-keys .ensures)
     (c .before .before .before .before .before .before .before .before .normal-form .ensures) (c .before .merge-only .result)
     (c .before .before .hand-down .result) (c .stays .result) _ _
-    (subst (λ (x : Pushed). HandsOn (walk.childCount pl) (pushdownRequirementToChildren (rebuilt o (sem.facts pl)) (s .args .limit) (walk.childCount pl)
+    (subst (λ (x : Pushed). HandsOn (childCount pl) (pushdownRequirementToChildren (rebuilt o (sem.facts pl)) (s .args .limit) (childCount pl)
     (sem.facts pl) (keysOf (c .before .before .before .before .before .before .before .before .normal-form .result)) (s .args .fetch)) x)
     (c .before .before .before .before .before .p .given .1)
     (c .before .before .before .before .before .before .before .pushdown-requirement-to-children .ensures (rebuilt o (sem.facts pl)) (sem.facts pl)
-    (fetches pl) (walk.childCount pl) (seen₁ pl n o q F L R z (s .args .limit) (s .args .fetch) (s .args .order)
+    (fetches pl) (childCount pl) (seen₁ pl n o q F L R z (s .args .limit) (s .args .fetch) (s .args .order)
     (c .before .before .before .before .before .before .before .before .before .fresh-keys .result)
     (c .before .before .before .before .before .before .before .before .normal-form .result) e eo ef
     (c .before .before .before .before .before .before .before .before .before .fresh-keys .ensures)
@@ -65,7 +65,7 @@ returns c = let s = c .before .before .before .before .before .before .before .b
     (c .before .before .before .before .before .before .before .before .before .fresh-keys .ensures)
     (c .before .before .before .before .before .before .before .before .normal-form .ensures)))) (c .before .before .before .min-fetch .result)
     (c .before .before .before .min-fetch .ensures) (c .stays .ensures) (c .before .merge-only .ensures)
-    (λ ks k. c .before .before .hand-down .ensures (walk.childCount pl) (fetches pl) ks k)
+    (λ ks k. c .before .before .hand-down .ensures (childCount pl) (fetches pl) ks k)
 
 enum-told : tie.Need-enum-told
 enum-told c = search needs
@@ -89,10 +89,10 @@ returns-2 c = let s = c .before .before .before .before .before .before .before 
     (c .before .before .before .before .before .before .before .fresh-keys .ensures)
     (c .before .before .before .before .before .before .normal-form .ensures) (c .before .before .merge-and-sort .result)
     (c .before .with-own-distribution .result) (c .stays2 .result)
-    (subst (λ (x : Pushed). HandsOn (walk.childCount pl) (pushdownRequirementToChildren (rebuilt o (sem.facts pl)) (s .args .limit) (walk.childCount pl)
+    (subst (λ (x : Pushed). HandsOn (childCount pl) (pushdownRequirementToChildren (rebuilt o (sem.facts pl)) (s .args .limit) (childCount pl)
     (sem.facts pl) (keysOf (c .before .before .before .before .before .before .normal-form .result)) (s .args .fetch)) x)
     (c .before .before .before .enum-told .given .1) (c .before .before .before .before .before .pushdown-requirement-to-children .ensures
-    (rebuilt o (sem.facts pl)) (sem.facts pl) (fetches pl) (walk.childCount pl)
+    (rebuilt o (sem.facts pl)) (sem.facts pl) (fetches pl) (childCount pl)
     (seen₁ pl n o q F L R z (s .args .limit) (s .args .fetch) (s .args .order)
     (c .before .before .before .before .before .before .before .fresh-keys .result)
     (c .before .before .before .before .before .before .normal-form .result) e eo ef
@@ -103,7 +103,7 @@ returns-2 c = let s = c .before .before .before .before .before .before .before 
     (c .before .before .before .before .before .before .normal-form .result) e eo ef
     (c .before .before .before .before .before .before .before .fresh-keys .ensures)
     (c .before .before .before .before .before .before .normal-form .ensures)))) (c .stays2 .ensures) (c .before .before .merge-and-sort .ensures)
-    (c .before .with-own-distribution .ensures (walk.childCount pl) (fetches pl))
+    (c .before .with-own-distribution .ensures (childCount pl) (fetches pl))
 
 pub merge-added-spec : {M : Type 1} → statement M
 merge-added-spec =

@@ -9,6 +9,7 @@ use Rattle.record_fields.specs.Kinds.{op-of, code-kind}
 use Rattle.sort_pushdown.specs.Decisions.{visitOf}
 use Rattle.sort_pushdown.specs.Merging.{seen-again, helper-touched, helper-node, helper-sort, sort-one, limit-again}
 use Rattle.semantics.specs.Facts as sem
+use Rattle.walks.specs.SortPushdown.{childCount}
 use Rattle.walks.specs.PushdownSorts as walk
 use Rattle.sort_pushdown.proofs.deciding.pushdown_sorts_helper.Statement.{statement}
 use Rattle.sort_pushdown.proofs.deciding.pushdown_sorts_helper.Tie as tie
@@ -23,7 +24,7 @@ returns : tie.Need-returns
 returns c = let s = c .before .before .before .before .before .before .before in let r = s .args .r .now in let n = decode r in
     let F = told (s .args .own .now) in let L = told (s .args .a .now) in let q = visitOf (s .args .v) in
     λ pl z e. let x = op-of r Sort (code-kind r Sort (sym (c .before .before .is-sort .ensures) ∙ c .before .if1 .taken)) in
-    helper-sort n q pl (c .decide-sort .result) _ _ _ x F L (z .facts) (z .first (sort-one n _ _ _ (walk.childCount pl) x (z .count)))
+    helper-sort n q pl (c .decide-sort .result) _ _ _ x F L (z .facts) (z .first (sort-one n _ _ _ (childCount pl) x (z .count)))
     (c .decide-sort .ensures _ _ _ pl x)
 
 decide-node-requires : tie.Need-decide-node-requires
@@ -37,7 +38,7 @@ returns-2 c = let s = c .before .before .before .before .before .before .before 
     let F = told (s .args .own .now) in let L = told (s .args .a .now) in let R = told (s .args .b .now) in let q = visitOf (s .args .v) in
     λ pl z e. helper-touched n q pl _ (sym (c .before .before .before .before .is-sort .ensures) ∙ c .before .before .before .if1 .left)
     (c .before .if2 .taken) (c .before .before .decide-node .result) (c .touched .ensures)
-    (c .before .before .decide-node .ensures pl (rebuilt n (sem.facts pl)) (seen-again n n (sem.facts pl) (walk.childCount pl) F L R z)
+    (c .before .before .decide-node .ensures pl (rebuilt n (sem.facts pl)) (seen-again n n (sem.facts pl) (childCount pl) F L R z)
     (limit-again n pl _ e))
 
 returns-3 : tie.Need-returns-3

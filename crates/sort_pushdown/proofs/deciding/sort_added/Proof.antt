@@ -10,6 +10,7 @@ use Rattle.walks.specs.Utils.{sortAboveWithDistribution}
 use Rattle.sort_pushdown.specs.Decisions.{Adds}
 use Rattle.sort_pushdown.specs.Deciding.{stay-by, facts-like, own-like}
 use Rattle.semantics.specs.Facts as sem
+use Rattle.walks.specs.SortPushdown.{childCount}
 use Rattle.walks.specs.PushdownSorts as walk
 use Rattle.sort_pushdown.proofs.deciding.sort_added.Statement.{statement}
 use Rattle.sort_pushdown.proofs.deciding.sort_added.Tie as tie
@@ -28,9 +29,9 @@ returns c = let s = c .before .before .before .before .before in let n = decode 
     stay-by o pl _ o (λ i. walk.withOwnDistribution o i .req) 0 false false (c .before .before .sort-above-with-distribution .result)
     (c .before .with-own-distribution .result) (c .stays .result) (c .stays .ensures)
     (subst (λ (G : sem.Facts). Adds (sortAboveWithDistribution G (keysOf (s .args .order)) (s .args .fetch) (s .args .d))
-    (c .before .before .sort-above-with-distribution .result)) (facts-like n o (sem.facts pl) (walk.childCount pl) F L R z)
+    (c .before .before .sort-above-with-distribution .result)) (facts-like n o (sem.facts pl) (childCount pl) F L R z)
     (c .before .before .sort-above-with-distribution .ensures)) refl refl
-    (own-like n o (sem.facts pl) (walk.childCount pl) F L R z (fetches pl) _ (c .before .with-own-distribution .ensures (walk.childCount pl) (fetches pl)))
+    (own-like n o (sem.facts pl) (childCount pl) F L R z (fetches pl) _ (c .before .with-own-distribution .ensures (childCount pl) (fetches pl)))
 
 pub sort-added-spec : {M : Type 1} → statement M
 sort-added-spec =

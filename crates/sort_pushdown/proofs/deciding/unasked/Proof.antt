@@ -8,6 +8,7 @@ use Rattle.semantics.specs.Properties.{fetches}
 use Rattle.sort_pushdown.specs.Decisions.{Decides}
 use Rattle.sort_pushdown.specs.Deciding.{stay-by, own-like, initial-like}
 use Rattle.semantics.specs.Facts as sem
+use Rattle.walks.specs.SortPushdown.{childCount}
 use Rattle.walks.specs.PushdownSorts as walk
 use Rattle.sort_pushdown.proofs.deciding.unasked.Statement.{statement}
 use Rattle.sort_pushdown.proofs.deciding.unasked.Tie as tie
@@ -27,7 +28,7 @@ returns c = let s = c .before .before .before .before .before in let n = decode 
     (c .stays .result)) (c .before .before .before .if1 .taken) (stay-by o pl [] o (λ i. walk.assignInitialRequirements o pl i .req) 0 false false
     (c .before .before .no-nodes .result) (c .before .assign-initial-requirements .result) (c .stays .result) (c .stays .ensures)
     (c .before .before .no-nodes .ensures) refl refl
-    (initial-like n o (sem.facts pl) (walk.childCount pl) F L R z pl _ (c .before .assign-initial-requirements .ensures pl (z .count))))
+    (initial-like n o (sem.facts pl) (childCount pl) F L R z pl _ (c .before .assign-initial-requirements .ensures pl (z .count))))
 
 no-nodes-requires-2 : tie.Need-no-nodes-requires-2
 no-nodes-requires-2 c κs = search needs
@@ -43,8 +44,8 @@ returns-2 c = let s = c .before .before .before .before .before in let n = decod
     λ pl o F L R z. subst⁻¹ (λ (b : Bool). Decides o pl (walk.stays o (cond b (walk.assignInitialRequirements o pl) (walk.withOwnDistribution o)))
     (c .stays2 .result)) (c .before .before .before .if1 .left) (stay-by o pl [] o (λ i. walk.withOwnDistribution o i .req) 0 false false
     (c .before .before .no-nodes2 .result) (c .before .with-own-distribution .result) (c .stays2 .result) (c .stays2 .ensures)
-    (c .before .before .no-nodes2 .ensures) refl refl (own-like n o (sem.facts pl) (walk.childCount pl) F L R z (fetches pl) _
-    (c .before .with-own-distribution .ensures (walk.childCount pl) (fetches pl))))
+    (c .before .before .no-nodes2 .ensures) refl refl (own-like n o (sem.facts pl) (childCount pl) F L R z (fetches pl) _
+    (c .before .with-own-distribution .ensures (childCount pl) (fetches pl))))
 
 pub unasked-spec : {M : Type 1} → statement M
 unasked-spec =

@@ -26,8 +26,9 @@ returns-2 c = let s = c .before .before .before .before .before .before in
 known-order-requires : tie.Need-known-order-requires
 known-order-requires c κs = search needs
 
-plan-fetch-requires : tie.Need-plan-fetch-requires
-plan-fetch-requires c κs = search needs
+fetch-at-requires : tie.Need-fetch-at-requires
+fetch-at-requires c κs = let s = c .before .before .before .before .before .before .before .before in
+    is-here (s .args .m .now) (s .args .u) (s .args .h) (whole (s .args .m .now) (s .args .u) (s .args .h) (s .args .single) (s .pre))
 
 single-stream-record-requires : tie.Need-single-stream-record-requires
 single-stream-record-requires c κs = c .before .before .known-order .ensures .real
@@ -50,7 +51,7 @@ put-over-requires c κs = let s = c .before .before .before .before .before .bef
     (c .before .before .before .before .before .before .before .before .before .before .several-streams .ensures)
     (not-false _ (c .before .before .before .before .before .before .before .before .before .if2 .left)) _
     (c .before .before .before .before .before .before .before .before .known-order .ensures) _
-    (c .before .before .before .before .before .before .plan-fetch .ensures) _ (c .before .before .before .before .before .single-stream-record .ensures) _
+    (c .before .before .before .before .before .before .fetch-at .ensures) _ (c .before .before .before .before .before .single-stream-record .ensures) _
     (c .before .before .before .is-connected .ensures) _ (c .before .before .set-mark .ensures)
 
 same-length-2 : tie.Need-same-length-2
@@ -64,7 +65,7 @@ returns-3 c = let s = c .before .before .before .before .before .before .before 
     (c .before .before .before .before .before .before .before .before .before .before .before .before .before .several-streams .ensures)
     (not-false _ (c .before .before .before .before .before .before .before .before .before .before .before .before .if2 .left)) _
     (c .before .before .before .before .before .before .before .before .before .before .before .known-order .ensures) _
-    (c .before .before .before .before .before .before .before .before .before .plan-fetch .ensures) _
+    (c .before .before .before .before .before .before .before .before .before .fetch-at .ensures) _
     (c .before .before .before .before .before .before .before .before .single-stream-record .ensures) _
     (c .before .before .before .before .before .before .is-connected .ensures) _ (c .before .before .before .before .before .set-mark .ensures) _
     (c .before .before .put-over .result) (c .before .before .put-over .ensures)
@@ -79,7 +80,7 @@ with-single-stream-spec =
     same-length
     returns-2
     known-order-requires
-    plan-fetch-requires
+    fetch-at-requires
     single-stream-record-requires
     is-connected-requires
     set-mark-requires

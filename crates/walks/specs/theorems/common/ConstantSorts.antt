@@ -6,7 +6,7 @@ use mathlib.Core.List.{List, [], _∷_, map}
 use Prim.Native.Nat.{ℕ}
 use Rattle.row_order.specs.Iso.{Key}
 use Rattle.row_order.specs.Order.{no-bool}
-use Rattle.row_order.specs.Lists.{all-head}
+use Rattle.row_order.specs.ListLaws.{all-head}
 use Rattle.plan.specs.Forest.{none, tree}
 use Rattle.plan.specs.Op.{coalesce, filter, globalLimit, hashJoin, localLimit, mergeOp, Op, outputRequirement, partialSort, aggregate, projection, repartition, sortMergeJoin, sortOp, source, union}
 use Rattle.plan.specs.WellFormed.{member}

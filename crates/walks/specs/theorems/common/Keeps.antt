@@ -17,9 +17,8 @@ use Rattle.plan.specs.WellFormed.{fetchOk, nodeOk}
 use Rattle.plan.specs.declared.Fetch.{Fetch}
 use Rattle.plan.specs.declared.Fetch.the-variants.{Unlimited}
 use Rattle.semantics.specs.Facts.{Facts, facts, factsOp}
-use Rattle.semantics.specs.Properties.{cuts, fetches, fetchOp, freshKeys, isLimit, rebuilt, remark}
+use Rattle.semantics.specs.Properties.{cuts, fetches, fetchOp, freshKeys, isLimit, rebuilt, remark, isAll}
 use Rattle.semantics.specs.theorems.common.Bools.{and-left, and-right}
-use Rattle.semantics.specs.Bags.{isAll}
 use Rattle.semantics.specs.theorems.facts.Fits.{fits}
 use Rattle.walks.specs.Marks.{another, at, bare, cover, fact, fetchT, kid0, known, Marked, node, opT, over, plant, rebuild, setMark, shape, strip, transformUp, Tree}
 use Rattle.walks.specs.Utils.{addSortAbove, isSort, newSort}

@@ -10,9 +10,9 @@ use Rattle.plan.specs.Forest.{Forest, none, roots, size, tree}
 use Rattle.plan.specs.Op.{coalesce, filter, globalLimit, hashJoin, localLimit, mergeOp, Op, outputRequirement, partialSort, aggregate, Plan, projection, repartition, sortMergeJoin, sortOp, source, union}
 use Rattle.plan.specs.WellFormed.{between, childrenOk, nodeOk, nodesOk}
 use Rattle.semantics.specs.Facts.{facts}
-use Rattle.semantics.specs.Properties.{isLimit}
+use Rattle.semantics.specs.Properties.{isLimit, simpleOp}
 use Rattle.semantics.specs.theorems.common.Bools.{and-left, and-right}
-use Rattle.semantics.specs.Bags.{simpleOp, simplePlan}
+use Rattle.semantics.specs.Bags.{simplePlan}
 use Rattle.semantics.specs.theorems.facts.Fits.{facts-widths}
 use Rattle.walks.specs.Marks.{known, Marked, opT, strip, Tree}
 use Rattle.walks.specs.Counted.{constantSort}

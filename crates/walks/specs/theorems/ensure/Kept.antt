@@ -14,9 +14,8 @@ use Rattle.plan.specs.WellFormed.{fetchOk, nodeOk}
 use Rattle.plan.specs.declared.Fetch.{Fetch}
 use Rattle.plan.specs.declared.Fetch.the-variants.{AtMost, Unlimited}
 use Rattle.semantics.specs.Facts.{at0, Facts, isNil, met}
-use Rattle.semantics.specs.Properties.{cuts, freshKeys, maintains, rebuilt, singles, wanted}
+use Rattle.semantics.specs.Properties.{cuts, freshKeys, maintains, rebuilt, singles, wanted, isAll}
 use Rattle.semantics.specs.theorems.common.Bools.{and-left, and-right}
-use Rattle.semantics.specs.Bags.{isAll}
 use Rattle.walks.specs.Marks.{anyMark, at, bare, fact, fetchT, kid0, known, Marked, node, opT, over, rebuild, setMark, Shape, shape, strip, transformUp, Tree, unmark}
 use Rattle.walks.specs.OutputRequirements.{outputFetch}
 use Rattle.walks.specs.EnsureSorting.{afterLoop, connectedEach, dropSort, ensureBy, ensureChild, ensureEach, ensureSorting, withSingleStream, singleStreamOp, analyzeImmediateSortRemoval, limited, removeBy, removeKids, removeTop, updatedAfterRemoval, unmerged, updateChildToRemoveUnnecessarySort, updateSortCtxChildrenData}

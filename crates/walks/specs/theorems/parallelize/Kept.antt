@@ -15,10 +15,10 @@ use Rattle.plan.specs.Numbers.{code}
 use Rattle.plan.specs.WellFormed.{fetchOk, keysFit, nodeOk}
 use Rattle.plan.specs.declared.Fetch.{Fetch}
 use Rattle.semantics.specs.Facts.{Facts, factsOp, met}
-use Rattle.semantics.specs.Properties.{freshKeys, remark, singles}
+use Rattle.semantics.specs.Properties.{freshKeys, remark, singles, isAll}
 use Rattle.semantics.specs.Runs.{Each, Env, Run, SameInputs, Streams}
 use Rattle.semantics.specs.theorems.common.Bools.{and-left, and-right}
-use Rattle.semantics.specs.Bags.{isAll, SameRows}
+use Rattle.semantics.specs.Bags.{SameRows}
 use Rattle.walks.specs.Marks.{at, fact, headMark, kid0, known, Marked, node, opT, rebuild, setMark, Shape, shape, strip, transformUp, Tree}
 use Rattle.walks.specs.Utils.{addSortAboveWithCheck}
 use Rattle.walks.specs.ParallelizeSorts.{bottleneck, cascade, eqPartitioning, firstIs, withoutSelf, idle, liftFirst, removeBottleneckInSubplanImpl, firstBottleneckRemoved, bottlenecksRemoved, parallelBy, parallelize, parallelizeSorts, parted, Partitioning, partitioning, removeBottleneckInSubplan, samePartitioning, withoutIdle, skipSame, unequal, updateCoalesceCtxChildren}

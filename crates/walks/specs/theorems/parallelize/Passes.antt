@@ -8,7 +8,7 @@ use borrow.Author.Tests.{leb-true, leb-false}
 use lib.Dec.{eqb, ltb, leb}
 use Rattle.row_order.specs.Iso.{Key}
 use Rattle.row_order.specs.Order.{no-bool}
-use Rattle.row_order.specs.Lists.{all-head}
+use Rattle.row_order.specs.ListLaws.{all-head}
 use Rattle.plan.specs.Forest.{Forest, none, tree}
 use Rattle.plan.specs.Op.{coalesce, mergeOp, Op, Plan, repartition, sortOp}
 use Rattle.plan.specs.Numbers.{code}

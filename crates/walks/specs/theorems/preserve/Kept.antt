@@ -12,9 +12,9 @@ use Rattle.plan.specs.WellFormed.{fetchOk, nodeOk}
 use Rattle.plan.specs.declared.Fetch.{Fetch}
 use Rattle.plan.specs.declared.Fetch.the-variants.{AtMost, Unlimited}
 use Rattle.semantics.specs.Facts.{at0, facts, isNil, keepsOrder, met, nothing}
-use Rattle.semantics.specs.Properties.{rebuilt}
+use Rattle.semantics.specs.Properties.{rebuilt, isAll}
 use Rattle.semantics.specs.Runs.{Each, Env, Run, SameInputs, Streams}
-use Rattle.semantics.specs.Bags.{isAll, SameRows}
+use Rattle.semantics.specs.Bags.{SameRows}
 use Rattle.semantics.specs.theorems.facts.Fits.{fits}
 use Rattle.walks.specs.Marks.{at, fact, headMark, kid0, known, Marked, node, opT, rebuild, Shape, shape, strip, transformUp, Tree, unmark}
 use Rattle.walks.specs.OrderPreserving.{alternatePlan, breakBy, breakEach, carryEach, enters, inspectChild, markFirst, masked, planWithOrderBreakingVariants, planWithOrderPreservingVariants, preserve, preserveBy, preserveCoalesce, preserveEach, replaceBy, replaceWithOrderPreservingVariants, Settings, updateOrderPreservationCtxChildrenData, useOrderPreservingVariant}

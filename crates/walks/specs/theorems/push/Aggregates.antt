@@ -11,7 +11,8 @@ use lib.Dec.{eqb, ltb}
 use lib.ListN.{length, getD}
 use Rattle.row_order.specs.Iso.{Key}
 use Rattle.row_order.specs.Order.{no-bool}
-use Rattle.row_order.specs.Lists.{All, all-nil, all-cons, getD-tab}
+use Rattle.row_order.specs.Lists.{All, all-nil, all-cons}
+use Rattle.row_order.specs.ListLaws.{getD-tab}
 use Rattle.plan.specs.Op.{aggregate, Plan}
 use Rattle.plan.specs.WellFormed.{columnsOf, every, member, someFetch}
 use Rattle.semantics.specs.Facts.{at0, carried, cl, eqKey, Facts, facts, factsOp, isC, isNil, lowest, met, nf, placed, prefixb, projFacts, projOrder, withColumn}

@@ -9,7 +9,8 @@ use lib.Dec.{eqb, ltb, leb}
 use lib.ListN.{length, getD}
 use Rattle.row_order.specs.Iso.{Key}
 use Rattle.row_order.specs.Order.{no-bool}
-use Rattle.row_order.specs.Lists.{All, all-cons, all-map, all-nil, all-over, all-zip}
+use Rattle.row_order.specs.Lists.{All, all-cons, all-nil}
+use Rattle.row_order.specs.ListLaws.{all-map, all-over, all-zip}
 use Rattle.plan.specs.Op.{coalesce, filter, globalLimit, hashJoin, localLimit, mergeOp, Op, outputRequirement, partialSort, aggregate, projection, repartition, sortMergeJoin, sortOp, source, union}
 use Rattle.plan.specs.WellFormed.{below, columnsFit, distinct, every, joinWidth, member, nodeOk, someFetch, unionOk, columnsOf}
 use Rattle.plan.specs.declared.Fetch.{Fetch}

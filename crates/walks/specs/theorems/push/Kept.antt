@@ -7,7 +7,8 @@ use lib.Dec.{ltb}
 use lib.ListN.{length}
 use Rattle.row_order.specs.Iso.{Key}
 use Rattle.row_order.specs.Order.{no-bool}
-use Rattle.row_order.specs.Lists.{All, all-append, all-cons, all-nil}
+use Rattle.row_order.specs.Lists.{All, all-cons, all-nil}
+use Rattle.row_order.specs.ListLaws.{all-append}
 use Rattle.plan.specs.Forest.{Forest, none, tree}
 use Rattle.plan.specs.Op.{coalesce, mergeOp, Op, Plan, repartition, sortOp}
 use Rattle.plan.specs.declared.Distribution.{Distribution}
@@ -15,8 +16,7 @@ use Rattle.plan.specs.declared.Distribution.the-variants.{Unspecified}
 use Rattle.plan.specs.declared.Fetch.{Fetch}
 use Rattle.plan.specs.declared.Fetch.the-variants.{AtMost, Unlimited}
 use Rattle.semantics.specs.Facts.{at0, compatible, Facts, facts, factsOp, isNil, met, nf}
-use Rattle.semantics.specs.Properties.{fetches, fetchOp, freshKeys, rebuilt}
-use Rattle.semantics.specs.Bags.{isAll}
+use Rattle.semantics.specs.Properties.{fetches, fetchOp, freshKeys, rebuilt, isAll}
 use Rattle.semantics.specs.theorems.canonical.EveryNode.{canon, op-canon}
 use Rattle.walks.specs.Marks.{bare, cover, fact, kid0, known, Marked, node, rebuild, Shape, strip, Tree}
 use Rattle.walks.specs.Utils.{needsMerge, newMerge, newSort, sortAbove, sortAboveWithDistribution}

@@ -8,7 +8,8 @@ use borrow.Author.Tests.{ltb-true, lt-ltb}
 use lib.Dec.{ltb, leb}
 use lib.ListN.{length, getD}
 use Rattle.row_order.specs.Iso.{Key}
-use Rattle.row_order.specs.Lists.{All, all-append, all-cons, all-head, all-map, all-nil}
+use Rattle.row_order.specs.Lists.{All, all-cons, all-nil}
+use Rattle.row_order.specs.ListLaws.{all-append, all-head, all-map}
 use Rattle.plan.specs.Forest.{Forest, none, roots, tree}
 use Rattle.plan.specs.Op.{coalesce, mergeOp, Op, Plan, repartition, sortOp}
 use Rattle.plan.specs.WellFormed.{fetchOk, nodeOk}
@@ -16,6 +17,7 @@ use Rattle.plan.specs.declared.Distribution.{Distribution}
 use Rattle.plan.specs.declared.Distribution.the-variants.{Unspecified}
 use Rattle.plan.specs.declared.Fetch.{Fetch}
 use Rattle.plan.specs.declared.Fetch.the-variants.{AtMost, Unlimited}
+use Rattle.plan.specs.Numbers.{noFetch}
 use Rattle.semantics.specs.Facts.{at0, compatible, Facts, facts, factsOp, isNil, met, nf, nothing}
 use Rattle.semantics.specs.Properties.{fetches, fetchOp, freshKeys, rebuilt, sortDist, uncut, wanted}
 use Rattle.semantics.specs.Runs.{Each, Env, Run, SameInputs, Streams}
@@ -25,8 +27,8 @@ use Rattle.semantics.specs.theorems.common.Bools.{and-left, and-right}
 use Rattle.semantics.specs.theorems.canonical.EveryNode.{canon, nth-canon, op-canon}
 use Rattle.walks.specs.Marks.{bare, cover, fact, kid0, known, Marked, node, rebuild, Shape, strip, Tree}
 use Rattle.walks.specs.Utils.{needsMerge, newMerge, sortAboveWithDistribution}
-use Rattle.walks.specs.SortPushdown.{goes, minFetch, Pushed, stop}
-use Rattle.walks.specs.PushdownSorts.{afterMerge, afterTry, assignInitialRequirements, atRoot, belowSort, belowTops, childCount, decideBy, decideNode, decideSort, Decision, effectiveDist, handDown, mergeAdded, nodeAsked, push, pushDown, pushdownSorts, pushdownSortsHelper, satisfied, sortAdded, sortAsked, sortDiffers, sortOrdering, sortReplaced, sortReplacedTwice, sortUnasked, sortUnnecessary, stays, triedAgain, unasked, unsatisfied, Visit, withOwnDistribution}
+use Rattle.walks.specs.SortPushdown.{goes, minFetch, Pushed, stop, childCount, effectiveDist}
+use Rattle.walks.specs.PushdownSorts.{afterMerge, afterTry, assignInitialRequirements, atRoot, belowSort, belowTops, decideBy, decideNode, decideSort, Decision, handDown, mergeAdded, nodeAsked, push, pushDown, pushdownSorts, pushdownSortsHelper, satisfied, sortAdded, sortAsked, sortDiffers, sortOrdering, sortReplaced, sortReplacedTwice, sortUnasked, sortUnnecessary, stays, triedAgain, unasked, unsatisfied, Visit, withOwnDistribution}
 use Rattle.walks.specs.Counted.{one}
 use Rattle.walks.specs.Terms.{Added, blank, clear, Live, passing, skel}
 use Rattle.walks.specs.theorems.common.Lists.{all-nth}
@@ -60,7 +62,7 @@ fitted-cond o c false D E h k = k
 min-ok : (f g : Fetch) → fetchOk f ≡ true → fetchOk g ≡ true → fetchOk (minFetch f g) ≡ true
 min-ok Unlimited g p q = q
 min-ok (AtMost m) Unlimited p q = p
-min-ok (AtMost m) (AtMost n) p q = lt-ltb (min m n) 4294967295 (omega (arith, ltb-true m 4294967295 p, ltb-true n 4294967295 q))
+min-ok (AtMost m) (AtMost n) p q = lt-ltb (min m n) noFetch (omega (arith, ltb-true m noFetch p, ltb-true n noFetch q))
 
 -- ---- new nodes over a node of facts F
 module _ (F : Facts) (n : leb (F .width) 32 ≡ true) where

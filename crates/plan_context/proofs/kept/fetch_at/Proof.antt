@@ -1,8 +1,7 @@
--- `push_visits::visiting::fetch_at` meets its contract. Assumes nothing.
 use borrow.Author.Needs.{needs}
 use mathlib.Core.Path.{_∙_}
-use Rattle.push_visits.proofs.visiting.fetch_at.Statement.{statement}
-use Rattle.push_visits.proofs.visiting.fetch_at.Tie as tie
+use Rattle.plan_context.proofs.kept.fetch_at.Statement.{statement}
+use Rattle.plan_context.proofs.kept.fetch_at.Tie as tie
 
 summary-requires : tie.Need-summary-requires
 summary-requires c κs = search needs
