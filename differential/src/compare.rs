@@ -3,9 +3,8 @@ use crate::random_plans::{self, Rng};
 use crate::rust_side::{self, Answer};
 use crate::{domain, library, shrink};
 use sort_placement::exports::{ALL, Call};
-use sort_placement::listing::listing;
 use sort_placement::plan::{self, BLOCK, MOST_BLOCKS, Node, kind::*};
-use sort_placement::text;
+use sort_placement::{Plan, listing, text};
 use std::collections::{BTreeMap, BTreeSet};
 use std::sync::Mutex;
 use std::sync::atomic::{AtomicU64, Ordering::Relaxed};
@@ -114,9 +113,9 @@ fn disagreement(rust: &Answer, library: &Result<Answer, String>) -> Option<Strin
 }
 
 fn shown(answer: &Answer) -> String {
-    match plan::read(&answer.bytes) {
+    match Plan::read(&answer.bytes) {
         _ if answer.number != 0 => format!("{}\n", answer.number),
-        Ok(tree) => format!("{}{}", listing(&tree), text::show(&tree)),
+        Ok(plan) => format!("{}{}", listing(&plan), text::show(&plan)),
         Err(_) => format!("{} {:?}\n", answer.number, answer.bytes),
     }
 }
@@ -124,14 +123,25 @@ fn shown(answer: &Answer) -> String {
 fn report(call: Call, room: usize, tree: Node, place: &str) {
     let small = shrink::shrink(tree, &|t| difference(call, room, t).is_some());
     let (call, why) = difference(call, room, &small).expect("it differed");
+    let small = Plan::read(&plan::write(&small)).expect("it was a plan");
     println!("{place}: {call:?}, {room} bytes of output, on\n{}{}{why}", listing(&small), text::show(&small));
+}
+
+/// The call that words name, as `preserve spr prefer` or `partial 3`.
+fn call_of(words: &[String]) -> Option<Call> {
+    let on = |word: &str| words.iter().any(|w| w == word) as u8;
+    match words.first()?.as_str() {
+        "preserve" => Some(Call::Preserve([on("spr"), on("spm"), on("prefer")])),
+        "partial" => Some(Call::Partial(words.get(1)?.parse().ok()?)),
+        name => ALL.into_iter().find(|c| c.name() == name),
+    }
 }
 
 /// Prints both sides' answers to one call on the plan of a text; whether they agree.
 pub fn show(words: &[String], path: &str) -> bool {
-    let call = Call::from_words(words).expect("a call");
-    let tree = text::parse(&std::fs::read_to_string(path).expect("a text")).expect("a plan");
-    let (file, room) = (plan::write(&tree), if call == Call::Check { 1 } else { MOST_BLOCKS * BLOCK });
+    let call = call_of(words).expect("a call");
+    let plan = text::parse(&std::fs::read_to_string(path).expect("a text")).expect("a plan");
+    let (file, room) = (plan.write(), if call == Call::Check { 1 } else { MOST_BLOCKS * BLOCK });
     let rust = rust_side::answer(call, &file, room);
     println!("the Rust{}:\n{}", if rust.panicked { " panics; document 01" } else { "" }, shown(&rust));
     let Some(got) = library::answer(call, &file, room) else {

@@ -107,7 +107,7 @@ pub fn rewrite(call: Call, plan: Plan) -> Result<Plan> {
             walk(plan, |c| replace_with_order_preserving_variants(c, spr != 0, spm != 0, &config))
         }
         Call::Push => push(plan),
-        Call::Check | Call::Copy | Call::Partial(_) => unreachable!("no walk"),
+        _ => unreachable!("no walk"),
     }
 }
 

@@ -1,4 +1,23 @@
-/* The C exports of the proved library of sort placement. Each returns 0, or the number of a refusal that has written nothing. */
+/* The C exports of the proved library of sort placement, for x86-64.
+
+   A plan is a file of 1 to 18 blocks of 512 bytes. Each call returns 0, or the number of a refusal; a refused call has written
+   nothing, neither to the output nor to *passes.
+
+   How long an answer is: an accepted rewrite writes a file from the start of its output and leaves the bytes past it as they were.
+   Bytes 2 and 3 of the output are then the block total, little-endian; sort_placement_length gives the length in bytes.
+
+   Buffers: plan and out must not overlap, nor may *passes stand inside the plan. The pointers are not null, also where a length is
+   0. Nothing is kept after a call, and nothing is allocated.
+
+   Threads: the library has no state of its own, so calls may run in any number of threads at once, on the same plan too, as long
+   as each has its own output.
+
+   Stack: a call takes 288 to 407 kB of it, measured; a thread that calls needs room for that.
+
+   Names: the exports have no prefix of their own. A program that links the library can have no other external symbol named
+   check_order, copy_plan, ensure_sorting, parallelize_sorts, replace_with_order_preserving_variants, pushdown_sorts or
+   replace_with_partial_sort. The library uses memcpy and memset of the C library, and nothing else. What this header adds begins
+   with sort_placement_ or SORT_PLACEMENT_. */
 #ifndef SORT_PLACEMENT_H
 #define SORT_PLACEMENT_H
 
@@ -12,19 +31,44 @@ extern "C" {
 /* An output of this length is never too short. */
 #define SORT_PLACEMENT_MOST_BYTES 9216
 
-/* *passes is 1 where the plan passes the order check, 0 where it does not. */
+/* The refusals. Of a file: */
+#define SORT_PLACEMENT_LENGTH 1           /* length 0, no multiple of 512, or above 18 blocks */
+#define SORT_PLACEMENT_SUM 2              /* a block's sum */
+#define SORT_PLACEMENT_HEADER 3           /* a block's header or padding */
+#define SORT_PLACEMENT_KIND 4             /* unknown kind, or a child count that it can't have */
+#define SORT_PLACEMENT_SHAPE 5            /* records missing or left over */
+#define SORT_PLACEMENT_FIELD 6            /* another field outside its rule, or union children of unequal width */
+#define SORT_PLACEMENT_COLUMN 7           /* a column not below its width, or twice in one key list */
+#define SORT_PLACEMENT_WIDTH 8            /* a node wider than 32 columns */
+/* Of a rewrite: */
+#define SORT_PLACEMENT_NO_SUCH_NODE 20    /* no node of that number */
+#define SORT_PLACEMENT_PARTIAL_SORT 21    /* a tree with a partial sort is not rewritten */
+#define SORT_PLACEMENT_NOTHING_TO_SORT 22 /* the sort's unbounded child already meets all its keys */
+#define SORT_PLACEMENT_TOO_MANY_NODES 23  /* more than 126 nodes on the way */
+#define SORT_PLACEMENT_SHORT_OUTPUT 24    /* the output is shorter than the file to write */
+#define SORT_PLACEMENT_CONSTANT_SORT 25   /* pushing meets a sort whose keys are all constant */
+
+/* *passes is 1 where the plan passes the order check, 0 where it does not. The check looks at orders, not at distributions.
+   Refusals 1 to 8. */
 uint32_t check_order(const uint8_t *plan, size_t plan_len, uint32_t *passes);
 
-/* Reads a plan and writes it. */
+/* Reads a plan and writes it: the same bytes. Refusals 1 to 8, then 24. */
 uint32_t copy_plan(const uint8_t *plan, size_t plan_len, uint8_t *out, size_t out_len);
 
-/* The rewrites. A setting is off at zero and on at all else. */
+/* The rewrites. Refusals 1 to 8, then 21, 23, 24; pushing also 25. A setting is off at zero and on at all else. */
 uint32_t ensure_sorting(const uint8_t *plan, size_t plan_len, uint8_t *out, size_t out_len);
 uint32_t parallelize_sorts(const uint8_t *plan, size_t plan_len, uint8_t *out, size_t out_len);
 uint32_t replace_with_order_preserving_variants(const uint8_t *plan, size_t plan_len, uint8_t spr_better, uint8_t spm_better,
                                                 uint8_t prefer_existing, uint8_t *out, size_t out_len);
 uint32_t pushdown_sorts(const uint8_t *plan, size_t plan_len, uint8_t *out, size_t out_len);
+
+/* One node, by its number from 0. Refusals 1 to 8, then 20, 22, 24. */
 uint32_t replace_with_partial_sort(const uint8_t *plan, size_t plan_len, uint32_t node, uint8_t *out, size_t out_len);
+
+/* The length of the file that an accepted rewrite has written to out. */
+static inline size_t sort_placement_length(const uint8_t *out) {
+    return 512u * ((size_t)out[2] + 256u * (size_t)out[3]);
+}
 
 #ifdef __cplusplus
 }

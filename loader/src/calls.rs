@@ -1,42 +1,54 @@
-//! Safe functions over the exports, one for each.
+//! The library's calls, a safe function for each.
 use crate::Refusal;
 use crate::exports::Call;
 use crate::plan::BLOCK;
 
-/// The settings of the order-preserving walk.
+/// The settings of the order-preserving walk, all off by default.
+///
+/// ```
+/// let mut settings = sort_placement::Settings::default();
+/// settings.spm_better = true;
+/// ```
 #[derive(Clone, Copy, Debug, Default, PartialEq, Eq)]
+#[non_exhaustive]
 pub struct Settings {
+    /// A repartition may keep its input's order where that removes a sort (the Rust's `is_spr_better`). Off, that is done over
+    /// unbounded inputs alone.
     pub spr_better: bool,
+    /// A coalesce may become a merge where that removes a sort (the Rust's `is_spm_better`). Off, as above.
     pub spm_better: bool,
+    /// Both of these (the Rust's `prefer_existing_sort`).
     pub prefer_existing: bool,
 }
 
-impl Settings {
-    pub fn bytes(self) -> [u8; 3] {
-        [self.spr_better as u8, self.spm_better as u8, self.prefer_existing as u8]
-    }
-}
-
 fn accepted(number: Option<u32>) -> Result<(), Refusal> {
-    match number.expect("a call that the library exports") {
-        0 => Ok(()),
-        number => Err(Refusal::from_number(number).expect("a refusal of document 01")),
+    match number {
+        Some(0) => Ok(()),
+        Some(number) => Err(Refusal::of(number)),
+        None => unreachable!("a function is compiled in with its export"),
     }
 }
 
 /// Runs a rewrite; the length of the file that stands in the output afterwards.
-pub(crate) fn rewrite(call: Call, plan: &[u8], out: &mut [u8]) -> Result<usize, Refusal> {
+fn rewrite(call: Call, plan: &[u8], out: &mut [u8]) -> Result<usize, Refusal> {
     accepted(call.run(plan, out))?;
+    // an accepted rewrite has written a file, and a file's first block has the block total
     Ok(u16::from_le_bytes([out[2], out[3]]) as usize * BLOCK)
 }
 
-/// Whether each node's wanted orders are met by its children's facts.
+/// Whether each node's wanted orders are met by its children's facts. It looks at orders alone: whether a node has the streams
+/// that it wants (one, or keyed ones) is not asked.
+///
+/// # Errors
+///
+/// The file's refusal, 1 to 8.
 ///
 /// ```
-/// let plan = sort_placement::text::parse("merge keys=0\n  source streams=2 width=1").unwrap();
-/// let file = sort_placement::plan::write(&plan);
-/// assert_eq!(sort_placement::check_order(&file), Ok(false));
-/// assert_eq!(sort_placement::check_order(&file[1..]), Err(sort_placement::Refusal::Length));
+/// use sort_placement::{Refusal, check_order, text};
+///
+/// let file = text::parse("merge keys=0\n  source streams=2 width=1").unwrap().write();
+/// assert_eq!(check_order(&file), Ok(false));
+/// assert_eq!(check_order(&file[1..]), Err(Refusal::Length));
 /// ```
 #[cfg(has_check_order)]
 pub fn check_order(plan: &[u8]) -> Result<bool, Refusal> {
@@ -45,14 +57,30 @@ pub fn check_order(plan: &[u8]) -> Result<bool, Refusal> {
     Ok(passes[0] == 1)
 }
 
+/// Reads a plan and writes it: the same bytes.
+///
+/// # Errors
+///
+/// The file's refusal, 1 to 8, or 24 where the output is shorter than the file.
+#[cfg(has_copy_plan)]
+pub fn copy_plan(plan: &[u8], out: &mut [u8]) -> Result<usize, Refusal> {
+    rewrite(Call::Copy, plan, out)
+}
+
 /// Adds the sorts that operators want, and removes those that nothing needs. The output passes the order check.
 ///
+/// # Errors
+///
+/// The file's refusal, 1 to 8; then 21, 23 or 24.
+///
 /// ```
-/// let plan = sort_placement::text::parse("merge keys=0\n  source streams=2 width=1").unwrap();
-/// let mut out = [0; sort_placement::MOST_BYTES];
-/// let length = sort_placement::ensure_sorting(&sort_placement::plan::write(&plan), &mut out).unwrap();
-/// let ensured = sort_placement::plan::read(&out[..length]).unwrap();
-/// assert_eq!(sort_placement::text::show(&ensured), "merge keys=0al\n  sort keys=0al preserve\n    source streams=2 width=1\n");
+/// use sort_placement::{MOST_BYTES, Plan, ensure_sorting, text};
+///
+/// let plan = text::parse("merge keys=0\n  source streams=2 width=1").unwrap();
+/// let mut out = [0; MOST_BYTES];
+/// let length = ensure_sorting(&plan.write(), &mut out).unwrap();
+/// let ensured = Plan::read(&out[..length]).unwrap();
+/// assert_eq!(text::show(&ensured), "merge keys=0al\n  sort keys=0al preserve\n    source streams=2 width=1\n");
 /// ```
 #[cfg(has_ensure_sorting)]
 pub fn ensure_sorting(plan: &[u8], out: &mut [u8]) -> Result<usize, Refusal> {
@@ -60,24 +88,41 @@ pub fn ensure_sorting(plan: &[u8], out: &mut [u8]) -> Result<usize, Refusal> {
 }
 
 /// Sorts streams before they are merged, in the place of a sort over a coalesce.
+///
+/// # Errors
+///
+/// The file's refusal, 1 to 8; then 21, 23 or 24.
 #[cfg(has_parallelize_sorts)]
 pub fn parallelize_sorts(plan: &[u8], out: &mut [u8]) -> Result<usize, Refusal> {
     rewrite(Call::Parallelize, plan, out)
 }
 
 /// Removes sorts whose order a repartition or a coalesce below only has to keep.
+///
+/// # Errors
+///
+/// The file's refusal, 1 to 8; then 21, 23 or 24.
 #[cfg(has_replace_with_order_preserving_variants)]
 pub fn replace_with_order_preserving_variants(plan: &[u8], settings: Settings, out: &mut [u8]) -> Result<usize, Refusal> {
-    rewrite(Call::Preserve(settings.bytes()), plan, out)
+    let bytes = [settings.spr_better, settings.spm_better, settings.prefer_existing].map(u8::from);
+    rewrite(Call::Preserve(bytes), plan, out)
 }
 
 /// Pushes sorts down as far as they can go.
+///
+/// # Errors
+///
+/// The file's refusal, 1 to 8; then 21, 23, 25 or 24.
 #[cfg(has_pushdown_sorts)]
 pub fn pushdown_sorts(plan: &[u8], out: &mut [u8]) -> Result<usize, Refusal> {
     rewrite(Call::Push, plan, out)
 }
 
 /// Makes one sort over an unbounded child a partial sort by the keys that the child already meets.
+///
+/// # Errors
+///
+/// The file's refusal, 1 to 8; then 20, 22 or 24.
 #[cfg(has_replace_with_partial_sort)]
 pub fn replace_with_partial_sort(plan: &[u8], node: u32, out: &mut [u8]) -> Result<usize, Refusal> {
     rewrite(Call::Partial(node), plan, out)

@@ -1,41 +1,34 @@
 //! A plan as a Graphviz graph: each node's kind, streams and known order. An edge whose wanted order is not met is marked, with
 //! how far it is met.
-use crate::facts::{Facts, of_tree, wanted};
+use crate::Plan;
+use crate::facts::{Facts, of_tree};
 use crate::listing::keys_text;
 use crate::plan::Node;
 use crate::text::line;
+use crate::unmet::{Edge, edges};
 
-fn edge(parent: usize, child: usize, wanted: &[(u8, u8)], below: &Facts) -> String {
-    let met = below.keys_met(wanted);
-    let attributes = match wanted.len() {
+fn edge_line(edge: &Edge) -> String {
+    let attributes = match edge.wanted.len() {
         0 => String::new(),
-        n if met == n => format!(" [label=\"{}\"]", keys_text(wanted)),
-        n => format!(" [color=red, penwidth=2, label=\"wants {}: {met} of {n} met\"]", keys_text(wanted)),
+        n if edge.met == n => format!(" [label=\"{}\"]", keys_text(&edge.wanted)),
+        n => format!(" [color=red, penwidth=2, label=\"wants {}: {} of {n} met\"]", keys_text(&edge.wanted), edge.met),
     };
-    format!("  n{child} -> n{parent}{attributes};\n")
+    format!("  n{} -> n{}{attributes};\n", edge.child.0, edge.parent.0)
 }
 
-fn put(node: &Node, facts: &[Facts], next: &mut usize, out: &mut String) -> usize {
-    let number = *next;
-    *next += 1;
-    let own = &facts[number];
-    let plural = if own.streams == 1 { "" } else { "s" };
-    *out += &format!(
-        "  n{number} [label=\"{number} {}\\n{} stream{plural}, order {}\"];\n",
-        line(&node.record),
-        own.streams,
-        keys_text(&own.order)
-    );
-    for (child, wanted) in node.children.iter().zip(wanted(&node.record, node.children.len())) {
-        let below = put(child, facts, next, out);
-        *out += &edge(number, below, &wanted, &facts[below]);
-    }
-    number
+fn node_line(number: usize, node: &Node, facts: &Facts) -> String {
+    let plural = if facts.streams == 1 { "" } else { "s" };
+    let (line, streams, order) = (line(&node.record), facts.streams, keys_text(&facts.order));
+    format!("  n{number} [label=\"{number} {line}\\n{streams} stream{plural}, order {order}\"];\n")
 }
 
-/// Rows flow upwards, from the sources to the root.
-pub fn draw(plan: &Node) -> String {
+/// A graph in Graphviz's language. Rows flow upwards, from the sources to the root; red edges want an order that is not met.
+pub fn draw(plan: &Plan) -> String {
     let mut out = String::from("digraph plan {\n  rankdir=BT;\n  node [shape=box, fontname=\"monospace\"];\n");
-    put(plan, &of_tree(plan), &mut 0, &mut out);
+    let facts = of_tree(plan.root());
+    for (number, (_, node)) in plan.root().walk().enumerate() {
+        out += &node_line(number, node, &facts[number]);
+    }
+    out.extend(edges(plan.root(), &facts).iter().map(edge_line));
     out + "}\n"
 }

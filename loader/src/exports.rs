@@ -3,15 +3,21 @@
 
 /// One request: a call with what it takes beside the plan and the output.
 #[derive(Clone, Copy, Debug, PartialEq, Eq)]
+#[non_exhaustive]
 pub enum Call {
+    /// `check_order`
     Check,
+    /// `copy_plan`
     Copy,
+    /// `ensure_sorting`
     Ensure,
+    /// `parallelize_sorts`
     Parallelize,
-    /// spr better, spm better, prefer existing: zero is off, all else on
+    /// `replace_with_order_preserving_variants`; spr better, spm better, prefer existing: zero is off, all else on
     Preserve([u8; 3]),
+    /// `pushdown_sorts`
     Push,
-    /// the node's number
+    /// `replace_with_partial_sort`; the node's number
     Partial(u32),
 }
 
@@ -20,6 +26,7 @@ pub const ALL: [Call; 7] =
     [Call::Check, Call::Copy, Call::Ensure, Call::Parallelize, Call::Preserve([0; 3]), Call::Push, Call::Partial(0)];
 
 impl Call {
+    /// A short name, for figures and messages.
     pub fn name(self) -> &'static str {
         match self {
             Call::Check => "check",
@@ -29,16 +36,6 @@ impl Call {
             Call::Preserve(_) => "preserve",
             Call::Push => "push",
             Call::Partial(_) => "partial",
-        }
-    }
-
-    /// The call that words of a command line name, as `preserve spr prefer` or `partial 3`.
-    pub fn from_words(words: &[String]) -> Option<Call> {
-        let on = |word: &str| words.iter().any(|w| w == word) as u8;
-        match words.first()?.as_str() {
-            "preserve" => Some(Call::Preserve([on("spr"), on("spm"), on("prefer")])),
-            "partial" => Some(Call::Partial(words.get(1)?.parse().ok()?)),
-            name => ALL.into_iter().find(|c| c.name() == name),
         }
     }
 
@@ -55,7 +52,12 @@ impl Call {
         }
     }
 
-    /// The export's number on a plan; the check writes its answer, 1 or 0, as the first byte of the output.
+    /// The export's number on a plan; the check writes its answer, 1 or 0, as the first byte of the output. `None` where the linked
+    /// library does not export the call.
+    ///
+    /// # Panics
+    ///
+    /// Where a refused check has written its answer, which its contract rules out.
     pub fn run(self, plan: &[u8], out: &mut [u8]) -> Option<u32> {
         match self {
             Call::Check => check_order(plan, out),
@@ -109,7 +111,9 @@ fn check_order(plan: &[u8], out: &mut [u8]) -> Option<u32> {
     // SAFETY: the slice and the number are live for the call
     let number = unsafe { check_order(plan.as_ptr(), plan.len(), &mut passes) };
     if number == 0 {
-        out[0] = passes as u8;
+        if let Some(first) = out.first_mut() {
+            *first = passes as u8;
+        }
     } else {
         assert_eq!(passes, UNTOUCHED, "a refused check wrote its answer");
     }

@@ -1,13 +1,20 @@
 //! The facts of a node, what it wants and what it maintains, as document 01 states them, and document 02 for an aggregate. Written
 //! from their text alone.
+//!
+//! # Panics
+//!
+//! Functions here take records and columns of an accepted plan, and can panic on others: a column of 32, a merge without a child.
 use crate::plan::{Node, PRESERVE, Record, UNBOUNDED, kind::*};
 
 /// A key: column and options (bit 0 descending, bit 1 nulls first).
 pub type Key = (u8, u8);
 
+/// What is known of a node's rows.
 #[derive(Clone, Debug, PartialEq)]
 pub struct Facts {
+    /// Its columns.
     pub width: usize,
+    /// Its streams.
     pub streams: usize,
     /// Constant columns by bits.
     pub constants: u32,
@@ -17,7 +24,7 @@ pub struct Facts {
     pub order: Vec<Key>,
 }
 
-/// Join types by their number in a file.
+/// Whether a join type, by its number in a file, is Right, RightSemi or RightAnti.
 pub fn is_right_type(join_type: u8) -> bool {
     matches!(join_type, 2 | 6 | 7)
 }
@@ -37,6 +44,7 @@ impl Facts {
         Facts { width, streams: 0, constants: 0, class: std::array::from_fn(|c| c as u8), order: vec![] }
     }
 
+    /// Whether a column has one value over all streams.
     pub fn is_constant(&self, column: usize) -> bool {
         self.constants >> column & 1 == 1
     }
@@ -53,6 +61,7 @@ impl Facts {
         out
     }
 
+    /// Whether a wanted order is met.
     pub fn meets(&self, wanted: &[Key]) -> bool {
         self.order.starts_with(&self.normal(wanted))
     }
@@ -75,12 +84,14 @@ impl Facts {
         changed
     }
 
+    /// A source's, by what it declares.
     pub fn source(width: usize, streams: usize, constants: u32, keys: &[Key]) -> Facts {
         let mut facts = Facts { streams, constants, ..Facts::free(width) };
         facts.order = facts.normal(keys);
         facts
     }
 
+    /// The same with other streams and another order.
     pub fn with_order(&self, streams: usize, order: Vec<Key>) -> Facts {
         Facts { streams, order, ..self.clone_without_order() }
     }
@@ -89,6 +100,7 @@ impl Facts {
         Facts { order: vec![], ..*self }
     }
 
+    /// A projection's, over these of its child.
     pub fn projection(&self, columns: &[u8]) -> Facts {
         let class_of = |c: u8| self.class[c as usize];
         let first = |low: u8| columns.iter().position(|c| class_of(*c) == low).map(|i| i as u8);
@@ -101,6 +113,7 @@ impl Facts {
         facts
     }
 
+    /// A union's, over its children's.
     pub fn union(children: &[&Facts]) -> Facts {
         let first = children[0];
         let mut all = Facts { streams: children.iter().map(|f| f.streams).sum(), ..Facts::free(first.width) };
@@ -143,6 +156,7 @@ impl Facts {
         }
     }
 
+    /// A join's, over its sides'; the pairs are left and right key columns.
     pub fn join(hash: bool, join_type: u8, left: &Facts, right: &Facts, pairs: &[(u8, u8)]) -> Facts {
         let mut all = match join_type {
             0 => Facts::beside(left, right, (true, true)),

@@ -1,35 +1,62 @@
 //! Sort placement in plan files: safe functions over the C exports of the proved library, and a view of plan files for tools.
 //! Document 01 has the form of a file, the calls and their refusals; document 02 adds the aggregate.
 //!
-//! ```
-//! use sort_placement::{Refusal, check_order, plan, text};
+//! A call takes a plan file and an output of [`MOST_BYTES`], and answers the length of the file that it wrote, or a [`Refusal`].
+//! [`Plan`] is a plan file as a tree, made from a file or from a [`text`], and [`listing`], [`draw`] and [`unmet`] show it.
 //!
-//! let plan = text::parse("output-requirement keys=0 single\n  sort keys=0\n    source streams=1 width=2").unwrap();
-//! let file = plan::write(&plan);
-//! assert_eq!(check_order(&file), Ok(true));
+//! ```
+//! use sort_placement::{MOST_BYTES, Refusal, check_order, ensure_sorting, text};
+//!
+//! let file = text::parse("output-requirement keys=0 single\n  source streams=1 width=2").unwrap().write();
+//! assert_eq!(check_order(&file), Ok(false));
+//! let mut out = [0; MOST_BYTES];
+//! let length = ensure_sorting(&file, &mut out).unwrap();
+//! assert_eq!(check_order(&out[..length]), Ok(true));
 //! assert_eq!(check_order(&[]), Err(Refusal::Length));
 //! ```
+#![deny(missing_docs)]
+
 mod calls;
-pub mod draw;
-pub mod exports;
-pub mod facts;
-pub mod listing;
-pub mod plan;
+mod checked;
+mod draw;
+mod listing;
 mod refusal;
 pub mod text;
+mod unmet;
+mod why;
+
+// The records behind a plan are public for the tools of this repository only: they can be put together to what no file holds.
+#[cfg(feature = "records")]
+pub mod exports;
+#[cfg(not(feature = "records"))]
+#[allow(dead_code)]
+mod exports;
+#[cfg(feature = "records")]
+pub mod facts;
+#[cfg(not(feature = "records"))]
+#[allow(dead_code)]
+mod facts;
+#[cfg(feature = "records")]
+pub mod plan;
+#[cfg(not(feature = "records"))]
+#[allow(dead_code, unused_imports)]
+mod plan;
+
+#[cfg(test)]
+mod random_plans;
 
 pub use calls::*;
+pub use checked::{Plan, explain};
+pub use draw::draw;
+pub use listing::listing;
 pub use refusal::Refusal;
+pub use unmet::{Unmet, unmet};
+pub use why::Why;
 
 /// The length of the longest plan file: an output of that length is never too short.
 pub const MOST_BYTES: usize = plan::MOST_BLOCKS * plan::BLOCK;
 
-/// Runs one of the rewrites on a plan file; `None` where the linked library does not export it.
-pub fn rewritten(call: exports::Call, file: &[u8]) -> Option<Result<Vec<u8>, Refusal>> {
-    call.is_present().then(|| {
-        let mut out = vec![0; MOST_BYTES];
-        let length = calls::rewrite(call, file, &mut out)?;
-        out.truncate(length);
-        Ok(out)
-    })
-}
+/// The README's snippets are compiled and run.
+#[cfg(doctest)]
+#[doc = include_str!("../../README.md")]
+pub struct Readme;

@@ -5,15 +5,18 @@ macro_rules! refusals {
     ($($name:ident = $number:literal, $sentence:literal;)*) => {
         /// Why a call refused its plan. A refused call has written nothing.
         #[derive(Clone, Copy, Debug, PartialEq, Eq, Hash)]
-        #[repr(u32)]
+        #[non_exhaustive]
         pub enum Refusal {
-            $(#[doc = $sentence] $name = $number,)*
+            $(#[doc = $sentence] $name,)*
+            /// A number that this edition of the package has no sentence for: the library that it is linked to is a newer one.
+            Other(u32),
         }
 
         impl Refusal {
+            /// All that have a sentence, by number.
             pub const ALL: &'static [Refusal] = &[$(Refusal::$name),*];
 
-            /// The refusal of a number, if there is one.
+            /// The refusal of a number, if this edition knows it.
             pub fn from_number(number: u32) -> Option<Refusal> {
                 match number {
                     $($number => Some(Refusal::$name),)*
@@ -21,9 +24,19 @@ macro_rules! refusals {
                 }
             }
 
+            /// Document 01's number.
+            pub fn number(self) -> u32 {
+                match self {
+                    $(Refusal::$name => $number,)*
+                    Refusal::Other(number) => number,
+                }
+            }
+
+            /// What it means, in one sentence.
             pub fn sentence(self) -> &'static str {
                 match self {
                     $(Refusal::$name => $sentence,)*
+                    Refusal::Other(_) => "The linked library is newer than this package, which has no sentence for it.",
                 }
             }
         }
@@ -48,9 +61,9 @@ refusals! {
 }
 
 impl Refusal {
-    /// Document 01's number.
-    pub fn number(self) -> u32 {
-        self as u32
+    /// The refusal of any number but 0.
+    pub(crate) fn of(number: u32) -> Refusal {
+        Refusal::from_number(number).unwrap_or(Refusal::Other(number))
     }
 }
 
@@ -61,3 +74,23 @@ impl fmt::Display for Refusal {
 }
 
 impl std::error::Error for Refusal {}
+
+#[cfg(test)]
+mod tests {
+    use super::*;
+
+    #[test]
+    fn numbers_go_there_and_back() {
+        for refusal in Refusal::ALL {
+            assert_eq!(Refusal::from_number(refusal.number()), Some(*refusal));
+        }
+        assert_eq!(Refusal::ALL.iter().map(|r| r.number()).collect::<Vec<_>>(), [1, 2, 3, 4, 5, 6, 7, 8, 20, 21, 22, 23, 24, 25]);
+    }
+
+    #[test]
+    fn an_unknown_number_is_told() {
+        assert_eq!(Refusal::from_number(99), None);
+        assert!(Refusal::of(99).to_string().starts_with("refusal 99: The linked library is newer"));
+        assert_eq!(Refusal::of(99).number(), 99);
+    }
+}

@@ -1,15 +1,9 @@
-//! The header beside the package, compiled and run by a C program over the same library.
-use sort_placement::exports::Call;
+//! The header beside the package: compiled and run by a C program over the same library, and held to what the library is.
+use sort_placement::Refusal;
+use std::collections::BTreeSet;
 use std::process::Command;
 
-const CALLS: [(Call, &str, &str); 6] = [
-    (Call::Copy, "HAS_copy_plan", "copy 0\n"),
-    (Call::Ensure, "HAS_ensure_sorting", "ensure 0\n"),
-    (Call::Parallelize, "HAS_parallelize_sorts", "parallelize 0\n"),
-    (Call::Preserve([0; 3]), "HAS_replace_with_order_preserving_variants", "preserve 0\n"),
-    (Call::Push, "HAS_pushdown_sorts", "push 0\n"),
-    (Call::Partial(0), "HAS_replace_with_partial_sort", "partial 20\n"),
-];
+const HEADER: &str = include_str!("../include/sort_placement.h");
 
 #[test]
 fn a_c_program_calls_every_export() {
@@ -17,15 +11,45 @@ fn a_c_program_calls_every_export() {
     let program = format!("{}/c_program", env!("CARGO_TARGET_TMPDIR"));
     let mut compiler = Command::new("cc");
     compiler.args(["-std=c99", "-Wall", "-Wextra", "-Werror", "-I", &format!("{package}/include"), "-o", &program]);
-    let mut wanted = String::from("check 0 1\nshort 1\n");
-    for (call, name, line) in CALLS {
-        if call.is_present() {
-            compiler.arg(format!("-D{name}"));
-            wanted += line;
-        }
-    }
-    let library = concat!(env!("CARGO_MANIFEST_DIR"), "/../target/staticlib/libsort_placement.a");
-    assert!(compiler.args([&format!("{package}/tests/c_program.c"), library]).status().expect("cc").success());
+    compiler.args([&format!("{package}/tests/c_program.c"), env!("SORT_PLACEMENT_ARCHIVE")]);
+    assert!(compiler.status().expect("cc").success());
     let run = Command::new(&program).output().expect("the program");
+    let rewrites: String = ["copy", "ensure", "parallelize", "preserve", "push"].map(|c| format!("{c} 0 512\n")).concat();
+    let wanted = format!("check 0 1\nshort 1\n{rewrites}partial 20\nrefusals 14\n");
     assert_eq!(String::from_utf8(run.stdout).expect("text"), wanted);
+}
+
+/// `NothingToSort` as the header writes it.
+fn constant(refusal: &Refusal) -> String {
+    let name = format!("{refusal:?}");
+    let words = name.chars().map(|c| if c.is_uppercase() { format!("_{c}") } else { c.to_uppercase().to_string() });
+    format!("SORT_PLACEMENT{}", words.collect::<String>())
+}
+
+#[test]
+fn the_header_has_every_refusal() {
+    let defined: BTreeSet<(String, u32)> = HEADER
+        .lines()
+        .filter_map(|l| l.strip_prefix("#define ")?.split_once(' '))
+        .filter_map(|(name, rest)| Some((name.to_string(), rest.split_whitespace().next()?.parse().ok()?)))
+        .collect();
+    let mut wanted: BTreeSet<(String, u32)> = Refusal::ALL.iter().map(|r| (constant(r), r.number())).collect();
+    wanted.insert(("SORT_PLACEMENT_MOST_BYTES".into(), sort_placement::MOST_BYTES as u32));
+    assert_eq!(defined, wanted);
+}
+
+/// The names that the header says are taken are the archive's, and so is what it says the archive uses.
+#[test]
+fn the_header_names_every_symbol() {
+    let Ok(listed) = Command::new("nm").args(["-g", env!("SORT_PLACEMENT_ARCHIVE")]).output() else {
+        println!("no nm here");
+        return;
+    };
+    let listed = String::from_utf8(listed.stdout).expect("text");
+    let mut symbols = 0;
+    for name in listed.lines().filter(|l| l.contains(" T ") || l.contains(" U ")).filter_map(|l| l.split(' ').next_back()) {
+        assert!(HEADER.contains(name), "{name}");
+        symbols += 1;
+    }
+    assert!(symbols >= 7, "{listed}");
 }

@@ -1,4 +1,4 @@
-/* Calls what the library exports, through the header. HAS_... are given by the test. */
+/* Calls every export of the library through the header, and prints the answers. */
 #include "sort_placement.h"
 #include <stdio.h>
 
@@ -12,31 +12,46 @@ static void one_source(uint8_t block[512]) {
     block[508] = 5;
 }
 
+static uint8_t plan[512], out[SORT_PLACEMENT_MOST_BYTES];
+
+/* A rewrite's number, and how much it wrote. */
+static void print_rewrite(const char *name, uint32_t number) {
+    if (number == 0)
+        printf("%s 0 %zu\n", name, sort_placement_length(out));
+    else
+        printf("%s %u\n", name, number);
+    out[2] = out[3] = 0;
+}
+
+/* How many of the refusals' numbers differ from the one before. */
+static int refusals(void) {
+    const uint32_t numbers[] = {
+        SORT_PLACEMENT_LENGTH,       SORT_PLACEMENT_SUM,          SORT_PLACEMENT_HEADER,          SORT_PLACEMENT_KIND,
+        SORT_PLACEMENT_SHAPE,        SORT_PLACEMENT_FIELD,        SORT_PLACEMENT_COLUMN,          SORT_PLACEMENT_WIDTH,
+        SORT_PLACEMENT_NO_SUCH_NODE, SORT_PLACEMENT_PARTIAL_SORT, SORT_PLACEMENT_NOTHING_TO_SORT, SORT_PLACEMENT_TOO_MANY_NODES,
+        SORT_PLACEMENT_SHORT_OUTPUT, SORT_PLACEMENT_CONSTANT_SORT,
+    };
+    uint32_t last = 0;
+    int count = 0;
+    for (size_t i = 0; i < sizeof numbers / sizeof *numbers; i++) {
+        count += numbers[i] > last;
+        last = numbers[i];
+    }
+    return count;
+}
+
 int main(void) {
-    static uint8_t plan[512], out[SORT_PLACEMENT_MOST_BYTES];
-    (void)out;
     uint32_t passes = 7;
     one_source(plan);
     uint32_t number = check_order(plan, sizeof plan, &passes);
     printf("check %u %u\n", number, passes);
-    printf("short %u\n", check_order(plan, 511, &passes));
-#ifdef HAS_copy_plan
-    printf("copy %u\n", copy_plan(plan, sizeof plan, out, sizeof out));
-#endif
-#ifdef HAS_ensure_sorting
-    printf("ensure %u\n", ensure_sorting(plan, sizeof plan, out, sizeof out));
-#endif
-#ifdef HAS_parallelize_sorts
-    printf("parallelize %u\n", parallelize_sorts(plan, sizeof plan, out, sizeof out));
-#endif
-#ifdef HAS_replace_with_order_preserving_variants
-    printf("preserve %u\n", replace_with_order_preserving_variants(plan, sizeof plan, 1, 0, 0, out, sizeof out));
-#endif
-#ifdef HAS_pushdown_sorts
-    printf("push %u\n", pushdown_sorts(plan, sizeof plan, out, sizeof out));
-#endif
-#ifdef HAS_replace_with_partial_sort
-    printf("partial %u\n", replace_with_partial_sort(plan, sizeof plan, 1, out, sizeof out));
-#endif
+    printf("short %d\n", check_order(plan, 511, &passes) == SORT_PLACEMENT_LENGTH);
+    print_rewrite("copy", copy_plan(plan, sizeof plan, out, sizeof out));
+    print_rewrite("ensure", ensure_sorting(plan, sizeof plan, out, sizeof out));
+    print_rewrite("parallelize", parallelize_sorts(plan, sizeof plan, out, sizeof out));
+    print_rewrite("preserve", replace_with_order_preserving_variants(plan, sizeof plan, 1, 0, 0, out, sizeof out));
+    print_rewrite("push", pushdown_sorts(plan, sizeof plan, out, sizeof out));
+    print_rewrite("partial", replace_with_partial_sort(plan, sizeof plan, 1, out, sizeof out));
+    printf("refusals %d\n", refusals());
     return 0;
 }

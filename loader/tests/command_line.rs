@@ -1,28 +1,7 @@
 //! The command line on the sample plans: its views, its refusals and their statuses.
-use std::io::Write;
-use std::process::{Command, Output, Stdio};
+mod common;
 
-const SAMPLE: &str = concat!(env!("CARGO_MANIFEST_DIR"), "/../examples/extended_echo.txt");
-const GROUPED: &str = concat!(env!("CARGO_MANIFEST_DIR"), "/../examples/grouped_stockpiles.txt");
-
-fn run(args: &[&str], input: &[u8]) -> Output {
-    let mut command = Command::new(env!("CARGO_BIN_EXE_sort_placement"));
-    let mut child =
-        command.args(args).stdin(Stdio::piped()).stdout(Stdio::piped()).stderr(Stdio::piped()).spawn().expect("the command");
-    child.stdin.take().expect("its input").write_all(input).expect("the input is taken");
-    child.wait_with_output().expect("it ends")
-}
-
-fn text(output: &Output) -> &str {
-    assert_eq!(output.status.code(), Some(0), "{}", String::from_utf8_lossy(&output.stderr));
-    std::str::from_utf8(&output.stdout).expect("text")
-}
-
-fn made(path: &str) -> Vec<u8> {
-    let made = run(&["make", path], b"");
-    assert_eq!(made.status.code(), Some(0));
-    made.stdout
-}
+use common::*;
 
 fn sample() -> Vec<u8> {
     made(SAMPLE)
@@ -33,6 +12,7 @@ fn text_goes_to_a_file_and_back() {
     for file in [sample(), made(GROUPED)] {
         let shown = run(&["show"], &file);
         assert_eq!(run(&["make"], shown.stdout.as_slice()).stdout, file);
+        assert_eq!(run(&["copy"], &file).stdout, file);
     }
 }
 
@@ -52,25 +32,61 @@ fn an_unmet_order_is_drawn_red() {
 
 #[test]
 fn the_check_tells_by_its_status() {
-    assert_eq!(run(&["check"], &sample()).status.code(), Some(1));
     let source = run(&["make"], b"source width=1 streams=1").stdout;
     assert_eq!(text(&run(&["check"], &source)), "passes\n");
+    let failed = run(&["check"], &sample());
+    assert_eq!(failed.status.code(), Some(1));
+    let place = "node 4 (sort-merge-join) wants 0al of child 1, node 6 (repartition), which knows no order: 0 of 1 key is met";
+    assert_eq!(String::from_utf8(failed.stdout).expect("text"), format!("does not pass\n  {place}\n"));
+}
+
+#[test]
+fn every_unmet_place_is_named() {
+    let plan =
+        "sort-merge-join keys=0,1 right=1,0\n  source streams=1 width=2 keys=0\n  merge keys=1d\n    source streams=2 width=2\n";
+    let failed = run(&["check"], &run(&["make"], plan.as_bytes()).stdout);
+    let wanted = "does not pass
+  node 0 (sort-merge-join) wants 0al,1al of child 0, node 1 (source), which knows 0al: 1 of 2 keys are met
+  node 0 (sort-merge-join) wants 1al,0al of child 1, node 2 (merge), which knows 1dl: 0 of 2 keys are met
+  node 2 (merge) wants 1dl of child 0, node 3 (source), which knows no order: 0 of 1 key is met
+";
+    assert_eq!((failed.status.code(), String::from_utf8(failed.stdout).expect("text")), (Some(1), wanted.into()));
 }
 
 #[test]
 fn a_refusal_writes_nothing() {
     let refused = run(&["check"], &sample()[..511]);
-    assert_eq!(refused.status.code(), Some(3));
-    assert!(refused.stdout.is_empty());
-    let told = String::from_utf8(refused.stderr).expect("text");
-    assert_eq!(told, "refusal 1: The file is empty, no multiple of 512 bytes, or longer than 18 blocks.\n");
+    assert_eq!(told(&refused, 3), "refusal 1: the file's length is no multiple of 512\n");
+    let folder = std::env::temp_dir().join(format!("sort_placement-refused-{}", std::process::id()));
+    let path = folder.to_str().expect("text");
+    told(&run(&["ensure", "-o", path], &sample()[..511]), 3);
+    assert!(!folder.exists());
+}
+
+#[test]
+fn a_refusal_says_where() {
+    let mut file = sample();
+    file[8 + 64 + 16] = 9;
+    file[508] += 9;
+    let rule = "refusal 7: node 1 (sort): key column 9 is not below the child's width 4\n";
+    for command in ["check", "ensure", "list", "show", "draw", "copy"] {
+        assert_eq!(told(&run(&[command], &file), 3), rule);
+    }
+    assert_eq!(told(&run(&["partial", "99"], &sample()), 3), "refusal 20: there is no node 99, the last is 7\n");
+    let made = |text: &str| run(&["make"], text.as_bytes()).stdout;
+    let partial = made("filter\n  partial-sort keys=0,1 prefix=1\n    source streams=1 width=2 keys=0 unbounded");
+    let rule = "refusal 21: node 1 (partial-sort): a tree with a partial sort is not rewritten\n";
+    assert_eq!(told(&run(&["ensure"], &partial), 3), rule);
+    let sorted = made("filter\n  sort keys=0\n    source streams=1 width=2 keys=0 unbounded");
+    let rule = "refusal 22: node 1 (sort): its unbounded child already meets all its keys\n";
+    assert_eq!(told(&run(&["partial", "1"], &sorted), 3), rule);
+    let constant = made("filter\n  sort keys=0\n    source streams=2 width=2 constants=0");
+    let rule = "refusal 25: node 1 (sort): its keys 0al are all constant, and push meets it\n";
+    assert_eq!(told(&run(&["push"], &constant), 3), rule);
 }
 
 #[test]
 fn the_sample_is_ensured() {
-    if !sort_placement::exports::Call::Ensure.is_present() {
-        return;
-    }
     let ensured = run(&["ensure"], &sample()).stdout;
     assert_eq!(text(&run(&["check"], &ensured)), "passes\n");
     let shown = run(&["show"], &ensured);
@@ -92,14 +108,36 @@ fn a_grouped_plan_is_shown_and_drawn() {
 
 #[test]
 fn a_column_that_the_list_does_not_show_orders_it() {
-    if !sort_placement::exports::Call::Ensure.is_present() {
-        return;
-    }
-    let before = "0 0 projection 1 - -\n1 1 sort 1 - 1al\n2 2 aggregate 4 - 0al,1al\n3 3 source 4 - 1al,0al\n";
-    let after = before.replace("sort", "merge");
+    let nodes = |sort: &str| format!("0 0 projection 1 - -\n1 1 {sort}\n2 2 aggregate 4 - 0al,1al\n3 3 source 4 - 1al,0al\n");
     let heads = "node depth kind streams fetch keys\n";
-    let wanted = format!("{heads}{before}\nensure\n{heads}{after}");
-    assert_eq!(text(&run(&["try", "ensure", GROUPED], b"")), wanted);
+    let (before, after) = (nodes("sort 1 - 1al  gone"), nodes("merge 1 - 1al  new"));
+    assert_eq!(text(&run(&["try", "ensure", GROUPED], b"")), format!("{heads}{before}\nensure\n{heads}{after}"));
+}
+
+#[test]
+fn what_did_not_change_is_told() {
+    let tried = run(&["try", "ensure"], b"source streams=1 width=1");
+    assert_eq!(text(&tried), "node depth kind streams fetch keys\n0 0 source 1 - -\n\nensure: unchanged\n");
+    let tried = run(&["try", "check"], b"merge keys=0\n  source streams=1 width=1");
+    assert_eq!(tried.status.code(), Some(1));
+}
+
+/// The walks are tried one by one: pushing alone takes the sort and its fetch away here, as the Rust does.
+#[test]
+fn a_lost_fetch_is_told() {
+    let tried = run(&["try", "push", SAMPLE], b"");
+    assert!(text(&tried).contains("1 1 sort 1 200 0al,1al  gone\n"));
+    assert!(text(&tried).ends_with("\nlost: fetch 200 of node 1 (sort)\n"));
+}
+
+#[test]
+fn a_fetch_that_another_node_takes_is_not_lost() {
+    // the sort's fetch is the new limit's, so it is not lost
+    let plan = b"sort keys=0 fetch=5\n  filter\n    source streams=1 width=1 keys=0\n";
+    let tried = run(&["try", "ensure"], plan);
+    assert!(text(&tried).contains("0 0 sort 1 5 0al  gone\n"));
+    assert!(text(&tried).contains("0 0 global-limit 1 5 0al  new\n"));
+    assert!(!text(&tried).contains("lost"));
 }
 
 #[test]

@@ -1,0 +1,167 @@
+//! What `--help` and `help COMMAND` print.
+
+pub const VERSION: &str = concat!("sort_placement ", env!("CARGO_PKG_VERSION"), "\n");
+
+/// A command, for the list and for its own page.
+struct Topic {
+    name: &'static str,
+    words: &'static str,
+    short: &'static str,
+    long: &'static str,
+    example: &'static str,
+}
+
+const KEYS: &str =
+    "A listing has a line for each node: its number, its depth, its kind, how many streams it gives, its fetch and its keys.
+A hyphen stands for none. Keys stand in their order, with commas between. A key is a column and two letters:
+
+  0al   column 0, ascending, nulls last
+  0af   ascending, nulls first
+  0dl   descending, nulls last
+  0df   descending, nulls first";
+
+const SETTINGS: &str = "The settings, each off unless it is given:
+
+  spr     a repartition may keep its input's order where that removes a sort (sort-preserving repartition)
+  spm     a coalesce may become a merge where that removes a sort (sort-preserving merge)
+  prefer  both: an order that is there is preferred to a new sort
+
+Off, the walk does either only over an unbounded input. A file named spr, spm or prefer is given as ./spr.";
+
+const ORDERS: &str = "It looks at orders alone: that each node's children come in the order that it wants. Whether a node has the
+distribution that it wants (one stream, or streams by key) is not looked at.";
+
+const TOPICS: [Topic; 12] = [
+    Topic {
+        name: "check",
+        words: "",
+        short: "whether the plan passes the order check (status 1: it does not)",
+        long: "Where it does not pass, each place is named: the node, its child, the order wanted, the order known, how many keys are met.\n\n{orders}",
+        example: "sort_placement make examples/extended_echo.txt | sort_placement check",
+    },
+    Topic {
+        name: "copy",
+        words: "",
+        short: "the plan read and written: the same bytes",
+        long: "The plan file is read and written by the library.",
+        example: "sort_placement make examples/extended_echo.txt | sort_placement copy | sort_placement list",
+    },
+    Topic {
+        name: "ensure",
+        words: "",
+        short: "the plan ensured: sorts put where an order is wanted, needless ones removed",
+        long: "The plan that it writes passes the order check.",
+        example: "sort_placement make examples/extended_echo.txt | sort_placement ensure | sort_placement check",
+    },
+    Topic {
+        name: "parallelize",
+        words: "",
+        short: "its sorts parallelized: streams sorted, then merged",
+        long: "A sort over a coalesce becomes a merge over sorts of each stream.",
+        example: "sort_placement make examples/extended_echo.txt | sort_placement parallelize | sort_placement list",
+    },
+    Topic {
+        name: "preserve",
+        words: "[spr] [spm] [prefer]",
+        short: "order-preserving variants put in, with these settings on",
+        long: "{settings}",
+        example: "sort_placement make examples/grouped_stockpiles.txt | sort_placement preserve spr spm | sort_placement list",
+    },
+    Topic {
+        name: "push",
+        words: "",
+        short: "its sorts pushed down",
+        long: "Sorts go down as far as they can.",
+        example: "sort_placement make examples/extended_echo.txt | sort_placement push | sort_placement list",
+    },
+    Topic {
+        name: "partial",
+        words: "NODE",
+        short: "the sort of that number made a partial sort",
+        long: "NODE is a number of the listing. A node that is no sort, or whose child is bounded, stays as it is.",
+        example: "sort_placement make examples/extended_echo.txt | sort_placement partial 1 | sort_placement list",
+    },
+    Topic {
+        name: "list",
+        words: "",
+        short: "the plan's listing",
+        long: "{keys}",
+        example: "sort_placement make examples/extended_echo.txt | sort_placement list",
+    },
+    Topic {
+        name: "draw",
+        words: "",
+        short: "a Graphviz graph of it; red edges want an order that is not met",
+        long: "Rows flow upwards. A node has its line of the text form, its streams and its known order; an edge the order that is wanted.",
+        example: "sort_placement make examples/extended_echo.txt | sort_placement draw -",
+    },
+    Topic {
+        name: "make",
+        words: "",
+        short: "a plan file of a text",
+        long: "FILE is a text of at most 1 MiB; docs/TEXT.md has its form. A wrong word is told with its line and column.",
+        example: "sort_placement make examples/extended_echo.txt -o /dev/null",
+    },
+    Topic {
+        name: "show",
+        words: "",
+        short: "the text of a plan file",
+        long: "`make` of it gives the same file.",
+        example: "sort_placement make examples/extended_echo.txt | sort_placement show",
+    },
+    Topic {
+        name: "try",
+        words: "CALL ..",
+        short: "CALL on the plan of a text, with the listings before and after",
+        long: "CALL is check, copy, ensure, parallelize, preserve, push or partial, with its own words; FILE is a text (docs/TEXT.md).
+Nodes that are gone or new, that moved or changed, are marked, and a fetch that no node has any more is told as lost.
+Where nothing changed it says 'unchanged'.
+
+{keys}",
+        example: "sort_placement try ensure examples/extended_echo.txt",
+    },
+];
+
+/// The page of a command; that of `help` is the list.
+pub fn of(name: &str) -> Option<String> {
+    if name == "help" {
+        return Some(all());
+    }
+    let t = TOPICS.iter().find(|t| t.name == name)?;
+    let space = if t.words.is_empty() { "" } else { " " };
+    let long = t.long.replace("{keys}", KEYS).replace("{settings}", SETTINGS).replace("{orders}", ORDERS);
+    Some(format!(
+        "sort_placement {}{space}{} [FILE] [-o OUT]: {}\n\n{long}\n\nExample:\n\n  {}\n",
+        t.name, t.words, t.short, t.example
+    ))
+}
+
+/// The list of commands.
+pub fn all() -> String {
+    let mut out = String::from(
+        "sort_placement COMMAND [FILE] [-o OUT]
+
+FILE is a plan file, for make and try a text; '-' or nothing for standard input. OUT is '-' or nothing for standard output.
+
+",
+    );
+    for t in &TOPICS {
+        let head = format!("{} {}", t.name, t.words);
+        let head = head.trim_end();
+        // a long one has its line to itself
+        out += &if head.len() > 13 { format!("  {head}\n{:17}{}\n", "", t.short) } else { format!("  {head:13}  {}\n", t.short) };
+    }
+    out += "  help [COMMAND]
+                 this list, or a command's own page with an example
+
+Options: -o OUT, -h or --help, -V or --version; behind -- nothing is an option.
+
+";
+    out += ORDERS.replace("It looks", "The order check looks").as_str();
+    out += "
+
+Status: 0 done; 1 the plan does not pass the check; 2 bad usage, or a text that is none; 3 a refusal, told with its number and its
+place, and nothing is written; 4 a file can't be read or written.
+";
+    out
+}

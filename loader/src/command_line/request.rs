@@ -1,0 +1,198 @@
+//! What a command line asks for. Nothing on it is passed over: a word that has no place is an error that names it.
+use crate::failure::Failure;
+use crate::files::Place;
+use crate::help;
+use sort_placement::Settings;
+use std::ffi::OsString;
+
+/// A call of the library that writes a plan file.
+#[derive(Clone, Copy)]
+pub enum Rewrite {
+    Copy,
+    Ensure,
+    Parallelize,
+    Preserve(Settings),
+    Push,
+    Partial(u32),
+}
+
+/// A call of the library.
+#[derive(Clone, Copy)]
+pub enum Call {
+    Check,
+    Rewrite(Rewrite),
+}
+
+pub enum Command {
+    Call(Call),
+    List,
+    Draw,
+    Make,
+    Show,
+    Try(Call),
+    /// a text for standard output
+    Print(String),
+}
+
+pub struct Request {
+    pub command: Command,
+    pub input: Place,
+    pub output: Place,
+}
+
+fn usage<T>(what: String) -> Result<T, Failure> {
+    Err(Failure::Usage(what))
+}
+
+/// The words, the output and whether help or the version is asked for.
+#[derive(Default)]
+struct Words {
+    words: Vec<OsString>,
+    output: Option<OsString>,
+    help: bool,
+    version: bool,
+}
+
+fn words(args: Vec<OsString>) -> Result<Words, Failure> {
+    let mut out = Words::default();
+    let mut args = args.into_iter();
+    while let Some(arg) = args.next() {
+        match arg.to_str() {
+            Some("--") => out.words.extend(args.by_ref()),
+            Some("-h" | "--help") => out.help = true,
+            Some("-V" | "--version") => out.version = true,
+            Some("-o") if out.output.is_some() => return usage("-o stands twice".into()),
+            Some("-o") => match args.next() {
+                Some(path) => out.output = Some(path),
+                None => return usage("-o wants a path behind it, or - for standard output".into()),
+            },
+            Some(option) if option.len() > 1 && option.starts_with('-') => return usage(format!("there is no option {option}")),
+            _ => out.words.push(arg),
+        }
+    }
+    Ok(out)
+}
+
+/// Words, taken from the front.
+struct Rest<'a>(&'a [OsString]);
+
+impl Rest<'_> {
+    fn peek(&self) -> Option<&str> {
+        self.0.first().and_then(|w| w.to_str())
+    }
+
+    fn next(&mut self) -> Option<OsString> {
+        let (first, rest) = self.0.split_first()?;
+        self.0 = rest;
+        Some(first.clone())
+    }
+}
+
+fn settings(rest: &mut Rest) -> Result<Settings, Failure> {
+    let mut settings = Settings::default();
+    while let Some(word) = rest.peek() {
+        let on = match word {
+            "spr" => &mut settings.spr_better,
+            "spm" => &mut settings.spm_better,
+            "prefer" => &mut settings.prefer_existing,
+            _ => break,
+        };
+        if std::mem::replace(on, true) {
+            return usage(format!("the setting {word} stands twice"));
+        }
+        rest.next();
+    }
+    Ok(settings)
+}
+
+fn node(rest: &mut Rest) -> Result<u32, Failure> {
+    let Some(word) = rest.next() else { return usage("partial wants a node's number behind it".into()) };
+    let number = word.to_str().and_then(|w| w.parse().ok());
+    number.ok_or_else(|| Failure::Usage(format!("partial wants a node's number behind it, not '{}'", word.display())))
+}
+
+fn call(name: &str, rest: &mut Rest) -> Result<Option<Call>, Failure> {
+    let rewrite = match name {
+        "check" => return Ok(Some(Call::Check)),
+        "copy" => Rewrite::Copy,
+        "ensure" => Rewrite::Ensure,
+        "parallelize" => Rewrite::Parallelize,
+        "preserve" => Rewrite::Preserve(settings(rest)?),
+        "push" => Rewrite::Push,
+        "partial" => Rewrite::Partial(node(rest)?),
+        _ => return Ok(None),
+    };
+    Ok(Some(Call::Rewrite(rewrite)))
+}
+
+fn tried(rest: &mut Rest) -> Result<Call, Failure> {
+    let Some(word) = rest.next() else { return usage("try wants a call behind it, as try ensure".into()) };
+    let found = match word.to_str() {
+        Some(name) => call(name, rest)?,
+        None => None,
+    };
+    let known = "check, copy, ensure, parallelize, preserve, push and partial";
+    found.ok_or_else(|| Failure::Usage(format!("try knows no call '{}'; there are {known}", word.display())))
+}
+
+fn command(name: &str, rest: &mut Rest) -> Result<Command, Failure> {
+    match name {
+        "list" => return Ok(Command::List),
+        "draw" => return Ok(Command::Draw),
+        "make" => return Ok(Command::Make),
+        "show" => return Ok(Command::Show),
+        "try" => return Ok(Command::Try(tried(rest)?)),
+        _ => {}
+    }
+    match call(name, rest)? {
+        Some(call) => Ok(Command::Call(call)),
+        None => usage(format!("there is no command '{name}'")),
+    }
+}
+
+/// `--help`, `--version`, `help`, `help COMMAND`, `COMMAND --help`.
+fn printed(words: &Words) -> Result<Option<Command>, Failure> {
+    let first = words.words.first().and_then(|w| w.to_str());
+    if words.version {
+        return Ok(Some(Command::Print(help::VERSION.into())));
+    }
+    let topic = match first {
+        Some("help") => words.words.get(1),
+        _ if words.help => words.words.first(),
+        _ => return Ok(None),
+    };
+    if first == Some("help") && words.words.len() > 2 {
+        return usage(format!("help tells of one command, and '{}' is a second", words.words[2].display()));
+    }
+    let text = match topic {
+        None => help::all(),
+        Some(name) => match name.to_str().and_then(help::of) {
+            Some(text) => text,
+            None => return usage(format!("there is no command '{}'", name.display())),
+        },
+    };
+    if words.output.is_some() { usage("-o does not go with help".into()) } else { Ok(Some(Command::Print(text))) }
+}
+
+fn place(path: Option<OsString>) -> Place {
+    path.filter(|p| p != "-")
+}
+
+/// The request of the words behind the program's name.
+pub fn request(args: Vec<OsString>) -> Result<Request, Failure> {
+    let words = words(args)?;
+    if let Some(command) = printed(&words)? {
+        return Ok(Request { command, input: None, output: None });
+    }
+    let mut rest = Rest(&words.words);
+    let Some(name) = rest.next() else { return usage("a command is wanted".into()) };
+    let command = match name.to_str() {
+        Some(name) => command(name, &mut rest)?,
+        None => return usage(format!("there is no command '{}'", name.display())),
+    };
+    let input = rest.next();
+    match rest.next() {
+        Some(second) => usage(format!("one file at a time: '{}' is a second", second.display())),
+        None => Ok(Request { command, input: place(input), output: place(words.output) }),
+    }
+}

@@ -1,0 +1,120 @@
+//! Why a file is refused: the number, the place and the rule in words. Messages only; the library's number is the answer.
+use crate::facts::of_tree;
+use crate::listing::keys_text;
+use crate::plan::kind::{self, PARTIAL_SORT, SORT};
+use crate::{Plan, Refusal};
+use std::fmt;
+
+/// Where a plan file breaks a rule, and how.
+///
+/// ```
+/// let mut file = sort_placement::text::parse("filter\n  source streams=1 width=2").unwrap().write();
+/// file[8 + 2] = 9;
+/// file[508] += 9;
+/// let why = sort_placement::explain(&file).unwrap();
+/// assert_eq!(why.to_string(), "refusal 6: node 0 (filter): streams are 9, and it has none");
+/// assert_eq!((why.refusal.number(), why.node, why.field), (6, Some(0), Some("streams")));
+/// ```
+#[derive(Clone, Debug, PartialEq, Eq)]
+#[non_exhaustive]
+pub struct Why {
+    /// What the library answers.
+    pub refusal: Refusal,
+    /// The block, counted from 0.
+    pub block: Option<usize>,
+    /// The node, counted from 0.
+    pub node: Option<usize>,
+    /// The field's name.
+    pub field: Option<&'static str>,
+    kind: Option<&'static str>,
+    words: String,
+}
+
+/// What is wrong with a field, before it is known whose.
+pub(crate) struct Fault {
+    pub field: &'static str,
+    pub words: String,
+}
+
+impl Fault {
+    pub fn new(field: &'static str, words: String) -> Option<Fault> {
+        Some(Fault { field, words })
+    }
+}
+
+impl Why {
+    /// Of the file as a whole.
+    pub(crate) fn of_file(refusal: Refusal, words: &str) -> Why {
+        Why { refusal, block: None, node: None, field: None, kind: None, words: words.into() }
+    }
+
+    pub(crate) fn of_block(refusal: Refusal, block: usize, fault: Fault) -> Why {
+        Why { block: Some(block), field: Some(fault.field), ..Why::of_file(refusal, &fault.words) }
+    }
+
+    pub(crate) fn of_node(refusal: Refusal, node: usize, kind: u8, fault: Fault) -> Why {
+        let kind = kind::is_known(kind).then(|| kind::name(kind));
+        Why { node: Some(node), field: Some(fault.field), kind, ..Why::of_file(refusal, &fault.words) }
+    }
+
+    /// Of a rewrite of an accepted plan, 20 to 25: the node that was asked for, or the first one that the rule speaks of.
+    ///
+    /// ```
+    /// use sort_placement::{MOST_BYTES, Why, replace_with_partial_sort, text};
+    ///
+    /// let plan = text::parse("source streams=1 width=1").unwrap();
+    /// let refusal = replace_with_partial_sort(&plan.write(), 7, &mut [0; MOST_BYTES]).unwrap_err();
+    /// assert_eq!(Why::of_rewrite(refusal, &plan, Some(7)).to_string(), "refusal 20: there is no node 7, the last is 0");
+    /// ```
+    pub fn of_rewrite(refusal: Refusal, plan: &Plan, node: Option<u32>) -> Why {
+        let at = |number: usize, kind: u8, words: String| Why::of_node(refusal, number, kind, Fault { field: "", words });
+        let found = match (refusal, node) {
+            (Refusal::NoSuchNode, Some(node)) => {
+                Some(Why::of_file(refusal, &format!("there is no node {node}, the last is {}", plan.count() - 1)))
+            }
+            (Refusal::PartialSort, _) => {
+                first(plan, PARTIAL_SORT).map(|n| at(n, PARTIAL_SORT, "a tree with a partial sort is not rewritten".into()))
+            }
+            (Refusal::NothingToSort, Some(node)) => {
+                Some(at(node as usize, SORT, "its unbounded child already meets all its keys".into()))
+            }
+            (Refusal::ConstantSort, _) => {
+                constant_sort(plan).map(|(n, keys)| at(n, SORT, format!("its keys {keys} are all constant, and push meets it")))
+            }
+            _ => None,
+        };
+        Why { field: None, ..found.unwrap_or_else(|| Why::of_file(refusal, refusal.sentence())) }
+    }
+
+    /// The place and the rule, without the refusal's number.
+    pub fn words(&self) -> String {
+        let kind = self.kind.map(|k| format!(" ({k})")).unwrap_or_default();
+        match (self.block, self.node) {
+            (Some(block), _) => format!("block {block}: {}", self.words),
+            (_, Some(node)) => format!("node {node}{kind}: {}", self.words),
+            _ => self.words.clone(),
+        }
+    }
+}
+
+/// The first node of a kind.
+fn first(plan: &Plan, kind: u8) -> Option<usize> {
+    plan.root().walk().position(|(_, n)| n.record.kind == kind)
+}
+
+/// The first sort whose keys its child's facts make constant.
+fn constant_sort(plan: &Plan) -> Option<(usize, String)> {
+    let facts = of_tree(plan.root());
+    // a sort's child is the next node
+    let mut sorts = plan.root().walk().enumerate().filter(|(_, (_, n))| n.record.kind == SORT);
+    let found = sorts.find(|(i, (_, n))| facts[i + 1].normal(&n.record.keys).is_empty());
+    found.map(|(i, (_, n))| (i, keys_text(&n.record.keys)))
+}
+
+impl fmt::Display for Why {
+    fn fmt(&self, f: &mut fmt::Formatter) -> fmt::Result {
+        write!(f, "refusal {}: {}", self.refusal.number(), self.words())
+    }
+}
+
+impl std::error::Error for Why {}

@@ -1,0 +1,98 @@
+//! Long, deep and endless inputs, and outputs that nobody takes: an answer or an error, and no panic.
+mod common;
+
+use common::*;
+use std::process::Stdio;
+
+#[test]
+fn a_long_text_is_read_whole() {
+    // some 20 kB: more than a plan file may have
+    let remark = "# the survey's own words\n".repeat(800);
+    let plan = format!("{remark}merge keys=0\n{remark}  source streams=2 width=1\n");
+    assert!(plan.len() > 9_217);
+    let file = run(&["make"], plan.as_bytes());
+    assert_eq!(text(&run(&["show"], &file.stdout)), "merge keys=0al\n  source streams=2 width=1\n");
+    assert!(text(&run(&["try", "ensure"], plan.as_bytes())).contains("2 2 source 2 - -"));
+}
+
+#[test]
+fn a_text_past_its_bound_is_told() {
+    let long = vec![b'#'; (1 << 20) + 1];
+    for args in [&["make"][..], &["try", "ensure"]] {
+        assert_eq!(told(&run(args, &long), 2), "the text is longer than 1 MiB, 1048576 bytes\n");
+        assert_eq!(run(args, &long[..1 << 20]).status.code(), Some(2));
+    }
+    let many = "source streams=1 width=1\n".repeat(127);
+    assert_eq!(told(&run(&["make"], many.as_bytes()), 2), "line 127, column 1: a plan has at most 126 nodes\n");
+}
+
+#[test]
+fn a_deep_text_is_told() {
+    let deep: String = (0..1_000).map(|i| format!("{:1$}filter\n", "", 2 * i)).collect();
+    assert_eq!(told(&run(&["make"], deep.as_bytes()), 2), "line 127, column 253: a plan has at most 126 nodes\n");
+    // 12,000 deep is longer than a text may be
+    let deeper: String = (0..12_000).map(|i| format!("{:1$}filter\n", "", 2 * i)).collect();
+    assert_eq!(told(&run(&["try", "ensure"], deeper.as_bytes()), 2), "the text is longer than 1 MiB, 1048576 bytes\n");
+}
+
+#[test]
+fn what_is_no_text_is_told() {
+    assert_eq!(told(&run(&["make"], b"filter\n  \xff"), 2), "standard input: line 2: not a text in UTF-8\n");
+}
+
+/// Half a gigabyte that takes no room on the disk; a process that may have 100 MB of memory refuses it by its length.
+#[test]
+fn a_large_file_is_not_read_whole() {
+    let path = std::env::temp_dir().join(format!("sort_placement-large-{}", std::process::id()));
+    std::fs::File::create(&path).and_then(|f| f.set_len(500 << 20)).expect("a sparse file");
+    let program = env!("CARGO_BIN_EXE_sort_placement");
+    for (words, wanted) in [
+        ("ensure", "refusal 1: the file is longer than 18 blocks, 9216 bytes\n"),
+        ("list", "refusal 1: the file is longer than 18 blocks, 9216 bytes\n"),
+        ("make", "the text is longer than 1 MiB, 1048576 bytes\n"),
+    ] {
+        let line = format!("ulimit -v 100000; exec {program} {words} {}", path.display());
+        let output = std::process::Command::new("sh").args(["-c", &line]).output().expect("sh");
+        assert_eq!(String::from_utf8_lossy(&output.stderr), wanted);
+    }
+    std::fs::remove_file(&path).expect("it goes");
+}
+
+#[test]
+fn an_endless_input_is_cut() {
+    let output = command().arg("ensure").stdin(std::fs::File::open("/dev/zero").expect("zeros")).output().expect("it ends");
+    assert_eq!(told(&output, 3), "refusal 1: the file is longer than 18 blocks, 9216 bytes\n");
+}
+
+/// A pipe that nobody reads.
+fn closed_pipe() -> std::io::PipeWriter {
+    std::io::pipe().expect("a pipe").1
+}
+
+/// The status stays what it is where nobody reads the output.
+#[test]
+fn a_closed_pipe_is_no_failure() {
+    for (args, status) in
+        [(&["try", "ensure", SAMPLE][..], 0), (&["make", SAMPLE], 0), (&["--help"], 0), (&["try", "check", SAMPLE], 1)]
+    {
+        let ended = command().args(args).stdout(closed_pipe()).stderr(Stdio::piped()).output().expect("it ends");
+        assert_eq!((ended.status.code(), ended.stderr.as_slice()), (Some(status), &b""[..]), "{args:?}");
+    }
+}
+
+#[test]
+fn a_closed_standard_error_is_no_panic() {
+    let ended = command().arg("frobnicate").stdout(closed_pipe()).stderr(closed_pipe()).output().expect("it ends");
+    assert_eq!(ended.status.code(), Some(2));
+}
+
+#[test]
+fn a_full_disk_is_told() {
+    let full = std::fs::OpenOptions::new().write(true).open("/dev/full").expect("a full disk");
+    let output = command().args(["make", SAMPLE]).stdout(full).stderr(Stdio::piped()).output().expect("it ends");
+    assert_eq!(told(&output, 4), "standard output: No space left on device (os error 28)\n");
+    let output = run(&["make", SAMPLE, "-o", "/dev/full"], b"");
+    assert_eq!(told(&output, 4), "/dev/full: No space left on device (os error 28)\n");
+    let output = run(&["list", "/no/such/file"], b"");
+    assert_eq!(told(&output, 4), "/no/such/file: No such file or directory (os error 2)\n");
+}
