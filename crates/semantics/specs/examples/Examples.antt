@@ -15,7 +15,7 @@ use Rattle.plan.specs.declared.JoinType.the-variants.{Inner, Left, Right, Full,
 use Rattle.plan.specs.declared.Distribution.the-variants.{Unspecified, Single, Keyed}
 use Rattle.plan.specs.declared.Fetch.the-variants.{Unlimited, AtMost}
 use Rattle.semantics.specs.Facts.{Facts, isNil, counts, keepsOrder, at0, facts}
-use Rattle.semantics.specs.Properties.{wanted, cuts, maintains, supportsLimitPushdown, cardinalityEqual, endless, endlessOp, distOf, simpleOp}
+use Rattle.semantics.specs.Properties.{wanted, cuts, maintains, supportsLimitPushdown, cardinalityEqual, endless, endlessOp, distOf, singles, simpleOp}
 use Rattle.semantics.specs.Check.{check}
 use Rattle.semantics.specs.Joins.{sql}
 use Rattle.semantics.specs.Runs.{cutRows, zipLeft, zipRight}
@@ -160,6 +160,10 @@ pub unbounded-kinds : map (λ o. endlessOp o (false ∷ true ∷ [])) kinds ≡ 
     ∷ true ∷ true ∷ true ∷ []
 unbounded-kinds = refl
 
+-- where the children are bounded, only a source can be unbounded. not: a sort, a union or a join begins rows without end
+pub bounded-kinds : (map (λ o. endlessOp o (false ∷ false ∷ [])) kinds ≡ map (λ o. false) kinds) × (endlessOp (sourceOf 2 1 0 [] true) [] ≡ true)
+bounded-kinds = (refl, refl)
+
 -- a limit bounds; kind 13 does not, whatever its fetch
 pub unbounded : (endless (tree filter (scan [] true none) none) ≡ true ∷ [])
     × (endless (tree (localLimit (AtMost 1) []) (scan [] true none) none) ≡ false ∷ [])
@@ -174,3 +178,8 @@ pub distributions :
     ∷ Unspecified ∷ Keyed 1 ∷ Single ∷ Single ∷ Single ∷ Unspecified ∷ [])
     × (map (λ o. distOf o 0) (sortOp true (up 0 ∷ []) Unlimited ∷ partialSort true (up 0 ∷ up 1 ∷ []) 1 Unlimited ∷ []) ≡ Unspecified ∷ Unspecified ∷ [])
 distributions = (refl, refl, refl, refl)
+
+-- of which of these a single stream is wanted. not: keyed streams count as one
+pub single-kinds : map (λ o. singles o 0) kinds ≡ false ∷ false ∷ false ∷ false ∷ false ∷ false ∷ true ∷ false ∷ true ∷ false ∷ false ∷ true ∷ true ∷ true
+    ∷ false ∷ []
+single-kinds = refl

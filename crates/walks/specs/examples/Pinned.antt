@@ -17,6 +17,8 @@ use Rattle.plan.specs.declared.Fetch.the-variants.{AtMost, Unlimited}
 use Rattle.plan.specs.declared.JoinType.the-variants.{Inner, LeftSemi}
 use Rattle.plan.specs.declared.Refusal.the-variants.{AllKeysMet, HasPartialSort, TooManyNodes}
 use Rattle.semantics.specs.examples.Examples.{kinds}
+use Rattle.walks.specs.Marks.{bare, node, opT, strip, Tree}
+use Rattle.walks.specs.OrderPreserving.{planWithOrderBreakingVariants}
 use Rattle.walks.specs.Counted.{answered, ensured, parallelized, partiallySorted, preserved, pushed, refused}
 use Rattle.walks.specs.Terms.{_⊕_, clear, clearOp}
 use Rattle.walks.specs.examples.Samples.{besides, byTwo, endlessSrc, filtered, on, output, pair, settings, single, sort, sortEach, src, stack}
@@ -263,6 +265,13 @@ probed p = on (hashJoin Inner (record { key = up 1; other = 1 } ∷ [])) (src 1 
 pub preserve-second-child : preserved (settings true false false) (sortEach 3 (probed false)) ≡ answered (probed true)
 preserve-second-child = refl
 
+-- not: the path is cut at a repartition that does not maintain
+abbrev spreadTwice : Bool → Plan
+spreadTwice p = spread p (on (repartition p 3 false []) (src 2 (by 0)))
+
+pub preserve-path : preserved (settings true false false) (sortEach 0 (spreadTwice false)) ≡ answered (spreadTwice true)
+preserve-path = refl
+
 -- a fetched coalesce carries no connection, so that even a sort by a constant stays over it; one without a fetch does
 abbrev constantSorted : Fetch → Plan
 constantSorted f = sort 0 (on (coalesce f) (tree (sourceOf 3 2 1 (by 1) false) none none))
@@ -293,6 +302,22 @@ cutOff = stack (sortOp true (by 1) Unlimited ∷ sortOp false (byTwo 1 0) Unlimi
 
 pub preserve-cut : preserved (settings false false false) cutOff ≡ answered cutOff
 preserve-cut = refl
+
+-- plan_with_order_breaking_variants, whose result reaches no answer: the plan of what it makes of a tree. not: it goes on below a node that does not
+-- maintain, or whose own wanted order is met, a merge's excepted; it stops at a node that wants nothing, or whose wanted order is not met
+abbrev broken : Op → Plan
+broken o = let t : Tree = planWithOrderBreakingVariants (node o false (bare (on (roundRobin true) (src 2 (by 0))))) in tree (opT t) (strip (t .kids)) none
+
+abbrev overSpread : Op → Bool → Plan
+overSpread o p = on o (on (roundRobin p) (src 2 (by 0)))
+
+pub breaking :
+    (broken (mergeOp (by 0) Unlimited) ≡ overSpread (coalesce Unlimited) false)
+    × (broken filter ≡ overSpread filter false)
+    × (broken (outputRequirement (by 1) Unspecified Unlimited) ≡ overSpread (outputRequirement (by 1) Unspecified Unlimited) false)
+    × (broken (outputRequirement (by 0) Unspecified Unlimited) ≡ overSpread (outputRequirement (by 0) Unspecified Unlimited) true)
+    × (broken (sortOp true (by 1) Unlimited) ≡ overSpread (sortOp true (by 1) Unlimited) true)
+breaking = (refl, refl, refl, refl, refl)
 
 -- ---- partial sorting
 -- mark, keys and fetch stay
