@@ -265,6 +265,13 @@ probed p = on (hashJoin Inner (record { key = up 1; other = 1 } ∷ [])) (src 1 
 pub preserve-second-child : preserved (settings true false false) (sortEach 3 (probed false)) ≡ answered (probed true)
 preserve-second-child = refl
 
+-- not: a repartition that maintains initiates a connection too: no order is lost there, and the sort stays, needless as it is
+abbrev keptOrder : Plan
+keptOrder = sortEach 0 (on (roundRobin false) (src 1 (by 0)))
+
+pub preserve-maintained : preserved (settings true true true) keptOrder ≡ answered keptOrder
+preserve-maintained = refl
+
 -- not: the path is cut at a repartition that does not maintain
 abbrev spreadTwice : Bool → Plan
 spreadTwice p = spread p (on (repartition p 3 false []) (src 2 (by 0)))
