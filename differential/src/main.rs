@@ -145,6 +145,13 @@ mod tests {
     }
 
     #[test]
+    fn replays_cases_agree() {
+        super::silence_the_rust();
+        let repository = std::path::Path::new(env!("CARGO_MANIFEST_DIR")).parent().expect("the repository");
+        assert!(super::vectors::run_cases(&repository.join("crates/replay/data/cases")));
+    }
+
+    #[test]
     fn vectors_agree() {
         super::silence_the_rust();
         let package = std::path::Path::new(env!("CARGO_MANIFEST_DIR"));

@@ -13,8 +13,10 @@ const COLUMN: &str = "all keys and projections are columns";
 const KEEPS_LEFT: &str = "only an inner join has equal columns on both sides, and it keeps left";
 const ONE_CHILD: &str = "those nodes have one child, and its columns";
 
-/// Mutations that change no answer: where, the word that is replaced, and why.
-const EQUAL: [(&str, &[usize], &str, &str); 11] = [
+const NO_ORDER_PASSES: &str = "a coalesce does not maintain, so that no order is pushed past it, with a fetch or without";
+
+/// Mutants that change no answer: where, the word that is replaced or the name, and why.
+const EQUAL: [(&str, &[usize], &str, &str); 13] = [
     ("mod.rs", &[409, 474, 480, 538, 736, 752, 772, 801, 802], "'false'", MARK),
     ("mod.rs", &[447], "'true'", MARK),
     ("replace_with_order_preserving_variants.rs", &[90, 110, 130, 189, 208, 280], "'false'", MARK),
@@ -26,6 +28,8 @@ const EQUAL: [(&str, &[usize], &str, &str); 11] = [
     ("sort_pushdown.rs", &[797], "'>='", KEEPS_LEFT),
     ("sort_pushdown.rs", &[800], "'true'", KEEPS_LEFT),
     ("sort_pushdown.rs", &[835, 839, 1094], "'a", COLUMN),
+    ("operators.rs", &[135], "a coalesce takes no limits", NO_ORDER_PASSES),
+    ("operators.rs", &[141], "a coalesce changes the number of rows", NO_ORDER_PASSES),
 ];
 
 /// Whether a mutation is judged to change no answer.
@@ -109,15 +113,15 @@ struct Figures {
 }
 
 impl Figures {
-    /// Counts a mutant that was noticed by plans or by cases, or by neither, and tells it.
-    fn count(&mut self, mutant: usize, by_plans: bool, by_cases: Option<bool>) {
-        let yes = |b: bool| if b { "noticed" } else { "not noticed" };
-        let cases = by_cases.map_or(String::new(), |c| format!(", by replay's cases {}", yes(c)));
-        println!("{}: by the plans {}{cases}", name(mutant), yes(by_plans));
+    /// Counts a mutant that was noticed by plans, by so many cases, or by neither, and tells it.
+    fn count(&mut self, mutant: usize, by_plans: bool, by_cases: Option<usize>) {
+        let cases = by_cases.map_or(String::new(), |n| format!(", by {n} of replay's cases"));
+        println!("{}: {} by the plans{cases}", name(mutant), if by_plans { "noticed" } else { "not noticed" });
+        let is_noticed = by_cases.is_some_and(|n| n > 0);
         self.by_plans += by_plans as usize;
-        self.by_cases += (by_cases == Some(true)) as usize;
-        self.by_plans_alone += (by_plans && by_cases == Some(false)) as usize;
-        if !by_plans && by_cases != Some(true) {
+        self.by_cases += is_noticed as usize;
+        self.by_plans_alone += (by_plans && by_cases == Some(0)) as usize;
+        if !by_plans && !is_noticed {
             if is_equal(mutant) { self.equal += 1 } else { self.left += 1 }
         }
     }
@@ -146,7 +150,7 @@ pub fn run(plans: u64, seed: u64, from: u64, cases: Option<&Path>, kept: bool) -
             continue;
         };
         let on_plans = !noticed(&program, &plan_requests, &by_plans, 1).is_empty();
-        let on_cases = case_requests.as_ref().zip(by_cases.as_ref()).map(|(r, w)| !noticed(&program, r, w, 1).is_empty());
+        let on_cases = case_requests.as_ref().zip(by_cases.as_ref()).map(|(r, w)| noticed(&program, r, w, usize::MAX).len());
         figures.count(mutant, on_plans, on_cases);
     }
     figures.print(plans, cases.is_some());

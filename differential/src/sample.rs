@@ -73,12 +73,15 @@ fn asked(name: &str, requests: impl Iterator<Item = Request>) -> Asked {
     Asked::new(Requests::Cases(path))
 }
 
+/// A plan of more nodes is left as it is: the smallest that notices a mutant is large if the mutant is about the number of nodes.
+const MOST_SHRUNK: usize = 40;
+
 /// A smaller request that the mutant answers otherwise too.
 fn shrunk(program: &Path, request: Request) -> Request {
     let on = |tree: &Node| Request { file: plan::write(tree), ..request.clone() };
     let first = |trees: &[Node]| asked("shrinking", trees.iter().map(on)).noticed(program, 1).first().copied();
     let tree = plan::read(&request.file).expect("a plan");
-    on(&shrink::shrink_by(tree, &first))
+    if tree.count() > MOST_SHRUNK { request } else { on(&shrink::shrink_by(tree, &first)) }
 }
 
 /// The least that are to notice a mutant; where fewer small plans do, the plans of a comparison are made smaller.
