@@ -73,4 +73,5 @@ def main(folder, out, whole):
                     f.write(written(case))
 
 
-main(sys.argv[1], sys.argv[2], len(sys.argv) > 3)
+if __name__ == "__main__":
+    main(sys.argv[1], sys.argv[2], len(sys.argv) > 3)

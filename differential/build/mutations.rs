@@ -1,12 +1,20 @@
 //! Small mutations of the Rust's text: a condition turned, a branch's answer turned, a bound moved, a fetch dropped.
 use crate::tokens::{Token, tokens};
 
-pub struct Mutation {
+/// A part of a file's text, and what takes its place.
+pub struct Edit {
+    pub file: String,
     pub at: usize,
     pub length: usize,
     pub instead: String,
+}
+
+/// A mutant: where its first edit stands, what it is, and its edits.
+pub struct Mutant {
+    pub file: String,
     pub line: usize,
     pub what: String,
+    pub edits: Vec<Edit>,
 }
 
 /// What no plan file reaches: windows, and (below) the rule that adds and removes output requirements.
@@ -44,7 +52,7 @@ fn replacement<'a>(before: &str, token: &Token, after: &str) -> Option<&'a str> 
     }
 }
 
-pub fn mutations(file: &str, source: &str) -> Vec<Mutation> {
+pub fn mutants(file: &str, source: &str) -> Vec<Mutant> {
     if file == "output_requirements.rs" {
         return vec![];
     }
@@ -60,7 +68,8 @@ pub fn mutations(file: &str, source: &str) -> Vec<Mutation> {
         let line = source[..token.at].matches('\n').count();
         let text = source.lines().nth(line).unwrap_or("").trim();
         let what = format!("'{}' by '{instead}' in: {text}", token.text);
-        out.push(Mutation { at: token.at, length: token.text.len(), instead: instead.into(), line: line + 1, what });
+        let edit = Edit { file: file.into(), at: token.at, length: token.text.len(), instead: instead.into() };
+        out.push(Mutant { file: file.into(), line: line + 1, what, edits: vec![edit] });
     }
     out
 }

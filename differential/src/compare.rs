@@ -10,14 +10,16 @@ use std::sync::Mutex;
 use std::sync::atomic::{AtomicU64, Ordering::Relaxed};
 use std::time::Instant;
 
+/// Of one call: requests, of them held against the library, refusals by number, panics.
+type Answered = (u64, u64, BTreeMap<u32, u64>, u64);
+
 #[derive(Default)]
 pub struct Figures {
     plans: u64,
     nodes: u64,
     /// plans that have an aggregate
     grouped: u64,
-    /// by call: requests, of them held against the library, refusals by number, panics
-    calls: BTreeMap<&'static str, (u64, u64, BTreeMap<u32, u64>, u64)>,
+    calls: BTreeMap<&'static str, Answered>,
     changed: BTreeMap<&'static str, u64>,
     outside: BTreeMap<&'static str, u64>,
     inside: u64,
@@ -215,7 +217,7 @@ pub fn run(plans: u64, seconds: u64, seed: u64, threads: u64) -> bool {
             if from >= plans || start.elapsed().as_secs() >= seconds {
                 break;
             }
-            if from % (100 * PART) == 0 {
+            if from.is_multiple_of(100 * PART) {
                 eprintln!("{from} plans, {:.0} seconds", start.elapsed().as_secs_f64());
             }
             (from..(from + PART).min(plans)).for_each(|i| one(seed, i, &mut figures, &differed));

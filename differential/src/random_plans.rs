@@ -338,6 +338,35 @@ pub fn plan_with(rng: &mut Rng, aggregates: bool) -> Node {
     }
 }
 
+/// Puts above some node a projection that shows a column twice, so that columns are equal.
+fn with_equal_columns(rng: &mut Rng, mut plan: Node) -> Node {
+    let at = rng.below(plan.count());
+    let node = plan.at_mut(at).expect("a node");
+    let width = node.width();
+    let columns = (0..width).map(|_| rng.below(width.min(2)) as u8).collect();
+    let record = Record { width: width as u8, columns, ..Record::new(PROJECTION) };
+    *node = Node::new(record, vec![node.clone()]);
+    plan
+}
+
+/// A plan of a few nodes, in one block mostly, with equal and constant columns more often than others.
+pub fn small_plan(rng: &mut Rng) -> Node {
+    let s = Style {
+        most_width: rng.pick(&[2, 3, 3]),
+        fetches: rng.pick(&[3, 20]),
+        constants: rng.pick(&[2, 6, 1000]),
+        unbounded: rng.pick(&[2, 6]),
+        ..style(rng, true)
+    };
+    let size = 2 + rng.below(6);
+    let plan = plan_of(rng, &s, size);
+    match rng.below(12) {
+        0 => with_partial_sort(rng, &s, plan),
+        1..=4 => with_equal_columns(rng, plan),
+        _ => plan,
+    }
+}
+
 /// A plan of about that many nodes, without partial sorts.
 pub fn plan_of_size(rng: &mut Rng, nodes: usize, aggregates: bool) -> Node {
     let s = style(rng, aggregates);

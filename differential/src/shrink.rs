@@ -61,9 +61,17 @@ fn smaller(plan: &Node) -> Vec<Node> {
 }
 
 pub fn shrink(plan: Node, fails: &dyn Fn(&Node) -> bool) -> Node {
+    shrink_by(plan, &|plans| plans.iter().position(fails))
+}
+
+/// The same, with a test that gives the first of many plans of which it holds.
+pub fn shrink_by(plan: Node, first: &dyn Fn(&[Node]) -> Option<usize>) -> Node {
     let mut best = plan;
-    while let Some(next) = smaller(&best).into_iter().find(|p| plan::read(&plan::write(p)).is_ok() && fails(p)) {
-        best = next;
+    loop {
+        let mut plans: Vec<Node> = smaller(&best).into_iter().filter(|p| plan::read(&plan::write(p)).is_ok()).collect();
+        match first(&plans) {
+            Some(i) => best = plans.swap_remove(i),
+            None => return best,
+        }
     }
-    best
 }

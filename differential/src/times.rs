@@ -143,7 +143,7 @@ fn lines(rows: &Rows) -> Vec<Line> {
 }
 
 /// Prints the tables, and draws the plot.
-pub fn run(svg: Option<&str>, aggregates: bool) {
+pub fn run(svg: Option<&std::path::Path>, aggregates: bool) {
     let rows = measure(aggregates);
     println!("Microseconds a call by the number of nodes: library / Rust (how many times as long)");
     table("The Rust from file to file:", &rows, |t| Some(t.whole));

@@ -1,6 +1,8 @@
-//! Replays a folder of requests with their answers through the Rust over the stand-ins, and through the library.
+//! Replays requests with their answers, a folder of vectors or the cases of the program `replay`, through the Rust over the stand-ins
+//! and through the library.
+use crate::cases::{self, Case, Request};
 use crate::library;
-use crate::rust_side::{self, Answer};
+use crate::rust_side::Answer;
 use sort_placement::exports::Call;
 use std::collections::BTreeMap;
 use std::path::Path;
@@ -11,12 +13,6 @@ const HOLD: [&str; 8] = ["check", "ensure", "parallelize", "preserve", "push", "
 fn bytes_of(hex: &str) -> Vec<u8> {
     let digit = |c: u8| (c as char).to_digit(16).expect("a hex digit") as u8;
     if hex == "-" { vec![] } else { hex.as_bytes().chunks(2).map(|d| digit(d[0]) << 4 | digit(d[1])).collect() }
-}
-
-struct Request {
-    call: Call,
-    room: usize,
-    file: Vec<u8>,
 }
 
 fn request(line: &str) -> Request {
@@ -59,41 +55,58 @@ fn print(figures: &BTreeMap<&str, Figures>) {
     }
 }
 
-/// Whether all agree.
+/// Holds both sides to a case.
+fn hold(case: &Case, place: &str, figures: &mut BTreeMap<&str, Figures>) {
+    let f = figures.entry(case.request.call.name()).or_default();
+    let tell = |who: &str, got: &Answer, differs: &mut usize| {
+        if (got.number, &got.bytes) != (case.number, &case.bytes) {
+            *differs += 1;
+            println!("{place}: {} gives {}, the case {}", who, got.number, case.number);
+        }
+    };
+    let rust = case.request.answer();
+    f.requests += 1;
+    f.panics += rust.panicked as usize;
+    tell("the Rust", &rust, &mut f.rust_differs);
+    match library::answer(case.request.call, &case.request.file, case.request.room) {
+        None => {}
+        Some(Ok(got)) => {
+            f.library += 1;
+            tell("the library", &got, &mut f.library_differs);
+        }
+        Some(Err(why)) => {
+            f.library_differs += 1;
+            println!("{place}: {why}");
+        }
+    }
+}
+
+fn agree(figures: &BTreeMap<&str, Figures>) -> bool {
+    assert!(!figures.is_empty(), "no cases there");
+    print(figures);
+    figures.values().all(|f| f.rust_differs + f.library_differs == 0)
+}
+
+/// Whether both sides agree with all vectors of a folder.
 pub fn run(folder: &Path) -> bool {
     let mut figures: BTreeMap<&str, Figures> = BTreeMap::new();
     for path in HOLD.map(|name| folder.join(name).with_extension("txt")).iter().filter(|p| p.exists()) {
         let text = std::fs::read_to_string(path).expect("a text");
         let lines: Vec<&str> = text.lines().collect();
         for (i, case) in lines.chunks(2).enumerate() {
-            let r = request(case[0]);
-            let want = expected(r.call, case[1]);
-            let f = figures.entry(r.call.name()).or_default();
-            let place = format!("{}:{}", path.display(), 2 * i + 1);
-            let tell = |who: &str, got: &Answer, differs: &mut usize| {
-                if (got.number, &got.bytes) != (want.0, &want.1) {
-                    *differs += 1;
-                    println!("{place}: {} gives {}, the vector {}", who, got.number, want.0);
-                }
-            };
-            let rust = rust_side::answer(r.call, &r.file, r.room);
-            f.requests += 1;
-            f.panics += rust.panicked as usize;
-            tell("the Rust", &rust, &mut f.rust_differs);
-            match library::answer(r.call, &r.file, r.room) {
-                None => {}
-                Some(Ok(got)) => {
-                    f.library += 1;
-                    tell("the library", &got, &mut f.library_differs);
-                }
-                Some(Err(why)) => {
-                    f.library_differs += 1;
-                    println!("{place}: {why}");
-                }
-            }
+            let request = request(case[0]);
+            let (number, bytes) = expected(request.call, case[1]);
+            hold(&Case { request, number, bytes }, &format!("{}:{}", path.display(), 2 * i + 1), &mut figures);
         }
     }
-    assert!(!figures.is_empty(), "no vectors there");
-    print(&figures);
-    figures.values().all(|f| f.rust_differs + f.library_differs == 0)
+    agree(&figures)
+}
+
+/// Whether both sides agree with all cases of replay.
+pub fn run_cases(path: &Path) -> bool {
+    let mut figures: BTreeMap<&str, Figures> = BTreeMap::new();
+    for (i, case) in cases::read(path).iter().enumerate() {
+        hold(case, &format!("case {i}"), &mut figures);
+    }
+    agree(&figures)
 }

@@ -1,6 +1,5 @@
-// Replays the cases of data/cases (made by tools/sample_vectors.py, tools/paired_refusals.py and tools/aggregate_refusals.py) and compares each answer with
-// the one that the case gives: the number, and every byte of the output that was lent. A case is a header of 20 bytes, then the plan file, then the file
-// that the call is to write.
+// Replays the cases of data/cases (made by tools/replay_cases.py) and compares each answer with the one that the case gives: the number, and every byte of
+// the output that was lent. A case is a header of 20 bytes, then the plan file, then the file that the call is to write.
 use libc::STDOUT_FILENO;
 
 // Longer than the longest file that a case holds, so that a file which is too long is read whole.

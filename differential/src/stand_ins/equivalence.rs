@@ -1,7 +1,7 @@
 //! Equivalence properties that answer by document 01's facts.
 use crate::Result;
 use crate::expr::*;
-use sort_placement::facts::Facts;
+use crate::facts::Facts;
 use std::cell::Cell;
 use std::sync::Arc;
 

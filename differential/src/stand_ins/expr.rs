@@ -1,5 +1,5 @@
 //! Expressions and lists of them. Keys are columns; requirements are single and hard.
-use sort_placement::facts::Key;
+use crate::facts::Key;
 use std::any::Any;
 use std::collections::HashSet;
 use std::fmt;

@@ -1,11 +1,22 @@
 //! Stand-ins for the crates that the Rust's files use. This one crate is linked under each of their names, so its modules are
 //! the union of theirs. A node's properties are document 01's facts and nothing else.
 mod absent;
+#[cfg(not(mutant))]
 mod equivalence;
+#[cfg(not(mutant))]
 mod expr;
+#[cfg(not(mutant))]
 mod operators;
+#[cfg(not(mutant))]
 mod plan;
+#[cfg(not(mutant))]
 pub mod tree_node;
+
+#[cfg(not(mutant))]
+use sort_placement::facts;
+// a mutant's copies of these six
+#[cfg(mutant)]
+include!(concat!(env!("OUT_DIR"), "/stand_ins.rs"));
 
 use std::sync::{Arc, LazyLock};
 

@@ -1,8 +1,8 @@
 //! The operators of the file's kinds. Each type is an `Operator`, a record over its children, with the Rust's constructors.
 use crate::Result;
 use crate::expr::*;
+use crate::facts;
 use crate::plan::*;
-use sort_placement::facts;
 use sort_placement::plan::{HASH, NO_FETCH, PRESERVE, Record, UNBOUNDED, kind::*};
 use std::ops::Deref;
 use std::sync::Arc;

@@ -1,10 +1,10 @@
 //! `ExecutionPlan` and what it speaks of. Of a node's properties only document 01's facts are held.
 use crate::equivalence::EquivalenceProperties;
 use crate::expr::*;
+use crate::facts::Facts;
 use crate::operators::{Operator, ProjectionExec};
 use crate::tree_node::TreeNodeRecursion;
 use crate::{Result, SchemaRef, schema_of};
-use sort_placement::facts::Facts;
 use std::any::Any;
 use std::fmt::{self, Debug};
 use std::sync::Arc;
