@@ -56,10 +56,26 @@ include!(concat!(env!("OUT_DIR"), "/optimizer.rs"));
 #[cfg(mutant)]
 include!(concat!(env!("OUT_DIR"), "/rust_side.rs"));
 
-/// The number after an option.
-fn option(args: &[String], name: &str, default: u64) -> u64 {
-    let value = args.iter().position(|a| a == name).and_then(|i| args.get(i + 1));
-    value.map_or(default, |v| v.parse().unwrap_or_else(|_| panic!("{name} {v}: no number")))
+/// The words of the command line.
+struct Options(Vec<String>);
+
+impl Options {
+    fn is_given(&self, name: &str) -> bool {
+        self.0.iter().any(|a| a == name)
+    }
+
+    /// The word after an option.
+    fn word(&self, name: &str) -> Option<&String> {
+        self.0.iter().position(|a| a == name).and_then(|i| self.0.get(i + 1))
+    }
+
+    fn number(&self, name: &str, default: u64) -> u64 {
+        self.word(name).map_or(default, |v| v.parse().unwrap_or_else(|_| panic!("{name} {v}: no number")))
+    }
+
+    fn path(&self, name: &str) -> Option<PathBuf> {
+        self.word(name).map(PathBuf::from)
+    }
 }
 
 /// Panics of the Rust are caught and compared, and not told.
@@ -72,52 +88,59 @@ fn silence_the_rust() {
     }));
 }
 
+/// The commands that have to do with mutants; whether all is well.
+fn on_mutants(command: &str, options: &Options) -> Option<bool> {
+    let (plans, seed, kept) = (options.number("--plans", 20_000), options.number("--seed", 1), options.is_given("--kept"));
+    match command {
+        "mutants" => Some(mutants::run(plans, seed, options.number("--from", 0), options.path("--cases").as_deref(), kept)),
+        "sample" => {
+            let (small, most) = (options.number("--small", 12_000), options.number("--most", 3_000) as usize);
+            sample::run(Path::new(options.0.get(1)?), &sample::Choice { small, seed, plans, most, kept });
+            Some(true)
+        }
+        "answers" => {
+            let cases = options.path("--cases").map(answers::Requests::Cases);
+            answers::print(&cases.unwrap_or(answers::Requests::Plans(plans, seed)));
+            Some(true)
+        }
+        _ => None,
+    }
+}
+
+/// Runs a command; whether both sides agreed. None if there is no such command.
+fn run(options: &Options) -> Option<bool> {
+    let number = |name: &str, default: u64| options.number(name, default);
+    let (words, aggregates) = (&options.0, !options.is_given("--without-aggregates"));
+    match words.first()?.as_str() {
+        "vectors" if words.len() == 2 => Some(vectors::run(Path::new(&words[1]))),
+        "cases" if words.len() == 2 => Some(vectors::run_cases(Path::new(&words[1]))),
+        "compare" => {
+            let (plans, seconds) = (number("--plans", 100_000), number("--seconds", u64::MAX));
+            Some(compare::run(plans, seconds, number("--seed", 1), number("--threads", 1)))
+        }
+        "show" if words.len() > 2 => Some(compare::show(&words[1..words.len() - 1], &words[words.len() - 1])),
+        "damage" => Some(damage::run(number("--files", 100_000), number("--seed", 1), options.is_given("--heap"))),
+        "threads" => Some(threads::run(number("--plans", 2_000), number("--seed", 1), number("--threads", 8))),
+        "times" => {
+            times::run(options.path("--svg").as_deref(), aggregates);
+            Some(true)
+        }
+        "requests" => {
+            requests::run(number("--plans", 2_000), number("--seed", 1), aggregates);
+            Some(true)
+        }
+        command => on_mutants(command, options),
+    }
+}
+
+const COMMANDS: &str = "vectors FOLDER | compare | show CALL TEXT | damage | threads | mutants | sample FILE | cases FILE | times | \
+                        requests, with options: see src/main.rs";
+
 fn main() {
     silence_the_rust();
-    let args: Vec<String> = std::env::args().skip(1).collect();
-    let number = |name: &str, default: u64| option(&args, name, default);
-    let is_given = |name: &str| args.iter().any(|a| a == name);
-    let path = |name: &str| args.iter().position(|a| a == name).and_then(|i| args.get(i + 1)).map(PathBuf::from);
-    let aggregates = !is_given("--without-aggregates");
-    let agreed = match args.first().map(String::as_str) {
-        Some("vectors") if args.len() == 2 => vectors::run(Path::new(&args[1])),
-        Some("compare") => {
-            let (plans, seconds) = (number("--plans", 100_000), number("--seconds", u64::MAX));
-            compare::run(plans, seconds, number("--seed", 1), number("--threads", 1))
-        }
-        Some("show") if args.len() > 2 => compare::show(&args[1..args.len() - 1], &args[args.len() - 1]),
-        Some("damage") => damage::run(number("--files", 100_000), number("--seed", 1), is_given("--heap")),
-        Some("threads") => threads::run(number("--plans", 2_000), number("--seed", 1), number("--threads", 8)),
-        Some("mutants") => {
-            let (plans, seed, from) = (number("--plans", 20_000), number("--seed", 1), number("--from", 0));
-            mutants::run(plans, seed, from, path("--cases").as_deref(), is_given("--kept"))
-        }
-        Some("sample") if args.len() > 1 => {
-            let (small, seed, plans) = (number("--small", 12_000), number("--seed", 1), number("--plans", 20_000));
-            let most = number("--most", 3_000) as usize;
-            sample::run(Path::new(&args[1]), &sample::Choice { small, seed, plans, most, kept: is_given("--kept") });
-            true
-        }
-        Some("cases") if args.len() == 2 => vectors::run_cases(Path::new(&args[1])),
-        Some("answers") => {
-            let plans = answers::Requests::Plans(number("--plans", 20_000), number("--seed", 1));
-            answers::print(&path("--cases").map_or(plans, answers::Requests::Cases));
-            true
-        }
-        Some("times") => {
-            times::run(path("--svg").as_deref(), aggregates);
-            true
-        }
-        Some("requests") => {
-            requests::run(number("--plans", 2_000), number("--seed", 1), aggregates);
-            true
-        }
-        _ => {
-            eprintln!(
-                "vectors FOLDER | compare | show CALL TEXT | damage | threads | mutants | sample FILE | cases FILE | times | requests, with options: see src/main.rs"
-            );
-            std::process::exit(2);
-        }
+    let Some(agreed) = run(&Options(std::env::args().skip(1).collect())) else {
+        eprintln!("{COMMANDS}");
+        std::process::exit(2);
     };
     #[cfg(feature = "branches")]
     let agreed = branches::print() && agreed;
