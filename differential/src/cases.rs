@@ -39,7 +39,7 @@ fn numbers(call: Call) -> Option<(u8, [u8; 3], u32)> {
         Call::Push => Some((3, [0; 3], 0)),
         Call::Partial(node) => Some((4, [0; 3], node)),
         Call::Check => Some((CHECK, [0; 3], 0)),
-        Call::Copy => None,
+        _ => None,
     }
 }
 

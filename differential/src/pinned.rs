@@ -1,7 +1,7 @@
 //! The list of pinned plans, as cases.
 use crate::cases::{Case, Request};
-use sort_placement::exports::Call;
-use sort_placement::plan::{self, BLOCK, MOST_BLOCKS};
+use sort_placement::exports::{ALL, Call};
+use sort_placement::plan::{BLOCK, MOST_BLOCKS};
 use sort_placement::text;
 
 const LIST: &str = include_str!("../pinned_plans.txt");
@@ -13,7 +13,7 @@ fn call<'a>(words: &'a [&'a str]) -> (Call, &'a [&'a str]) {
     match words[0] {
         "preserve" => (Call::Preserve([1, 2, 3].map(|at| number(at) as u8)), &words[4..]),
         "partial" => (Call::Partial(number(1)), &words[2..]),
-        _ => (Call::from_words(&[words[0].to_string()]).expect("a call"), &words[1..]),
+        name => (ALL.into_iter().find(|call| call.name() == name).expect("a call"), &words[1..]),
     }
 }
 
@@ -50,7 +50,7 @@ fn case(line: &str, plan: &str) -> Case {
     let words: Vec<&str> = line.split_whitespace().collect();
     let (call, behind) = call(&words);
     let tree = text::parse(&unrolled(plan)).unwrap_or_else(|why| panic!("{line}: {why}\n{plan}"));
-    let mut request = Request { call, room: if call == Call::Check { 1 } else { ROOM }, file: plan::write(&tree) };
+    let mut request = Request { call, room: if call == Call::Check { 1 } else { ROOM }, file: tree.write() };
     if call != Call::Check {
         request.room = room(behind, request.answer().bytes.len());
     }
