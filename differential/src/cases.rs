@@ -112,14 +112,14 @@ pub fn read(path: &Path) -> Vec<Case> {
 #[cfg(test)]
 mod tests {
     use super::*;
-    use sort_placement::{plan, text};
+    use sort_placement::text;
 
     #[test]
     fn what_is_written_is_read_again() {
         let tree = text::parse("merge keys=0\n  source streams=2 width=1").expect("a plan");
         for call in [Call::Ensure, Call::Preserve([2, 0, 255]), Call::Partial(7), Call::Check] {
             let room = if call == Call::Check { 1 } else { 700 };
-            let case = Case::of(Request { call, room, file: plan::write(&tree) }).expect("it is replayed");
+            let case = Case::of(Request { call, room, file: tree.write() }).expect("it is replayed");
             let bytes = case.written();
             let (again, length) = Case::read(&bytes);
             assert_eq!(length, bytes.len());
