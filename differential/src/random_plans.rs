@@ -1,34 +1,6 @@
 //! Random plans that documents 01 and 02 accept: all kinds, join types and settings, from 1 to 126 nodes.
 use sort_placement::plan::{HASH, MOST_NODES, NO_FETCH, Node, PRESERVE, Record, UNBOUNDED, kind::*};
-
-pub struct Rng(u64);
-
-impl Rng {
-    pub fn new(seed: u64, stream: u64) -> Rng {
-        let mut rng = Rng(seed.wrapping_mul(0xD134_2543_DE82_EF95).wrapping_add(stream));
-        rng.next();
-        rng
-    }
-
-    pub fn next(&mut self) -> u64 {
-        self.0 = self.0.wrapping_add(0x9E37_79B9_7F4A_7C15);
-        let z = (self.0 ^ self.0 >> 30).wrapping_mul(0xBF58_476D_1CE4_E5B9);
-        let z = (z ^ z >> 27).wrapping_mul(0x94D0_49BB_1331_11EB);
-        z ^ z >> 31
-    }
-
-    pub fn below(&mut self, n: usize) -> usize {
-        (self.next() >> 16) as usize % n
-    }
-
-    pub fn one_in(&mut self, n: usize) -> bool {
-        self.below(n) == 0
-    }
-
-    pub fn pick<T: Copy>(&mut self, of: &[T]) -> T {
-        of[self.below(of.len())]
-    }
-}
+pub use sort_placement::random::Rng;
 
 /// What the nodes of one plan have in common, so that orders meet more often than by chance.
 struct Style {

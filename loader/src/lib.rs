@@ -42,6 +42,10 @@ pub mod plan;
 #[allow(dead_code, unused_imports)]
 mod plan;
 
+#[cfg(feature = "records")]
+pub mod random;
+#[cfg(all(test, not(feature = "records")))]
+mod random;
 #[cfg(test)]
 mod random_plans;
 

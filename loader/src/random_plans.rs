@@ -2,34 +2,7 @@
 use crate::Plan;
 use crate::plan::kind::*;
 use crate::plan::{self, BLOCK, HASH, MOST_BLOCKS, NO_FETCH, Node, PRESERVE, Record, UNBOUNDED};
-
-/// SplitMix64.
-pub struct Rng(u64);
-
-impl Rng {
-    pub fn new(seed: u64) -> Rng {
-        Rng(seed.wrapping_mul(0xD134_2543_DE82_EF95))
-    }
-
-    pub fn next(&mut self) -> u64 {
-        self.0 = self.0.wrapping_add(0x9E37_79B9_7F4A_7C15);
-        let z = (self.0 ^ self.0 >> 30).wrapping_mul(0xBF58_476D_1CE4_E5B9);
-        let z = (z ^ z >> 27).wrapping_mul(0x94D0_49BB_1331_11EB);
-        z ^ z >> 31
-    }
-
-    pub fn below(&mut self, n: usize) -> usize {
-        (self.next() >> 16) as usize % n
-    }
-
-    pub fn one_in(&mut self, n: usize) -> bool {
-        self.below(n) == 0
-    }
-
-    pub fn pick<T: Copy>(&mut self, of: &[T]) -> T {
-        of[self.below(of.len())]
-    }
-}
+use crate::random::Rng;
 
 /// Distinct columns below a width, at least one.
 fn columns(rng: &mut Rng, width: usize, most: usize) -> Vec<u8> {
@@ -227,7 +200,7 @@ mod tests {
     #[test]
     fn every_kind_comes() {
         let mut seen = [false; 16];
-        let mut rng = Rng::new(1);
+        let mut rng = Rng::new(1, 0);
         for _ in 0..500 {
             plan(&mut rng).root().walk().for_each(|(_, n)| seen[n.record.kind as usize] = true);
         }

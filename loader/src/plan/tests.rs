@@ -1,13 +1,14 @@
 //! Refusals of files: the number is the library's, the place and the words are told.
 use super::*;
-use crate::random_plans::{Rng, damaged, plan};
+use crate::random::Rng;
+use crate::random_plans::{damaged, plan};
 use crate::{Plan, check_order, explain, text};
 use std::collections::BTreeMap;
 
 /// A hundred thousand damaged files: the number of an explanation is what the library answers.
 #[test]
 fn the_explained_number_is_the_librarys() {
-    let mut rng = Rng::new(7);
+    let mut rng = Rng::new(7, 0);
     let files: Vec<Vec<u8>> = (0..400).map(|_| plan(&mut rng).write()).collect();
     let mut seen: BTreeMap<u32, u32> = BTreeMap::new();
     for i in 0..100_000 {

@@ -1,7 +1,8 @@
 //! The text form: nothing is lost, and what is wrong has its place.
 use super::*;
 use crate::plan::kind::{JOIN_TYPES, NAMES};
-use crate::random_plans::{Rng, plan};
+use crate::random::Rng;
+use crate::random_plans::plan;
 use crate::{MOST_BYTES, Plan, check_order, copy_plan, draw, listing, unmet};
 
 fn wrong(text: &str) -> String {
@@ -10,7 +11,7 @@ fn wrong(text: &str) -> String {
 
 #[test]
 fn file_to_text_to_file_is_the_same() {
-    let mut rng = Rng::new(2);
+    let mut rng = Rng::new(2, 0);
     for _ in 0..5_000 {
         let file = plan(&mut rng).write();
         let shown = show(&Plan::read(&file).expect("a plan"));
@@ -171,7 +172,7 @@ fn a_refusal_says_its_line() {
 /// What takes a plan answers on every plan.
 #[test]
 fn views_of_a_plan_do_not_panic() {
-    let mut rng = Rng::new(3);
+    let mut rng = Rng::new(3, 0);
     for _ in 0..2_000 {
         let plan = plan(&mut rng);
         assert!(draw(&plan).ends_with("}\n"));
@@ -218,7 +219,7 @@ fn a_text_comes_back_in_normal_layout() {
 /// A text with some characters changed: a plan that comes back whole, or an error; never a panic.
 #[test]
 fn a_damaged_text_is_a_plan_or_an_error() {
-    let mut rng = Rng::new(4);
+    let mut rng = Rng::new(4, 0);
     let texts: Vec<String> = (0..100).map(|_| show(&plan(&mut rng))).collect();
     let (mut plans, mut errors) = (0, 0);
     for _ in 0..20_000 {
