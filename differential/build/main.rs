@@ -31,15 +31,17 @@ const OWN: [(&str, &str, &str); 7] = [
 
 const WRONG_DEFINITIONS: &str = "wrong_definitions.txt";
 
-/// OPTIMIZER_SOURCES, or the first folder shared/docs/src beside or above the repository.
+const HOW: &str = "set OPTIMIZER_SOURCES to the crate's folder, or to the src/ in it";
+
+/// The crate's src/: in OPTIMIZER_SOURCES, or that folder itself; else in the first folder shared/docs/src beside or above the
+/// repository.
 fn sources() -> PathBuf {
     println!("cargo:rerun-if-env-changed=OPTIMIZER_SOURCES");
-    if let Some(folder) = std::env::var_os("OPTIMIZER_SOURCES") {
-        return PathBuf::from(folder);
-    }
     let package = Path::new(env!("CARGO_MANIFEST_DIR"));
-    let found = package.ancestors().map(|a| a.join("shared/docs/src")).find(|f| f.exists());
-    found.expect("set OPTIMIZER_SOURCES to the folder that holds the crate's src/")
+    let near = || package.ancestors().map(|a| a.join("shared/docs/src")).find(|f| f.exists());
+    let folder = std::env::var_os("OPTIMIZER_SOURCES").map(PathBuf::from).or_else(near).expect(HOW);
+    let found = [folder.join("src"), folder.clone()].into_iter().find(|f| f.join("output_requirements.rs").exists());
+    found.unwrap_or_else(|| panic!("the files are not in {}: {HOW}", folder.display()))
 }
 
 fn place_of(file: &str) -> PathBuf {
@@ -103,7 +105,7 @@ fn main() {
     println!("cargo:rerun-if-env-changed=MUTANT");
     println!("cargo:rustc-check-cfg=cfg(mutant)");
     let out = PathBuf::from(std::env::var_os("OUT_DIR").expect("cargo"));
-    let mut src = sources().join("src");
+    let mut src = sources();
     let mut texts: BTreeMap<&str, String> = FILES.map(|f| (f, text(&src.join(place_of(f))))).into();
     texts.extend(OWN.map(|(_, file, folder)| (file, text(&Path::new(folder).join(file)))));
     let mut mutants: Vec<Mutant> = FILES.iter().flat_map(|f| mutations::mutants(f, &texts[f])).collect();

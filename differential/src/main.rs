@@ -39,6 +39,7 @@ mod shrink;
 mod small_plans;
 mod threads;
 mod times;
+mod usage;
 mod vectors;
 
 // the Rust's five files, where they stand, over the stand-ins
@@ -70,7 +71,7 @@ impl Options {
     }
 
     fn number(&self, name: &str, default: u64) -> u64 {
-        self.word(name).map_or(default, |v| v.parse().unwrap_or_else(|_| panic!("{name} {v}: no number")))
+        self.word(name).map_or(default, |v| v.parse().expect("a number: `usage` has asked"))
     }
 
     fn path(&self, name: &str) -> Option<PathBuf> {
@@ -133,15 +134,14 @@ fn run(options: &Options) -> Option<bool> {
     }
 }
 
-const COMMANDS: &str = "vectors FOLDER | compare | show CALL TEXT | damage | threads | mutants | sample FILE | cases FILE | times | \
-                        requests, with options: see src/main.rs";
-
 fn main() {
     silence_the_rust();
-    let Some(agreed) = run(&Options(std::env::args().skip(1).collect())) else {
-        eprintln!("{COMMANDS}");
+    let words: Vec<String> = std::env::args().skip(1).collect();
+    if let Some(wrong) = usage::wrong(&words) {
+        eprintln!("{wrong}");
         std::process::exit(2);
-    };
+    }
+    let agreed = run(&Options(words)).expect("a command");
     #[cfg(feature = "branches")]
     let agreed = branches::print() && agreed;
     std::process::exit(if agreed { 0 } else { 1 });
