@@ -82,7 +82,8 @@ fn damaged(rng: &mut Rng, file: &[u8]) -> Vec<u8> {
     copy
 }
 
-/// Whether all exports answered as documents 01 and 02 say. With `heap` the buffers are allocations of just their length, so that a
+/// Whether all exports answered as documents 01 and 02 say. A file is refused by `explain`, so that what the package says of a refused
+/// file is held to the library's number here. With `heap` the buffers are allocations of just their length, so that a
 /// memory checker sees a step outside.
 pub fn run(files: u64, seed: u64, heap: bool) -> bool {
     let calls: Vec<Call> = ALL.into_iter().filter(|c| c.is_present()).collect();
