@@ -1,11 +1,11 @@
--- A tree of the arena in node order: the numbers of the nodes still to come stand on a stack that grows down in w.
+-- A tree of the arena in node order, seven records at a time: the handles of the nodes still to come stand on a stack that grows down in w.
 use mathlib.Core.Path.{_≡_, refl, ap, ap₂, sym, _∙_}
 use mathlib.Core.List.{List, [], _∷_, _++_, append-assoc, append-nil}
-use Prim.Native.Nat.{ℕ, suc, _+_, _*_, _-_, _≤_, _<_}
+use Prim.Native.Nat.{ℕ, zero, suc, _+_, _*_, _-_, _≤_, _<_}
 use native.Mathlib.Omega.{arith}
 use native.Mathlib.Numerals.{add-one}
-use lib.ListN.{length, getD, take, drop, set, length-drop, length-set, drop-of-length-le}
-use lib.Seq.{drop-cons, drop-length, getD-set-same, drop-set-lt}
+use lib.ListN.{length, getD, take, drop, set, length-append, length-take, length-drop, length-set, drop-of-length-le}
+use lib.Seq.{drop-cons, drop-length, getD-set-same, drop-set-lt, length-take-le, take-at, drop-at, take-all}
 use Rattle.scan.specs.Bytes.{part, le16}
 use Rattle.scan.specs.Parts.{splice, splice-take, splice-length}
 use Rattle.plan.specs.Forest.{tree, size, nodes}
@@ -56,7 +56,7 @@ pushed-end ks t w₀ j top w h p =
     let b = p .here in
     (omega arith, p .are ∙ ap (λ (n : ℕ). drop n ks ++ drop t w₀) e)
 
--- ---- forests of numbers, node by node
+-- ---- forests of handles, node by node
 
 pub length-kids : (m : List ℕ) (k : ℕ) → length (slot m k .kids) ≡ children (slot m k .rec)
 unfolding slot
@@ -87,112 +87,140 @@ first-tree m u k ws g h =
     ap (λ i. beside (at leaf (trees (held m u)) i) (forest (trees (held m u)) ws)) (sym (index-even (index k)))
     ∙ ap (λ f. onto f (forest (trees (held m u)) ws)) (view m u (index k) g (omega arith) .tree)
 
+below-join : (b : ℕ) (x y : List ℕ) → Below b x → Below b y → Below b (x ++ y)
+below-join b [] y p q = q
+below-join b (c ∷ x) y p q = (p .0, below-join b x y (p .1) q)
+
+-- How many nodes the trees of some handles have, and their records in node order, one after the other
+abbrev pub nodeCount : List ℕ → ℕ → List ℕ → ℕ
+nodeCount m u hs = size (forest (trees (held m u)) hs)
+
+abbrev pub rowsOf : List ℕ → ℕ → List ℕ → List ℕ
+rowsOf m u hs = joined (nodes (forest (trees (held m u)) hs))
+
+-- The first node's record comes first; then its children stand in its place
+record Next (m : List ℕ) (u h : ℕ) (hs : List ℕ) : Type 0 where
+  pub fine : GoodNode (index h) (slot m (index h))
+  pub below : Below (2 * u) (slot m (index h) .kids ++ hs)
+  pub count : nodeCount m u (h ∷ hs) ≡ suc (nodeCount m u (slot m (index h) .kids ++ hs))
+  pub rows : rowsOf m u (h ∷ hs) ≡ slot m (index h) .rec ++ rowsOf m u (slot m (index h) .kids ++ hs)
+
+module _ (m : List ℕ) (u : ℕ) (g : Good (held m u)) where
+  next : (h : ℕ) (hs : List ℕ) → Below (2 * u) (h ∷ hs) → Next m u h hs
+  next h hs b =
+      let l = b .0 in
+      let v = view m u (index h) g (omega arith) .fine in
+      let ks : List ℕ = slot m (index h) .kids in
+      let f = first-tree m u h hs g l in
+      let s = ap size f in let a = size-append (trees (held m u)) ks hs in
+      record {
+        fine = v;
+        below = below-join (2 * u) ks hs (below-more ks (omega arith) (v .below)) (b .1);
+        count = omega arith;
+        rows = ap (λ t. joined (nodes t)) f ∙ ap (λ (x : List (List ℕ)). slot m (index h) .rec ++ joined x) (sym (nodes-append (trees (held m u)) ks hs));
+      }
+
+  pub length-rows : (n : ℕ) (hs : List ℕ) → nodeCount m u hs ≤ n → Below (2 * u) hs → length (rowsOf m u hs) ≡ 64 * nodeCount m u hs
+  unfolding forest
+  length-rows zero [] l b = refl
+  length-rows zero (h ∷ hs) l b = absurd (omega arith)
+  length-rows (suc n) [] l b = refl
+  length-rows (suc n) (h ∷ hs) l b =
+      let x = next h hs b in let c = x .count in let e = x .fine .long in
+      let r = length-rows n (slot m (index h) .kids ++ hs) (omega arith) (x .below) in
+      ap length (x .rows) ∙ length-append (slot m (index h) .rec) (rowsOf m u (slot m (index h) .kids ++ hs)) ∙ omega arith
+
 -- ---- the walk
 
--- What `flatten` asks: the tree of a handle i of the arena, with room for its records
-pub record Flattens (m : List ℕ) (u i room : ℕ) : Type 0 where
+-- What `write` asks: a tree of n nodes at the handle i
+pub record Flattens (m : List ℕ) (u i n : ℕ) : Type 0 where
   pub slots : u * slotSize ≤ length m
   pub good : Good (held m u)
   pub here : i < 2 * u
-  pub few : size (treeAt (held m u) i) ≤ 126
-  pub fits : 64 * size (treeAt (held m u) i) ≤ room
+  pub count : n ≡ size (treeAt (held m u) i)
+  pub few : n ≤ 126
 
--- n records are written, the rest is on the stack
-pub record Flat (m : List ℕ) (u i n t : ℕ) (w rs₀ rs : List ℕ) : Type 0 where
-  pub wide : length w ≡ 126
-  pub top : t ≤ 126
+-- The stack starts at t of w, which has room for every node still to come
+pub record Stack (m : List ℕ) (u t : ℕ) (w : List ℕ) : Type 0 where
+  pub slots : u * slotSize ≤ length m
+  pub good : Good (held m u)
+  pub top : t ≤ length w
   pub below : Below (2 * u) (drop t w)
-  pub left : n + size (forest (trees (held m u)) (drop t w)) ≡ size (treeAt (held m u) i)
-  pub long : length rs ≡ length rs₀
-  pub done : take (64 * n) rs ++ joined (nodes (forest (trees (held m u)) (drop t w))) ≡ joined (nodes (treeAt (held m u) i))
+  pub room : nodeCount m u (drop t w) ≤ length w
 
-module _ (m : List ℕ) (u i : ℕ) (rs₀ : List ℕ) (a : Flattens m u i (length rs₀)) where
-  pub flat-start : (w : List ℕ) → length w ≡ 126 → Flat m u i 0 125 (set w 125 i) rs₀ rs₀
-  unfolding forest
-  flat-start w l =
-      let e : drop 125 (set w 125 i) ≡ i ∷ [] = push-top w 126 i (omega arith) (omega arith) ∙ ap (λ (x : List ℕ). i ∷ x)
-      (ap (λ (n : ℕ). drop n w) (sym l) ∙ drop-length w) in
-      record {
-        wide = length-set w 125 i ∙ l;
-        top = omega arith;
-        below = rw e (a .here, tt);
-        left = rw e (omega arith);
-        long = refl;
-        done = rw e;
+-- c records of the rows L are taken, the others are on the stack
+pub record Taking (m : List ℕ) (u : ℕ) (L : List ℕ) (c t : ℕ) (w rs : List ℕ) : Type 0 where
+  pub few : c ≤ 7
+  pub long : length rs ≡ 448
+  pub stack : Stack m u t w
+  pub done : take (64 * c) rs ++ rowsOf m u (drop t w) ≡ L
+
+-- What `take_seven` leaves of the rows L: the first seven are taken, or all there are
+pub record Took (m : List ℕ) (u : ℕ) (L : List ℕ) (c t : ℕ) (w rs : List ℕ) : Type 0 where
+  pub few : c ≤ 7
+  pub stack : Stack m u t w
+  pub taken : take (64 * c) rs ≡ take 448 L
+  pub left : rowsOf m u (drop t w) ≡ drop 448 L
+
+module _ {m : List ℕ} {u t : ℕ} {w : List ℕ} (s : Stack m u t w) (h : t < length w) where
+  on-top : drop t w ≡ getD w t 0 ∷ drop (t + 1) w
+  on-top = rw add-one (drop-cons w t 0 h)
+
+  top-next : Next m u (getD w t 0) (drop (t + 1) w)
+  top-next = next m u (s .good) (getD w t 0) (drop (t + 1) w) (rw on-top at (s .below))
+
+  pub top-here : getD w t 0 < 2 * u
+  top-here = (rw on-top at (s .below)) .0
+
+  pub top-fine : GoodNode (index (getD w t 0)) (slot m (index (getD w t 0)))
+  top-fine = top-next .fine
+
+  -- there is room for the children
+  pub top-room : children (slot m (index (getD w t 0)) .rec) ≤ t + 1
+  top-room =
+      let r = s .room in let x = top-next in let c = x .count in let n = x .fine .count in let e = ap (nodeCount m u) on-top in
+      let f = few-roots (trees (held m u)) (slot m (index (getD w t 0)) .kids ++ drop (t + 1) w) in
+      let a = length-append (slot m (index (getD w t 0)) .kids) (drop (t + 1) w) in let d = length-drop (t + 1) w in
+      omega arith
+
+  -- what the code lends: 64 * c to 64 * c + 64
+  pub taking-more : {L : List ℕ} {c t' : ℕ} {rs w' : List ℕ} (p : List ℕ) → c < 7 → length w' ≡ length w → t' ≤ length w
+      → drop t' w' ≡ slot m (index (getD w t 0)) .kids ++ drop (t + 1) w → p ≡ slot m (index (getD w t 0)) .rec → Taking m u L c t w rs
+      → Taking m u L (c + 1) t' w' (splice rs (64 * c) (64 * c + 64 - 64 * c) p)
+  taking-more {L} {c} {t'} {rs} {w'} p hc lw ht e ep k =
+      let x = top-next in let g = k .long in let r = s .room in let n = x .count in let o = ap (nodeCount m u) on-top in
+      let lp : length p ≡ 64 = ap length ep ∙ x .fine .long in
+      let q : 64 * (c + 1) ≡ 64 * c + 64 = omega arith in let z : 64 * c + 64 - 64 * c ≡ 64 = omega arith in
+      let rec : List ℕ = slot m (index (getD w t 0)) .rec in
+      let R : List ℕ = rowsOf m u (slot m (index (getD w t 0)) .kids ++ drop (t + 1) w) in
+      rw z record {
+        few = omega arith;
+        long = splice-length rs p (64 * c) 64 (omega arith) lp ∙ g;
+        stack = record { slots = s .slots; good = s .good; top = omega arith; below = rw e (x .below); room = rw (e, lw) (omega arith) };
+        done = ap₂ (λ (x : ℕ) (y : List ℕ). take x (splice rs (64 * c) 64 p) ++ rowsOf m u y) q e
+            ∙ ap (λ (x : List ℕ). x ++ R) (splice-take rs p (64 * c) 64 (omega arith) lp ∙ ap (λ (x : List ℕ). take (64 * c) rs ++ x) ep)
+            ∙ append-assoc (take (64 * c) rs) rec R
+            ∙ ap (λ (x : List ℕ). take (64 * c) rs ++ x) (sym (ap (rowsOf m u) on-top ∙ x .rows)) ∙ k .done;
       }
 
-  module _ (n t : ℕ) (w rs : List ℕ) (h : t < 126) (p : Flat m u i n t w rs₀ rs) where
-    abbrev k : ℕ
-    k = getD w t 0
+module _ {m : List ℕ} {u : ℕ} {L : List ℕ} {c t : ℕ} {w rs : List ℕ} (k : Taking m u L c t w rs) where
+  pub took-seven : 7 ≤ c → Took m u L c t w rs
+  took-seven h =
+      let f = k .few in let g = k .long in
+      let n : length (take (64 * c) rs) ≡ 448 = length-take-le (64 * c) rs (omega arith) ∙ omega arith in
+      record {
+        few = f;
+        stack = k .stack;
+        taken = sym (ap (take 448) (sym (k .done)) ∙ take-at (take (64 * c) rs) (rowsOf m u (drop t w)) 448 n);
+        left = sym (ap (drop 448) (sym (k .done)) ∙ drop-at (take (64 * c) rs) (rowsOf m u (drop t w)) 448 n);
+      }
 
-    stack : drop t w ≡ getD w t 0 ∷ drop (t + 1) w
-    stack = let l = p .wide in rw add-one (drop-cons w t 0 (omega arith))
-
-    pub flat-here : getD w t 0 < 2 * u
-    flat-here = (rw stack at (p .below)) .0
-
-    grown : forest (trees (held m u)) (drop t w) ≡ tree (slot m (index k) .rec) (forest (trees (held m u)) (slot m (index k) .kids))
-        (forest (trees (held m u)) (drop (t + 1) w))
-    grown = ap (forest (trees (held m u))) stack ∙ first-tree m u k (drop (t + 1) w) (a .good) flat-here
-
-    pub flat-fine : GoodNode (index (getD w t 0)) (slot m (index (getD w t 0)))
-    flat-fine = let h = flat-here in view m u (index k) (a .good) (omega arith) .fine
-
-    -- there is room for the record and for the children
-    pub flat-room : (64 * n + 64 ≤ length rs) × (children (slot m (index (getD w t 0)) .rec) ≤ t + 1)
-    flat-room =
-        let l = p .left in let g = p .long in let f = a .few in let b = a .fits in let o = p .wide in
-        let s = ap size grown in
-        let c = few-roots (trees (held m u)) (slot m (index k) .kids) in let d = few-roots (trees (held m u)) (drop (t + 1) w) in
-        let e = length-kids m (index k) in let q = length-drop (t + 1) w in
-        (omega arith, omega arith)
-
-    pub flat-next : n < size (treeAt (held m u) i)
-    flat-next = let l = p .left in let s = ap size grown in omega arith
-
-    pub flat-more : (t' : ℕ) (w' p' : List ℕ) → length w' ≡ length w → t' ≤ 126 → drop t' w' ≡ slot m (index (getD w t 0)) .kids ++ drop (t + 1) w
-        → p' ≡ slot m (index (getD w t 0)) .rec
-        → Flat m u i (n + 1) t' w' rs₀ (splice rs (64 * n) 64 p')
-    flat-more t' w' p' lw ht e ep =
-        let l = p .left in let fr = flat-room .0 in let g = p .long in
-        let ks : List ℕ = slot m (index k) .kids in
-        let ws : List ℕ = drop (t + 1) w in
-        let fine = flat-fine in
-        let lp : length p' ≡ 64 = ap length ep ∙ fine .long in
-        let s = ap size grown in
-        let sa = size-append (trees (held m u)) ks ws in
-        let se : size (forest (trees (held m u)) (drop t' w')) ≡ size (forest (trees (held m u)) (ks ++ ws)) =
-        ap (λ (x : List ℕ). size (forest (trees (held m u)) x)) e in
-        let here = flat-here in
-        let q : 64 * (n + 1) ≡ 64 * n + 64 = omega arith in
-        let N : List ℕ = joined (nodes (forest (trees (held m u)) (ks ++ ws))) in
-        let nn : joined (nodes (forest (trees (held m u)) (drop t w))) ≡ slot m (index k) .rec ++ N =
-        (ap (λ f. joined (nodes f)) grown ∙ ap (λ (x : List (List ℕ)). slot m (index k) .rec ++ joined x) (sym (nodes-append (trees (held m u)) ks ws))) in
-        record {
-          wide = lw ∙ p .wide;
-          top = ht;
-          below = rw e (below-join (2 * u) ks ws (below-more ks (omega arith) (fine .below)) (rw stack at (p .below)));
-          left = omega arith;
-          long = splice-length rs p' (64 * n) 64 fr lp ∙ g;
-          done = ap₂ (λ (x : ℕ) (y : List ℕ). take x (splice rs (64 * n) 64 p') ++ joined (nodes (forest (trees (held m u)) y))) q e
-              ∙ ap (λ (x : List ℕ). x ++ N) (splice-take rs p' (64 * n) 64 fr lp ∙ ap (λ (x : List ℕ). take (64 * n) rs ++ x) ep)
-              ∙ append-assoc (take (64 * n) rs) (slot m (index k) .rec) N
-              ∙ ap (λ (x : List ℕ). take (64 * n) rs ++ x) (sym nn) ∙ p .done;
-        }
-      where
-        below-join : (b : ℕ) (x y : List ℕ) → Below b x → Below b (getD w t 0 ∷ y) → Below b (x ++ y)
-        below-join b [] y p q = q .1
-        below-join b (c ∷ x) y p q = (p .0, below-join b x y (p .1) q)
-
-  pub flat-end : (n t : ℕ) (w rs : List ℕ) → 126 ≤ t → Flat m u i n t w rs₀ rs → (n ≡ size (treeAt (held m u) i))
-      × (take (64 * n) rs ≡ joined (nodes (treeAt (held m u) i)))
+  -- the stack is empty
+  pub took-all : length w ≤ t → Took m u L c t w rs
   unfolding forest
-  flat-end n t w rs h p =
-      let l = p .wide in
-      let e : drop t w ≡ [] = drop-of-length-le w {i = t} (omega arith) in
-      let s = p .left in
-      let z : size (forest (trees (held m u)) (drop t w)) ≡ 0 = ap (λ (x : List ℕ). size (forest (trees (held m u)) x)) e in (
-        omega arith,
-        sym (append-nil (take (64 * n) rs)) ∙ ap (λ (x : List ℕ). take (64 * n) rs ++ joined (nodes (forest (trees (held m u)) x))) (sym e)
-            ∙ p .done,
-      )
+  took-all h =
+      let f = k .few in
+      let r : rowsOf m u (drop t w) ≡ [] = ap (rowsOf m u) (drop-of-length-le w {i = t} h) in
+      let d : take (64 * c) rs ≡ L = sym (append-nil (take (64 * c) rs)) ∙ ap (λ (x : List ℕ). take (64 * c) rs ++ x) (sym r) ∙ k .done in
+      let n : length L ≤ 448 = rw (← d, length-take) (omega arith) in
+      record { few = f; stack = k .stack; taken = d ∙ sym (take-all 448 L n); left = r ∙ sym (drop-of-length-le L {i = 448} n) }

@@ -3,7 +3,7 @@ use mathlib.Core.Path.{_≡_, refl, sym, ap, ap₂, _∙_}
 use mathlib.Core.List.{List, _++_}
 use Prim.Native.Nat.{ℕ, _+_, _*_, _-_, _/_, _≤_, _<_}
 use native.Mathlib.Omega.{arith}
-use lib.ListN.{length, take, drop, length-append, length-drop, length-take, take-append-drop, replicate, length-replicate}
+use lib.ListN.{length, take, drop, length-drop, take-append-drop, replicate, length-replicate}
 use Rattle.scan.specs.Bytes.{total}
 use Rattle.plan_format.specs.Written.{length-block, length-seven}
 use Rattle.plan_format.specs.Writing.{header, fourBytes, body, blockOf, sevenAt, blocksTo, blocksFor, fileOfBytes, written}

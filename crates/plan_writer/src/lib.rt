@@ -1,9 +1,8 @@
-// The writer: records into blocks of a lent output.
+// The blocks of a file: a header, at most seven records, zeros and the sum.
 ghost use mathlib.Core.Path.{_≡_};
-ghost use Prim.Native.Nat.{_+_, _*_, _/_, _%_, _≤_, _<_};
-ghost use lib.ListN.{length, replicate, drop};
-ghost use Rattle.plan_format.specs.Writing.{header, fourBytes, blockOf, sevenAt, written, writeRefusal};
-use plan::Refusal;
+ghost use Prim.Native.Nat.{_≤_, _<_};
+ghost use lib.ListN.{length};
+ghost use Rattle.plan_format.specs.Writing.{header, fourBytes, blockOf};
 
 fn put_header(d: &mut [u8], k: usize, n: usize, c: usize)
     requires { ⌜ (length (now d) ≡ 8) × (c < 256) ⌝ }
@@ -30,7 +29,7 @@ fn put32(d: &mut [u8], x: u32)
 }
 
 // Block k of n, with the records rs, over the 512 bytes of b.
-fn put_block(b: &mut [u8], rs: &[u8], n: usize, k: usize)
+pub fn put_block(b: &mut [u8], rs: &[u8], n: usize, k: usize)
     requires { ⌜ (length (now b) ≡ 512) × (length (now rs) ≤ 448) ⌝ }
     ensures { λ _. ⌜ now (b .exit) ≡ blockOf n k (now (rs .entry)) ⌝ }
 {
@@ -40,35 +39,4 @@ fn put_block(b: &mut [u8], rs: &[u8], n: usize, k: usize)
     scan::zero(&mut b[e..508]);
     let x = scan::sum(&b[..508]);
     put32(&mut b[508..512], x);
-}
-
-// The records of block k: at most seven.
-fn seven_at(rs: &[u8], k: usize) -> &[u8]
-    requires { ⌜ k * 448 ≤ length (now rs) ⌝ }
-    ensures { λ r. ⌜ now r ≡ sevenAt (now (rs .entry)) k ⌝ }
-{
-    let a = k * 448;
-    if 448 <= rs.len() - a {
-        let e = a + 448;
-        return &rs[a..e];
-    }
-    &rs[a..]
-}
-
-// The file of the records rs over the start of out. Nothing is written where it does not fit.
-pub fn write(rs: &[u8], out: &mut [u8]) -> Refusal
-    ensures { λ w. ⌜ (w ≡ writeRefusal (now (rs .entry)) (now (out .entry))) × (now (out .exit) ≡ written (now (rs .entry)) (now (out .entry))) ⌝ }
-{
-    let n = (rs.len() / 64 + 6) / 7;
-    if out.len() < n * 512 {
-        return Refusal::OutputTooShort;
-    }
-    let mut k = 0;
-    while k < n {
-        let a = k * 512;
-        let e = a + 512;
-        put_block(&mut out[a..e], seven_at(rs, k), n, k);
-        k += 1;
-    }
-    Refusal::Accepted
 }

@@ -1,55 +1,65 @@
 use borrow.Author.Needs.{needs}
-use native.Mathlib.Omega.{arith}
-use mathlib.Core.Path.{sym, ap, _∙_}
-use mathlib.Core.List.{List}
-use Prim.Native.Nat.{ℕ, _*_}
-use lib.Seq.{length-take-le}
-use Rattle.plan_format.specs.Writing.{writeRefusal, written}
+use lib.ListN.{replicate}
+use Rattle.plan_writer.specs.Laws.{short-out}
+use Rattle.arena_writer.specs.Streams.{block-count, lent, too-short, long-enough}
 use Rattle.arena_writer.proofs.write.Statement.{statement}
 use Rattle.arena_writer.proofs.write.Tie as tie
 
-slice-aggregate-flatten : tie.Need-slice-aggregate-flatten
-slice-aggregate-flatten c = search needs
+add-blocks : tie.Need-add-blocks
+add-blocks c = search needs
 
-flatten-requires : tie.Need-flatten-requires
-flatten-requires c κs = search needs
+mul-if1 : tie.Need-mul-if1
+mul-if1 c = search needs
 
-mul-e : tie.Need-mul-e
-mul-e c = search needs
+returns : tie.Need-returns
+returns c =
+    let s = c .before .before .before in let o = s .args .out .now in let h = c .if1 .taken in
+    (too-short (s .pre) o h, short-out o _ _ (block-count (s .pre)) h)
 
-array-share-prefix-rs : tie.Need-array-share-prefix-rs
-array-share-prefix-rs c = search needs
+slice-aggregate-write-blocks : tie.Need-slice-aggregate-write-blocks
+slice-aggregate-write-blocks c = search needs
 
-slice-aggregate-write : tie.Need-slice-aggregate-write
-slice-aggregate-write c =
-    let c₆ = c .before .before .before .before .before .before in
-    let s = c₆ in let n = c .before .before .flatten .ensures .0 in let f = s .pre .few in let k = c .before .before .flatten .kept .1 .1 .1 .0 in
-    sym (length-take-le (64 * c .before .before .flatten .result) (c .before .before .flatten .last .1 .1 .1 .0) (omega arith))
+write-blocks-requires : tie.Need-write-blocks-requires
+write-blocks-requires c κs =
+    let c₃ = c .before .before .before in let s = c₃ .before .before .before in
+    lent (s .pre) (replicate 7 0) (s .args .out .now) (c .before .before .if2 .taken) (c₃ .if1 .left)
 
-write-requires : tie.Need-write-requires
-write-requires c κs = search needs
+slice-aggregate-write-blocks-2 : tie.Need-slice-aggregate-write-blocks-2
+slice-aggregate-write-blocks-2 c = search needs
+
+write-blocks-requires-2 : tie.Need-write-blocks-requires-2
+write-blocks-requires-2 c κs =
+    let c₃ = c .before .before .before in let s = c₃ .before .before .before in
+    lent (s .pre) (replicate 126 0) (s .args .out .now) (s .pre .few) (c₃ .if1 .left)
 
 same-length : tie.Need-same-length
 same-length c = search needs
 
-returns : tie.Need-returns
-returns c =
-    let c₆ = c .before .before .before .before .before .before in let c₁₀ = c₆ .before .before .before .before in
-    let e = c₆ .flatten .ensures .1 in let o = c₁₀ .args .out .now in (
-      c .before .before .write .ensures .0 ∙ ap (λ (r : List ℕ). writeRefusal r o) e,
-      c .before .before .write .ensures .1
-          ∙ ap (λ (r : List ℕ). written r o) e,
-    )
+returns-2 : tie.Need-returns-2
+returns-2 c =
+    let c₃ = c .before .before .before in let c₇ = c₃ .before .before .before .before in let s = c₇ .before .before .before in
+    (long-enough (s .pre) (s .args .out .now) (c₇ .if1 .left), c₃ .write-blocks .ensures)
+
+same-length-2 : tie.Need-same-length-2
+same-length-2 c = search needs
+
+returns-3 : tie.Need-returns-3
+returns-3 c =
+    let c₃ = c .before .before .before in let c₇ = c₃ .before .before .before .before in let s = c₇ .before .before .before in
+    (long-enough (s .pre) (s .args .out .now) (c₇ .if1 .left), c₃ .write-blocks2 .ensures)
 
 pub write-spec : {M : Type 1} → statement M
 write-spec =
     tie.close
     (tie.spec
-    slice-aggregate-flatten
-    flatten-requires
-    mul-e
-    array-share-prefix-rs
-    slice-aggregate-write
-    write-requires
+    add-blocks
+    mul-if1
+    returns
+    slice-aggregate-write-blocks
+    write-blocks-requires
+    slice-aggregate-write-blocks-2
+    write-blocks-requires-2
     same-length
-    returns)
+    returns-2
+    same-length-2
+    returns-3)
