@@ -1,95 +1,90 @@
-// Working memory: one ladder of arenas under all calls. A call that finds its arena too small takes the next larger one; of the largest it is proved that
-// this cannot be.
-use arena::SLOT;
+// Working memory: two ladders of arenas under all calls, one for pushing, which takes a second arena. A call that finds its arena too small goes a rung up; of
+// the highest it is proved that this cannot be.
 use call_parts::Called;
+use call_rungs::*;
 use plan_calls::Call;
-use plan_calls::calls::call_in;
 ghost use Prim.Native.Nat.{_*_, _≤_, _<_};
 ghost use Rattle.plan_codec.specs.Reading.{reading};
 ghost use Rattle.plan_format.specs.Blocks.{blockCount};
-ghost use Rattle.call_answers.specs.Answers.{afterReading};
-ghost use Rattle.call_parts.specs.Calls.{CalledAs};
+ghost use Rattle.walks.specs.Counted.{pushed};
+ghost use Rattle.call_answers.specs.Answers.{afterReading, rewrites};
 ghost use Rattle.plan_calls.specs.Results.{resultOf};
-ghost use Rattle.call_memory.specs.Replies.{Answered};
+ghost use Rattle.call_rungs.specs.Replies.{Answered};
 
-// The bytes of so many slots.
-const SLOTS_7: usize = 7 * SLOT;
-
-const SLOTS_21: usize = 21 * SLOT;
-
-const SLOTS_63: usize = 63 * SLOT;
-
-const SLOTS_126: usize = 126 * SLOT;
-
-const SLOTS_240: usize = 240 * SLOT;
-
-const SLOTS_382: usize = 382 * SLOT;
-
-const SLOTS_772: usize = 772 * SLOT;
-
-// What a call answers in the end: the number of its refusal or 0, and whether the plan passes.
-pub struct Reply {
-    pub number: u32,
-    pub passes: bool,
-}
-
-// The slots to start with, for a file of so many blocks: a walk takes some four for each node.
-fn first_slots(k: Call, blocks: usize) -> usize
-    requires { ⌜ blocks ≤ 18 ⌝ }
-    ensures { λ n. ⌜ (7 * blocks ≤ n) × (n ≤ 504) ⌝ }
+// The slots to start with, for a file of so many blocks whose last has so many records: a walk takes some four for each node.
+fn first_slots(k: Call, blocks: usize, last: u8) -> usize
+    requires { ⌜ (1 ≤ blocks) × (blocks ≤ 18) ⌝ }
+    ensures { λ n. ⌜ 7 * blocks ≤ n ⌝ }
 {
+    let nodes = 7 * (blocks - 1) + last as usize;
     match k {
         Call::CheckOrder => 7 * blocks,
         Call::CopyPlan => 7 * blocks,
-        Call::TransformUp(_) => 28 * blocks,
-        Call::PushDown => 7 * blocks,
-        Call::PartialSort(_) => 14 * blocks,
+        Call::TransformUp(_) => 4 * nodes + 10,
+        Call::PartialSort(_) => 7 * blocks + nodes,
     }
 }
 
-// The call in an arena of at least so many slots, not the largest.
-fn call_with(k: Call, plan: &[u8], out: &mut [u8], slots: usize) -> Called
-    requires { ⌜ (7 * blockCount (now plan) ≤ slots) × (slots ≤ 382) ⌝ }
-    ensures { λ r. ⌜ CalledAs r (afterReading (resultOf k) (reading (now (plan .entry)))) (now (out .entry)) (now (out .exit)) 0 ⌝ }
+// More than the rung has that so many slots are taken from.
+fn above(slots: usize) -> usize
+    requires { ⌜ slots ≤ 382 ⌝ }
+    ensures { λ n. ⌜ slots < n ⌝ }
 {
-    let mut c = [0u8; 1];
-    if slots <= 7 {
-        let mut m = [0u8; SLOTS_7];
-        return call_in(k, plan, out, &mut m, &mut c);
+    match slots {
+        0..=7 => 8,
+        8..=14 => 15,
+        15..=42 => 43,
+        43..=84 => 85,
+        85..=126 => 127,
+        127..=184 => 185,
+        185..=254 => 255,
+        _ => 383,
     }
-    if slots <= 21 {
-        let mut m = [0u8; SLOTS_21];
-        return call_in(k, plan, out, &mut m, &mut c);
-    }
-    if slots <= 63 {
-        let mut m = [0u8; SLOTS_63];
-        return call_in(k, plan, out, &mut m, &mut c);
-    }
-    if slots <= 126 {
-        let mut m = [0u8; SLOTS_126];
-        return call_in(k, plan, out, &mut m, &mut c);
-    }
-    if slots <= 240 {
-        let mut m = [0u8; SLOTS_240];
-        return call_in(k, plan, out, &mut m, &mut c);
-    }
-    let mut m = [0u8; SLOTS_382];
-    call_in(k, plan, out, &mut m, &mut c)
 }
 
-// The call in the largest arena.
-fn call_in_largest(k: Call, plan: &[u8], out: &mut [u8]) -> Reply
-    requires { ⌜ blockCount (now plan) ≤ 18 ⌝ }
+// The call with at least so many slots. It calls itself, and no loop does: a compiler that took the arenas of all rungs into one frame would have them all on
+// the stack, and into a function that calls itself it takes none.
+fn climb(k: Call, plan: &[u8], out: &mut [u8], slots: usize) -> Reply
+    requires { ⌜ (1 ≤ blockCount (now plan)) × (blockCount (now plan) ≤ 18) × (7 * blockCount (now plan) ≤ slots) ⌝ }
     ensures { λ r. ⌜ Answered r (afterReading (resultOf k) (reading (now (plan .entry)))) (now (out .entry)) (now (out .exit)) ⌝ }
 {
-    let mut m = [0u8; SLOTS_772];
-    let mut c = [0u8; SLOTS_126];
-    let r = call_in(k, plan, out, &mut m, &mut c);
+    if 382 < slots {
+        return in_772(k, plan, out);
+    }
+    let r = match slots {
+        0..=7 => in_7(k, plan, out),
+        8..=14 => in_14(k, plan, out),
+        15..=42 => in_42(k, plan, out),
+        43..=84 => in_84(k, plan, out),
+        85..=126 => in_126(k, plan, out),
+        127..=184 => in_184(k, plan, out),
+        185..=254 => in_254(k, plan, out),
+        _ => in_382(k, plan, out),
+    };
     let Called::Done(number, passes) = r else {
-        return Reply {
-            number: 0,
-            passes: false,
-        };
+        return climb(k, plan, out, above(slots));
+    };
+    Reply {
+        number: number,
+        passes: passes,
+    }
+}
+
+// The same for pushing; so many slots are for the plan that is read.
+fn climb_pushing(plan: &[u8], out: &mut [u8], slots: usize) -> Reply
+    requires { ⌜ (1 ≤ blockCount (now plan)) × (blockCount (now plan) ≤ 18) × (7 * blockCount (now plan) ≤ slots) ⌝ }
+    ensures { λ r. ⌜ Answered r (rewrites pushed (now (plan .entry))) (now (out .entry)) (now (out .exit)) ⌝ }
+{
+    if 63 < slots {
+        return push_in_126(plan, out);
+    }
+    let r = match slots {
+        0..=7 => push_in_7(plan, out),
+        8..=21 => push_in_21(plan, out),
+        _ => push_in_63(plan, out),
+    };
+    let Called::Done(number, passes) = r else {
+        return climb_pushing(plan, out, 2 * slots);
     };
     Reply {
         number: number,
@@ -108,16 +103,20 @@ pub fn call(k: Call, plan: &[u8], out: &mut [u8]) -> Reply
             passes: false,
         };
     }
-    let mut slots = first_slots(k, blocks);
-    while slots <= 382 {
-        let r = call_with(k, plan, out, slots);
-        if let Called::Done(number, passes) = r {
-            return Reply {
-                number: number,
-                passes: passes,
-            };
-        }
-        slots = 3 * slots;
+    let last = plan[512 * blocks - 508];
+    climb(k, plan, out, first_slots(k, blocks, last))
+}
+
+// Pushing on the plan file.
+pub fn push(plan: &[u8], out: &mut [u8]) -> Reply
+    ensures { λ r. ⌜ Answered r (rewrites pushed (now (plan .entry))) (now (out .entry)) (now (out .exit)) ⌝ }
+{
+    let blocks = plan.len() / 512;
+    if (blocks == 0) | (18 < blocks) {
+        return Reply {
+            number: plan::number(plan_reader::refusal_of(plan)),
+            passes: false,
+        };
     }
-    call_in_largest(k, plan, out)
+    climb_pushing(plan, out, 7 * blocks)
 }

@@ -2,7 +2,7 @@
 use mathlib.Core.Path.{_≡_}
 use mathlib.Core.Bool.{true, false}
 use mathlib.Core.List.{List}
-use Prim.Native.Nat.{ℕ, _*_, _≤_, _<_}
+use Prim.Native.Nat.{ℕ, _*_, _-_, _≤_, _<_}
 use lib.ListN.{length}
 use Rattle.plan.specs.Forest.{size}
 use Rattle.plan.specs.Numbers.{numberOf}
@@ -23,10 +23,19 @@ use Rattle.call_parts.specs.declared.Called.the-variants.{Done, NoRoom}
 use Rattle.call_parts.specs.PartialSorts.{partialT}
 use Rattle.call_answers.specs.Answers.{Result, refusalIn, outputIn, passesIn}
 
--- What a call answers and leaves in the output: all that the result settles, or that the arena, of so many bytes, was too small
+-- What a call answers and leaves in the output: all that the result settles, or that the memory, which is so many bytes short of what is always enough,
+-- was too small
 abbrev pub CalledAs : Called → Result → List ℕ → List ℕ → ℕ → Type 0
-CalledAs (Done n b) R out out' room = (n ≡ numberOf (refusalIn R out)) × (b ≡ passesIn R) × (out' ≡ outputIn R out)
-CalledAs NoRoom R out out' room = (out' ≡ out) × (room < fullSlots * slotSize)
+CalledAs (Done n b) R out out' short = (n ≡ numberOf (refusalIn R out)) × (b ≡ passesIn R) × (out' ≡ outputIn R out)
+CalledAs NoRoom R out out' short = (out' ≡ out) × (0 < short)
+
+-- the bytes that an arena is short of the slots that every walk can do with
+abbrev pub shortOf : List ℕ → ℕ
+shortOf m = fullSlots * slotSize - length m
+
+-- and of those that push can do with for the plan that it makes: three for each of 126 nodes
+abbrev pub pushShort : List ℕ → ℕ
+pushShort b = 378 * slotSize - length b
 
 -- as a walk stops
 abbrev pub stoppedAs : Stop → Called
@@ -54,7 +63,7 @@ pub record Loads (m : List ℕ) (u h : ℕ) (c : List ℕ) : Type 0 where
   pub loaded : Loaded m u
   pub here : h < 2 * u
   pub few : u ≤ 126
-  pub size : sizeT (treeOf m h) ≤ 126
+  pub count : u ≡ sizeT (treeOf m h)
   pub plan : wellFormed (planT (treeOf m h)) ≡ true
   pub scratch : fullSlots * slotSize ≤ length m → 126 * slotSize ≤ length c
 

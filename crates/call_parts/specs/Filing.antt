@@ -125,8 +125,8 @@ module _ (m : List ℕ) (u h : ℕ) (a : Loaded m u) (l : h < 2 * u) (out : List
   tree-size : size (treeAt (held m u) h) ≡ sizeT (treeOf m h)
   tree-size = let x = ap size tree-is in let y = size-recorded (planT (treeOf m h)) in let z = strip-size (treeOf m h .kids) in omega arith
 
-  pub flattens : sizeT (treeOf m h) ≤ 126 → Flattens m u h 8064
-  flattens f = let z = tree-size in record { slots = a .slots; good = good m u (a .proper); here = l; few = omega arith; fits = omega arith }
+  pub flattens : (n : ℕ) → n ≡ sizeT (treeOf m h) → n ≤ 126 → Flattens m u h n
+  flattens n e f = record { slots = a .slots; good = good m u (a .proper); here = l; count = e ∙ sym tree-size; few = f }
 
   file-long : blocksFor (length (joined (nodes (treeAt (held m u) h)))) * 512 ≡ length (fileOfPlan (planT (treeOf m h)))
   file-long =

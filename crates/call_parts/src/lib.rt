@@ -9,7 +9,6 @@ use step_ends::Stop;
 ghost use mathlib.Core.Path.{_≡_};
 ghost use mathlib.Core.List.{List};
 ghost use Prim.Native.Nat.{ℕ, _*_, _≤_, _<_};
-ghost use lib.ListN.{length};
 ghost use Rattle.semantics.specs.Check.{check};
 ghost use Rattle.walks.specs.Marks.{sizeT};
 ghost use Rattle.plan_context.specs.View.{treeIn, treeOf};
@@ -45,12 +44,12 @@ pub fn has_partial_sort(m: &[u8], u: usize, i: usize) -> bool
     false
 }
 
-// The tree at h, written to the output.
-pub fn write_out(m: &[u8], u: usize, h: usize, out: &mut [u8]) -> Called
-    requires { ⌜ Loaded (now m) u × (h < 2 * u) × (sizeT (treeOf (now m) h) ≤ 126) ⌝ }
-    ensures { λ r. ⌜ ((room : ℕ) → CalledAs r (gives (planT (treeOf (now (m .entry)) h))) (now (out .entry)) (now (out .exit)) room) ⌝ }
+// The tree at h, of n nodes, written to the output.
+pub fn write_out(m: &[u8], u: usize, h: usize, n: usize, out: &mut [u8]) -> Called
+    requires { ⌜ Loaded (now m) u × (h < 2 * u) × (n ≡ sizeT (treeOf (now m) h)) × (n ≤ 126) ⌝ }
+    ensures { λ r. ⌜ ((short : ℕ) → CalledAs r (gives (planT (treeOf (now (m .entry)) h))) (now (out .entry)) (now (out .exit)) short) ⌝ }
 {
-    let x = arena_writer::write(m, u, h, out);
+    let x = arena_writer::write(m, u, h, n, out);
     Called::Done(plan::number(x), false)
 }
 
@@ -67,7 +66,7 @@ pub fn stopped(s: Stop) -> Called
 // The order check of the tree at h.
 pub fn check_in(m: &mut [u8], u: usize, h: usize) -> Called
     requires { ⌜ Loaded (now m) u × (h < 2 * u) ⌝ }
-    ensures { λ r. ⌜ ((out : List ℕ) → CalledAs r (checks (check (planT (treeOf (now (m .entry)) h)))) out out (length (now (m .entry)))) ⌝ }
+    ensures { λ r. ⌜ ((out : List ℕ) (short : ℕ) → CalledAs r (checks (check (planT (treeOf (now (m .entry)) h)))) out out short) ⌝ }
 {
     settle_all(m, u);
     Called::Done(0, kept::passes(m, h))

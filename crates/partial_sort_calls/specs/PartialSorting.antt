@@ -22,7 +22,7 @@ use Rattle.arena.specs.declared.At.{At}
 use Rattle.call_parts.specs.declared.Called.{Called}
 use Rattle.call_parts.specs.declared.Called.the-variants.{Done, NoRoom}
 use Rattle.call_answers.specs.Answers.{gives, rewritten}
-use Rattle.call_parts.specs.Calls.{CalledAs, Formed}
+use Rattle.call_parts.specs.Calls.{CalledAs, shortOf, Formed}
 use Rattle.call_parts.specs.PartialSorts.{plan-size}
 
 set-size : (n : ℕ) (p : Op) (f : Plan) → size (setNode n p f) ≡ size f
@@ -42,7 +42,7 @@ module _ (m : List ℕ) (u h : ℕ) (p : Formed m u h) (few : u ≤ 126) (m' : L
 
   -- too little room: then the arena is not a full one
   pub partial-no-room : (n : ℕ) (out : List ℕ) → length m' / slotSize < u + i → CalledAs NoRoom (rewritten (partiallySorted n (planT (treeOf m h)))) out out
-      (length m)
+      (shortOf m)
   partial-no-room n out g = let s = p .size in let q = ap sizeT same-tree in (refl, omega arith)
 
   pub partial-asks : u + i ≤ length m' / slotSize → Sorting m' u h
@@ -50,19 +50,20 @@ module _ (m : List ℕ) (u h : ℕ) (p : Formed m u h) (few : u ≤ 126) (m' : L
 
   module _ (n : ℕ) (out : List ℕ) where
     pub partial-refuses : (x : Refusal) → partiallySorted n (planT (treeOf m' h)) ≡ refused x → (j : ℕ) → j ≡ numberOf x
-        → CalledAs (Done j false) (rewritten (partiallySorted n (planT (treeOf m h)))) out out (length m)
+        → CalledAs (Done j false) (rewritten (partiallySorted n (planT (treeOf m h)))) out out (shortOf m)
     partial-refuses x e j q =
-        subst (λ R. CalledAs (Done j false) R out out (length m)) (sym (ap rewritten (ap (λ t. partiallySorted n (planT t)) (sym same-tree) ∙ e)))
+        subst (λ R. CalledAs (Done j false) R out out (shortOf m)) (sym (ap rewritten (ap (λ t. partiallySorted n (planT t)) (sym same-tree) ∙ e)))
         (q, refl, refl)
 
     module _ (m'' : List ℕ) (b : At) (d : Became m' u m'' h n b) where
-      pub partial-small : sizeT (treeOf m'' (b .root)) ≤ 126
-      partial-small =
+      -- as many nodes as before
+      pub partial-count : (i ≡ sizeT (treeOf m'' (b .root))) × (i ≤ 126)
+      partial-count =
           let x = plan-size (treeOf m'' (b .root)) in let y = ap size (d .plan) in let z = set-size n (d .op) (planT (treeOf m' h)) in
           let w = plan-size (treeOf m' h) in let q = ap sizeT same-tree in let s = p .size in
-          omega arith
+          (omega arith, omega arith)
 
-      pub partial-wrote : (r : Called) (out' : List ℕ) → ((room : ℕ) → CalledAs r (gives (planT (treeOf m'' (b .root)))) out out' room)
-          → CalledAs r (rewritten (partiallySorted n (planT (treeOf m h)))) out out' (length m)
-      partial-wrote r out' f = subst (λ R. CalledAs r R out out' (length m))
-          (sym (ap rewritten (ap (λ t. partiallySorted n (planT t)) (sym same-tree) ∙ d .is))) (f (length m))
+      pub partial-wrote : (r : Called) (out' : List ℕ) → ((short : ℕ) → CalledAs r (gives (planT (treeOf m'' (b .root)))) out out' short)
+          → CalledAs r (rewritten (partiallySorted n (planT (treeOf m h)))) out out' (shortOf m)
+      partial-wrote r out' f = subst (λ R. CalledAs r R out out' (shortOf m))
+          (sym (ap rewritten (ap (λ t. partiallySorted n (planT t)) (sym same-tree) ∙ d .is))) (f (shortOf m))

@@ -3,11 +3,10 @@ use transform_up::Walk;
 
 pub mod calls;
 
-// What is asked of a plan.
+// What is asked of a plan in one arena; pushing takes a second one.
 pub enum Call {
     CheckOrder,
     CopyPlan,
     TransformUp(Walk),
-    PushDown,
     PartialSort(u32),
 }

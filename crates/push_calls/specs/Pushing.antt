@@ -2,7 +2,7 @@
 use mathlib.Core.Path.{_≡_, refl, sym, ap, _∙_, subst}
 use mathlib.Core.Bool.{Bool, true, false, cond, _&&_}
 use mathlib.Core.List.{List}
-use Prim.Native.Nat.{ℕ, _*_, _≤_}
+use Prim.Native.Nat.{ℕ, _*_, _/_, _≤_, _<_}
 use native.Mathlib.Omega.{arith}
 use borrow.Author.Tests.{leb-true}
 use lib.Dec.{eqb, leb}
@@ -29,10 +29,10 @@ use Rattle.pushdown_sorts.specs.declared.Pushed.the-variants as pushed
 use Rattle.pushdown_sorts.specs.declared.Walked.{Walked}
 use Rattle.pushdown_sorts.specs.Walk.{countedT, decided, Ends, pushedT, Pushes}
 use Rattle.call_parts.specs.declared.Called.{Called}
-use Rattle.call_parts.specs.declared.Called.the-variants.{Done}
+use Rattle.call_parts.specs.declared.Called.the-variants.{Done, NoRoom}
 use Rattle.call_answers.specs.Answers.{gives, refuses, rewritten}
 use Rattle.call_parts.specs.PartialSorts.{partialT}
-use Rattle.call_parts.specs.Calls.{CalledAs, Formed, Pushable}
+use Rattle.call_parts.specs.Calls.{CalledAs, pushShort, Formed, Pushable}
 use Rattle.call_parts.specs.PartialSorts.{partial-plan, plan-size}
 
 -- ---- the walk of one tree is the walk of its plan
@@ -92,10 +92,10 @@ module _ (m : List ℕ) (u h n : ℕ) (p : Pushable m u h n) where
       }
 
   module _ (out : List ℕ) (v : Visit) (e : visitOf v ≡ atRoot) (b b' : List ℕ) where
-    pub push-refused : (x : Refusal) → Ends (visitOf v) n (treeIn m (index h)) b 0 b' (pushed.Refused x) → (k : ℕ) → k ≡ numberOf x → (room : ℕ)
-        → CalledAs (Done k false) (rewritten (pushed (planT (treeOf m h)))) out out room
-    push-refused x d k q room =
-        subst (λ R. CalledAs (Done k false) R out out room)
+    pub push-refused : (x : Refusal) → Ends (visitOf v) n (treeIn m (index h)) b 0 b' (pushed.Refused x) → (k : ℕ) → k ≡ numberOf x → (short : ℕ)
+        → CalledAs (Done k false) (rewritten (pushed (planT (treeOf m h)))) out out short
+    push-refused x d k q short =
+        subst (λ R. CalledAs (Done k false) R out out short)
         (sym (ap rewritten (push-stops (treeOf m h) (p .whole) n (p .count) x (ap (λ w. countedT w n (treeOf m h)) (sym e) ∙ d)))) (q, refl, refl)
 
     module _ (x : Walked) (d : Ends (visitOf v) n (treeIn m (index h)) b 0 b' (pushed.Done x)) where
@@ -105,8 +105,8 @@ module _ (m : List ℕ) (u h n : ℕ) (p : Pushable m u h n) where
           (ap (λ w. countedT w n (treeOf m h)) (sym e) ∙ d .is)
           ∙ ap (λ t. answered (planT t)) (sym (d .grown .tree))
 
-      pub push-small : sizeT (treeOf b' (x .root)) ≤ 126
-      push-small = let y = few-nodes (planT (treeOf b' (x .root))) (pushed-well (planT (treeOf m h)) (planT (treeOf b' (x .root))) (p .plan) answers) in
+      pub push-count : (k : ℕ) → k ≡ sizeT (treeOf b' (x .root)) → k ≤ 126
+      push-count k c = let y = few-nodes (planT (treeOf b' (x .root))) (pushed-well (planT (treeOf m h)) (planT (treeOf b' (x .root))) (p .plan) answers) in
           let z = plan-size (treeOf b' (x .root)) in omega arith
 
       pub push-wrote : (r : Called) (out' : List ℕ) (k : ℕ) → CalledAs r (gives (planT (treeOf b' (x .root)))) out out' k
@@ -119,17 +119,24 @@ module _ (m : List ℕ) (u h : ℕ) (p : Formed m u h) (m' : List ℕ) (a : Aren
   pub same-tree : treeOf m' h ≡ treeOf m h
   same-tree = tree-held m m' h k
 
+  pub few : (n : ℕ) → n ≡ sizeT (treeOf m' h) → n ≤ 126
+  few n c = let s = p .size in let q = ap sizeT same-tree in omega arith
+
   pub pushable : (b : Bool) → b ≡ partialT (treeIn m' (index h)) → b ≡ false → (n : ℕ) → n ≡ sizeT (treeOf m' h) → Pushable m' u h n
   pushable b e z n c =
-      let s = p .size in let q = ap sizeT same-tree in
-      record { arena = a; here = p .here; plan = ap (λ t. wellFormed (planT t)) same-tree ∙ p .plan; count = c; few = omega arith; whole = sym e ∙ z }
+      record { arena = a; here = p .here; plan = ap (λ t. wellFormed (planT t)) same-tree ∙ p .plan; count = c; few = few n c; whole = sym e ∙ z }
 
-  pub partial-refused : (b : Bool) → b ≡ partialT (treeIn m' (index h)) → b ≡ true → (n : ℕ) → n ≡ numberOf HasPartialSort → (out : List ℕ) (room : ℕ)
-      → CalledAs (Done n false) (rewritten (pushed (planT (treeOf m h)))) out out room
-  partial-refused b e z n q out room =
-      subst (λ R. CalledAs (Done n false) R out out room) (sym (push-partial (treeOf m' h) (sym e ∙ z)) ∙ ap (λ t. rewritten (pushed (planT t))) same-tree)
+  pub partial-refused : (b : Bool) → b ≡ partialT (treeIn m' (index h)) → b ≡ true → (n : ℕ) → n ≡ numberOf HasPartialSort → (out : List ℕ) (short : ℕ)
+      → CalledAs (Done n false) (rewritten (pushed (planT (treeOf m h)))) out out short
+  partial-refused b e z n q out short =
+      subst (λ R. CalledAs (Done n false) R out out short) (sym (push-partial (treeOf m' h) (sym e ∙ z)) ∙ ap (λ t. rewritten (pushed (planT t))) same-tree)
       (q, refl, refl)
 
-  pub as-read : (r : Called) (out out' : List ℕ) → ((room : ℕ) → CalledAs r (rewritten (pushed (planT (treeOf m' h)))) out out' room) → (room : ℕ)
-      → CalledAs r (rewritten (pushed (planT (treeOf m h)))) out out' room
-  as-read r out out' f room = subst (λ t. CalledAs r (rewritten (pushed (planT t))) out out' room) same-tree (f room)
+  -- an arena of fewer slots is not one of three for each of 126 nodes
+  pub push-no-room : (n : ℕ) → n ≡ sizeT (treeOf m' h) → (b : List ℕ) → length b / slotSize < 3 * n → (out : List ℕ)
+      → CalledAs NoRoom (rewritten (pushed (planT (treeOf m h)))) out out (pushShort b)
+  push-no-room n c b g out = let f = few n c in (refl, omega arith)
+
+  pub as-read : (r : Called) (out out' : List ℕ) → ((short : ℕ) → CalledAs r (rewritten (pushed (planT (treeOf m' h)))) out out' short) → (short : ℕ)
+      → CalledAs r (rewritten (pushed (planT (treeOf m h)))) out out' short
+  as-read r out out' f short = subst (λ t. CalledAs r (rewritten (pushed (planT t))) out out' short) same-tree (f short)

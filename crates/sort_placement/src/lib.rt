@@ -1,6 +1,7 @@
 // The C exports, on numbers and byte slices. Each answers the number of its refusal, or 0; a refusal leaves what was lent alone, and bytes past the file
 // that is written stay.
 use call_memory::call;
+use call_memory::push;
 use plan_calls::Call;
 use transform_up::Walk;
 use walk_settings::settings_in;
@@ -75,7 +76,7 @@ pub extern "C" fn pushdown_sorts(plan: &[u8], out: &mut [u8]) -> u32
     ensures { λ r. ⌜ (r ≡ numberOf (refusalIn (rewrites pushed (now (plan .entry))) (now (out .entry))))
         × (now (out .exit) ≡ outputIn (rewrites pushed (now (plan .entry))) (now (out .entry))) ⌝ }
 {
-    call(Call::PushDown, plan, out).number
+    push(plan, out).number
 }
 
 // Partial sorting of the node with the number `node`: nothing else changes.

@@ -2,7 +2,7 @@
 use mathlib.Core.Path.{_≡_, refl, sym, ap, _∙_, subst}
 use mathlib.Core.Bool.{Bool, true, false, cond}
 use mathlib.Core.List.{List}
-use Prim.Native.Nat.{ℕ, _*_, _≤_, _<_}
+use Prim.Native.Nat.{ℕ, _≤_}
 use native.Mathlib.Omega.{arith}
 use lib.ListN.{length}
 use Rattle.plan.specs.Forest.{none, size}
@@ -10,7 +10,7 @@ use Rattle.plan.specs.Numbers.{numberOf}
 use Rattle.plan.specs.declared.Refusal.the-variants.{HasPartialSort, TooManyNodes}
 use Rattle.walks.specs.Marks.{Tree, strip, opT, plant, sizeT}
 use Rattle.walks.specs.Counted.{answerOf, bind, Counted, counted, countUp, refused, stopped, answerTo}
-use Rattle.arena.specs.Arena.{slotSize, index, held}
+use Rattle.arena.specs.Arena.{index, held}
 use Rattle.plan_context.specs.View.{treeIn, treeOf, Arena}
 use Rattle.plan_context.specs.Records.{planT, tree-held}
 use Rattle.transform_up.specs.declared.Walk.{Walk}
@@ -18,14 +18,13 @@ use Rattle.step_ends.specs.declared.Walked.the-variants as walked
 use Rattle.step_ends.specs.declared.Stop.{Stop}
 use Rattle.step_ends.specs.declared.Stop.the-variants as stop
 use Rattle.transform_up.specs.Walking.{stepOf}
-use Rattle.step_ends.specs.Tidying.{fullSlots}
 use Rattle.transform_up.specs.Counting.{count-tree}
 use Rattle.transform_up.specs.Frame.{countOf, Outcome, Walkable, Walks}
 use Rattle.call_parts.specs.declared.Called.{Called}
 use Rattle.call_parts.specs.declared.Called.the-variants.{Done, NoRoom}
 use Rattle.call_answers.specs.Answers.{Result, refuses, gives, rewritten}
 use Rattle.call_parts.specs.PartialSorts.{partialT, partial-plan, plan-size}
-use Rattle.call_parts.specs.Calls.{stoppedAs, CalledAs, Loads}
+use Rattle.call_parts.specs.Calls.{stoppedAs, CalledAs, shortOf, Loads}
 use Rattle.plan.specs.Op.{Plan}
 
 -- What the call comes to
@@ -64,7 +63,7 @@ module _ (m : List ℕ) (u h : ℕ) (c : List ℕ) (p : Loads m u h c) (m' : Lis
 
   pub walkable : (n : ℕ) → n ≡ sizeT (treeOf m' h) → Walkable m' u (index h) n c
   walkable n e =
-      let x = p .here in let y = p .size in let z = ap sizeT same-tree in let f = p .few in
+      let x = p .here in let y = p .count in let z = ap sizeT same-tree in let f = p .few in
       record { arena = a; here = omega arith; many = omega arith; part = omega arith; low = omega arith; scratch = λ g. p .scratch (omega arith) }
 
   -- a tree with a partial sort
@@ -80,30 +79,28 @@ module _ (m : List ℕ) (u h : ℕ) (c : List ℕ) (p : Loads m u h c) (m' : Lis
     called r S e out' n x = subst (λ S. CalledAs r S out out' n) (sym e ∙ ap (λ t. walkResult w (planT t)) same-tree) x
 
     pub partial-refused : (b : Bool) → b ≡ partialT (treeIn m' (index h)) → b ≡ true → (n : ℕ) → n ≡ numberOf HasPartialSort
-        → CalledAs (Done n false) (walkResult w (planT (treeOf m h))) out out (length m)
+        → CalledAs (Done n false) (walkResult w (planT (treeOf m h))) out out (shortOf m)
     partial-refused b e z n q = called (Done n false) (refuses HasPartialSort) (has-partial w (treeOf m' h) (sizeT (treeOf m' h)) refl (sym e ∙ z)) out
-        (length m) (q, refl, refl)
+        (shortOf m) (q, refl, refl)
 
     -- what the walk answers
     module _ (b : Bool) (eb : b ≡ partialT (treeIn m' (index h))) (z : b ≡ false) (n : ℕ) (en : n ≡ sizeT (treeOf m' h)) (m'' : List ℕ)
         (l'' : length m'' ≡ length m') where
       pub walk-wrote : (used root count : ℕ) → Walks w m' u (index h) n m'' used root count → (r : Called) (out' : List ℕ)
-          → CalledAs r (gives (planT (treeOf m'' root))) out out' (length m'')
-          → CalledAs r (walkResult w (planT (treeOf m h))) out out' (length m)
+          → ((short : ℕ) → CalledAs r (gives (planT (treeOf m'' root))) out out' short)
+          → CalledAs r (walkResult w (planT (treeOf m h))) out out' (shortOf m)
       walk-wrote used root count d r out' x =
-          subst (λ y. CalledAs r (walkResult w (planT (treeOf m h))) out out' y) (l'' ∙ l)
-          (called r (gives (planT (treeOf m'' root))) (walk-gives w (treeOf m' h) n en (sym eb ∙ z) (treeOf m'' root) count (d .is)) out' (length m'') x)
+          called r (gives (planT (treeOf m'' root))) (walk-gives w (treeOf m' h) n en (sym eb ∙ z) (treeOf m'' root) count (d .is)) out' (shortOf m)
+          (x (shortOf m))
 
       -- it can be written
-      pub walk-small : (used root count : ℕ) → Walks w m' u (index h) n m'' used root count → sizeT (treeOf m'' root) ≤ 126
-      walk-small used root count d = let s = d .sum in let k = d .many in omega arith
+      pub walk-count : (used root count : ℕ) → Walks w m' u (index h) n m'' used root count → (count ≡ sizeT (treeOf m'' root)) × (count ≤ 126)
+      walk-count used root count d = let s = d .sum in (omega arith, d .many)
 
       pub walk-stopped : (s : Stop) → Outcome (walked.Stopped s) w m' u (index h) n m'' → (r : Called) → r ≡ stoppedAs s
-          → CalledAs r (walkResult w (planT (treeOf m h))) out out (length m)
+          → CalledAs r (walkResult w (planT (treeOf m h))) out out (shortOf m)
       walk-stopped stop.TooManyNodes x r e =
-          subst (λ r. CalledAs r (walkResult w (planT (treeOf m h))) out out (length m)) (sym e)
-          (called (Done (numberOf TooManyNodes) false) (refuses TooManyNodes) (walk-refuses w (treeOf m' h) n en (sym eb ∙ z) x) out (length m)
+          subst (λ r. CalledAs r (walkResult w (planT (treeOf m h))) out out (shortOf m)) (sym e)
+          (called (Done (numberOf TooManyNodes) false) (refuses TooManyNodes) (walk-refuses w (treeOf m' h) n en (sym eb ∙ z) x) out (shortOf m)
           (refl, refl, refl))
-      walk-stopped stop.NoRoom x r e =
-          subst (λ r. CalledAs r (walkResult w (planT (treeOf m h))) out out (length m)) (sym e)
-          (refl, subst (λ y. y < fullSlots * slotSize) l x)
+      walk-stopped stop.NoRoom x r e = subst (λ r. CalledAs r (walkResult w (planT (treeOf m h))) out out (shortOf m)) (sym e) (refl, omega arith)

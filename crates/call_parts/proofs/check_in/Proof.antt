@@ -18,7 +18,7 @@ same-length c = search needs
 
 returns : tie.Need-returns
 returns c = let s = c .before .before .before .before .before .before .before in
-    λ out. (
+    λ out short. (
       refl,
       c .passes .ensures ∙ ap (λ t. check (planT t)) (tree-held (s .args .m .now) (c .before .before .before .before .settle-all .last .0)
           (s .args .h) (c .before .before .before .before .settle-all .ensures .1)),

@@ -7,7 +7,7 @@ use Rattle.call_parts.proofs.write_out.Tie as tie
 
 write-requires : tie.Need-write-requires
 write-requires c κs = let s = c .before .before .before in flattens (s .args .m .now) (s .args .u) (s .args .h) (s .pre .0) (s .pre .1) (s .args .out .now)
-    (s .pre .2)
+    (s .args .n) (s .pre .2) (s .pre .3)
 
 number-requires : tie.Need-number-requires
 number-requires c κs = search needs
@@ -17,7 +17,7 @@ same-length c = search needs
 
 returns : tie.Need-returns
 returns c = let s = c .before .before .before .before .before .before .before in let w = c .before .before .before .write .ensures in
-    λ room. (
+    λ short. (
       c .number .ensures ∙ ap numberOf (w .0 ∙ write-refusal (s .args .m .now) (s .args .u) (s .args .h) (s .pre .0) (s .pre .1)
           (s .args .out .now)),
       refl,

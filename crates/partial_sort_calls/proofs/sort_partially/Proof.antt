@@ -6,7 +6,7 @@ use Rattle.plan.specs.declared.Refusal.the-variants as refusals
 use Rattle.plan_context.specs.Laws.{here}
 use Rattle.partial_sort_by_number.specs.AtNumber.{AnswersPartial}
 use Rattle.call_parts.specs.Filing.{arena-loaded}
-use Rattle.partial_sort_calls.specs.PartialSorting.{partial-no-room, partial-asks, partial-refuses, partial-small, partial-wrote}
+use Rattle.partial_sort_calls.specs.PartialSorting.{partial-no-room, partial-asks, partial-refuses, partial-count, partial-wrote}
 use Rattle.partial_sort_calls.proofs.sort_partially.Statement.{statement}
 use Rattle.partial_sort_calls.proofs.sort_partially.Tie as tie
 
@@ -60,12 +60,9 @@ write-out-requires c κs = let s =
     let t = c .before .before .before .before .before .before .before .before .before .before .before .before .before .before .settle-all in
     let m' = t .last .0 in let l = t .kept .0 in let a = t .ensures .0 in let f = t .ensures .1 in
     let y = c .before .before .before .before .before .before .before .partially-sorted in let g = c .before .before .before .a .given in let b = g .0 .0 in
-    let d = subst (λ o. AnswersPartial m' u (y .last .0) h n o) (g .1) (y .ensures) in (
-      arena-loaded (y .last .0) (b .used) (d .arena),
-      d .low,
-      partial-small m u h p w m' l a f _
-          (c .before .before .before .before .before .before .before .before .before .before .nodes .ensures) n out (y .last .0) b d,
-    )
+    let d = subst (λ o. AnswersPartial m' u (y .last .0) h n o) (g .1) (y .ensures) in
+    let q = partial-count m u h p w m' l a f _ (c .before .before .before .before .before .before .before .before .before .before .nodes .ensures) n out
+    (y .last .0) b d in (arena-loaded (y .last .0) (b .used) (d .arena), d .low, q .0, q .1)
 
 same-length-2 : tie.Need-same-length-2
 same-length-2 c = search needs
@@ -108,7 +105,7 @@ returns-4 c = let s = c .before .before .before .before .before .before .before 
     let d = subst (λ o. AnswersPartial m' u (y .last .0) h n o) (g .1) (y .ensures) in
     partial-wrote m u h p w m' l a f _
     (c .before .before .before .before .before .before .before .before .before .before .before .before .before .nodes .ensures) n out (y .last .0) b d
-    (c .before .before .write-out .result) (c .before .before .write-out .last .1 .1 .1 .0) (c .before .before .write-out .ensures)
+    (c .before .before .write-out .result) (c .before .before .write-out .last .1 .1 .1 .1 .0) (c .before .before .write-out .ensures)
 
 pub sort-partially-spec : {M : Type 1} → statement M
 sort-partially-spec =

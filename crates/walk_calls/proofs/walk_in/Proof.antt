@@ -1,12 +1,11 @@
 use borrow.Author.Needs.{needs}
 use native.Mathlib.Omega.{arith}
 use mathlib.Core.Path.{subst}
-use lib.ListN.{length}
 use Prim.Native.Nat.{_/_}
 use Rattle.plan_context.specs.Laws.{here}
 use Rattle.transform_up.specs.Frame.{Outcome}
 use Rattle.call_parts.specs.Filing.{arena-loaded}
-use Rattle.walk_calls.specs.Walking.{walkable, partial-refused, walk-wrote, walk-small, walk-stopped}
+use Rattle.walk_calls.specs.Walking.{walkable, partial-refused, walk-wrote, walk-count, walk-stopped}
 use Rattle.walk_calls.proofs.walk_in.Statement.{statement}
 use Rattle.walk_calls.proofs.walk_in.Tie as tie
 
@@ -59,12 +58,9 @@ write-out-requires c κs = let s =
     let y = c .before .before .before .before .before .before .before .before .before .transform-up in let m'' = y .last .1 .0 in
     let g = c .before .before .before .used .given in
     let d = subst (λ o. Outcome o w m' u (h / 2)
-    (c .before .before .before .before .before .before .before .before .before .before .before .before .nodes .result) m'') (g .1) (y .ensures) in (
-      arena-loaded m'' (g .0 .0) (d .grown .arena),
-      d .grown .here,
-      walk-small m u h k p m' l a f w out _ eb z _ en m'' (y .kept .1 .0) (g .0 .0)
-          (g .0 .1 .0) (g .0 .1 .1 .0) d,
-    )
+    (c .before .before .before .before .before .before .before .before .before .before .before .before .nodes .result) m'') (g .1) (y .ensures) in
+    let q = walk-count m u h k p m' l a f w out _ eb z _ en m'' (y .kept .1 .0) (g .0 .0) (g .0 .1 .0) (g .0 .1 .1 .0) d in
+    (arena-loaded m'' (g .0 .0) (d .grown .arena), d .grown .here, q .0, q .1)
 
 enum-known-s : tie.Need-enum-known-s
 enum-known-s c = search needs
@@ -96,7 +92,7 @@ returns-2 c = let s = c .before .before .before .before .before .before .before 
     let d = subst (λ o. Outcome o w m' u (h / 2)
     (c .before .before .before .before .before .before .before .before .before .before .before .before .before .before .before .nodes .result) m'') (g .1)
     (y .ensures) in walk-wrote m u h k p m' l a f w out _ eb z _ en m'' (y .kept .1 .0) (g .0 .0) (g .0 .1 .0) (g .0 .1 .1 .0) d
-    (c .before .before .write-out .result) (c .before .before .write-out .last .1 .1 .1 .0) (c .before .before .write-out .ensures (length m''))
+    (c .before .before .write-out .result) (c .before .before .write-out .last .1 .1 .1 .1 .0) (c .before .before .write-out .ensures)
 
 same-length-5 : tie.Need-same-length-5
 same-length-5 c = search needs

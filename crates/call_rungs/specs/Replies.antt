@@ -3,7 +3,7 @@ use mathlib.Core.Path.{_≡_}
 use mathlib.Core.List.{List}
 use Prim.Native.Nat.{ℕ}
 use Rattle.plan.specs.Numbers.{numberOf}
-use Rattle.call_memory.specs.declared.Reply.{Reply}
+use Rattle.call_rungs.specs.declared.Reply.{Reply}
 use Rattle.call_answers.specs.Answers.{Result, refusalIn, outputIn, passesIn}
 
 -- The number, whether the plan passes, and every byte of the output afterwards: all that the result settles
