@@ -12,6 +12,7 @@
 //!     differential sample FILE [--small N] [--plans N] [--seed S] [--most N] [--kept]
 //!                                                                     adds to replay's cases those that notice the mutants
 //!     differential cases FILE                                         replay's cases through both sides
+//!     differential stack [--plans N] [--seed S]                       the most bytes of stack that the calls take
 //!     differential times [--svg FILE] [--without-aggregates]          both sides timed on the same plans
 //!     differential requests [--plans N] [--seed S] [--without-aggregates]
 //!                                                                     random plans through the library alone
@@ -37,6 +38,7 @@ mod rust_side;
 mod sample;
 mod shrink;
 mod small_plans;
+mod stack;
 mod threads;
 mod times;
 mod usage;
@@ -122,6 +124,7 @@ fn run(options: &Options) -> Option<bool> {
         "show" if words.len() > 2 => Some(compare::show(&words[1..words.len() - 1], &words[words.len() - 1])),
         "damage" => Some(damage::run(number("--files", 100_000), number("--seed", 1), options.is_given("--heap"))),
         "threads" => Some(threads::run(number("--plans", 2_000), number("--seed", 1), number("--threads", 8))),
+        "stack" => Some(stack::run(number("--plans", 20_000), number("--seed", 1))),
         "times" => {
             times::run(options.path("--svg").as_deref(), aggregates);
             Some(true)
@@ -156,6 +159,7 @@ mod tests {
         assert!(super::compare::run(3_000, u64::MAX, 11, 1));
         assert!(super::damage::run(3_000, 12, true));
         assert!(super::threads::run(100, 13, 4));
+        assert!(super::stack::run(300, 14));
     }
 
     #[test]

@@ -27,7 +27,7 @@ const fn usage(
     Usage { name, words: words.0, least: words.1, most: words.2, numbers, files, flags }
 }
 
-const COMMANDS: [Usage; 11] = [
+const COMMANDS: [Usage; 12] = [
     usage("vectors", (" FOLDER", 1, 1), NONE, NONE, NONE),
     usage("cases", (" FILE", 1, 1), NONE, NONE, NONE),
     usage("compare", ("", 0, 0), &["--plans", "--seconds", "--seed", "--threads"], NONE, NONE),
@@ -37,6 +37,7 @@ const COMMANDS: [Usage; 11] = [
     usage("mutants", ("", 0, 0), &["--plans", "--seed", "--from"], &["--cases"], &["--kept"]),
     usage("sample", (" FILE", 1, 1), &["--small", "--plans", "--seed", "--most"], NONE, &["--kept"]),
     usage("answers", ("", 0, 0), &["--plans", "--seed"], &["--cases"], NONE),
+    usage("stack", ("", 0, 0), &["--plans", "--seed"], NONE, NONE),
     usage("times", ("", 0, 0), NONE, &["--svg"], AGGREGATES),
     usage("requests", ("", 0, 0), &["--plans", "--seed"], NONE, AGGREGATES),
 ];

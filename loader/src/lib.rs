@@ -21,6 +21,10 @@ mod checked;
 mod draw;
 mod listing;
 mod refusal;
+#[cfg(feature = "records")]
+pub mod stack;
+#[cfg(all(test, not(feature = "records")))]
+mod stack;
 pub mod text;
 mod unmet;
 mod why;
@@ -59,6 +63,13 @@ pub use why::Why;
 
 /// The length of the longest plan file: an output of that length is never too short.
 pub const MOST_BYTES: usize = plan::MOST_BLOCKS * plan::BLOCK;
+
+/// No call takes more bytes of the stack, measured; a thread that calls needs them beside what it takes itself.
+pub const MOST_STACK: usize = 256_000;
+
+/// A call on a plan of up to 20 nodes takes no more bytes of the stack, measured, but for ensuring on plans that were sought for it
+/// (some chains of filters and projections over several sorts): these take up to 90 kB.
+pub const STACK_TO_20_NODES: usize = 48_000;
 
 /// The README's snippets are compiled and run.
 #[cfg(doctest)]

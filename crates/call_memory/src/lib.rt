@@ -36,8 +36,8 @@ fn above(slots: usize) -> usize
         15..=42 => 43,
         43..=84 => 85,
         85..=126 => 127,
-        127..=184 => 185,
-        185..=254 => 255,
+        127..=160 => 161,
+        161..=254 => 255,
         _ => 383,
     }
 }
@@ -57,8 +57,8 @@ fn climb(k: Call, plan: &[u8], out: &mut [u8], slots: usize) -> Reply
         15..=42 => in_42(k, plan, out),
         43..=84 => in_84(k, plan, out),
         85..=126 => in_126(k, plan, out),
-        127..=184 => in_184(k, plan, out),
-        185..=254 => in_254(k, plan, out),
+        127..=160 => in_160(k, plan, out),
+        161..=254 => in_254(k, plan, out),
         _ => in_382(k, plan, out),
     };
     let Called::Done(number, passes) = r else {

@@ -52,9 +52,9 @@ pub fn push_plan(plan: &[u8], out: &mut [u8], m: &mut [u8], b: &mut [u8]) -> Cal
 {
     let a = plan_arena::read(plan, m);
     let x = a.refusal;
-    let n = plan::number(x);
-    if n != 0 {
-        return Called::Done(n, false);
+    let number = plan::number(x);
+    if number != 0 {
+        return Called::Done(number, false);
     }
     push_in(m, a.used, a.root, out, b)
 }

@@ -1,5 +1,6 @@
 // The end of a step: the nodes of the whole plan are counted (refusal 23), and what only steps needed is given back. And how a walk ends or stops.
 use arena::At;
+use arena::SLOT;
 use plan_context::kept::nodes;
 use plan_copies::copy;
 ghost use mathlib.Core.Path.{_≡_};
@@ -20,7 +21,7 @@ pub enum Walked {
     Stopped(Stop),
 }
 
-// A subtree that used more slots than this is copied together after its walk.
+// A subtree that used more slots than this is always copied together after its walk.
 pub const TIDY_FROM: usize = 382;
 
 // So many slots are enough for every walk of every plan.
@@ -33,14 +34,17 @@ pub fn has_room(slots: usize, need: usize) -> bool
     (need <= slots) & ((need <= TIDY_FROM) | (FULL <= slots))
 }
 
-// The tree of s, copied to the slots from v on where many are used: what only the steps needed goes. Everything from v on is of this subtree, so no live
-// handle moves.
-fn tidied(m: &mut [u8], v: usize, s: At, c: &mut [u8]) -> At
-    requires { ⌜ Tidies (now m) v s (now c) ⌝ }
+// The tree of s, of k nodes, copied to the slots from v on where many are used, of a smaller arena more than half if there is room to copy it: what only the
+// steps needed goes. Everything from v on is of this subtree, so no live handle moves.
+fn tidied(m: &mut [u8], v: usize, s: At, k: usize, c: &mut [u8]) -> At
+    requires { ⌜ Tidies (now m) v s k (now c) ⌝ }
     ensures { λ r. ⌜ Tidied (now (m .entry)) v (now (m .exit)) r (treeOf (now (m .entry)) (s .root)) ⌝ }
 {
     if s.used <= TIDY_FROM {
-        return s;
+        let slots = m.len() / SLOT;
+        if (s.used <= slots / 2) | (slots < v + k) | (c.len() / SLOT < k) {
+            return s;
+        }
     }
     let x = copy(m, s.used, c, 0, s.root);
     copy(c, x.used, m, v, x.root)
@@ -51,10 +55,11 @@ pub fn end_step(m: &mut [u8], v: usize, s: At, n: usize, before: usize, c: &mut 
     requires { ⌜ Ending (now m) v s n before (now c) ⌝ }
     ensures { λ x. ⌜ Ended x (now (m .entry)) v s n before (now (m .exit)) ⌝ }
 {
-    let total = n + nodes(m, s.root) - before;
+    let k = nodes(m, s.root);
+    let total = n + k - before;
     if 126 < total {
         return Walked::Stopped(Stop::TooManyNodes);
     }
-    let z = tidied(m, v, s, c);
+    let z = tidied(m, v, s, k, c);
     Walked::Done(z.used, z.root, total)
 }

@@ -1,0 +1,132 @@
+//! How much of the stack a call takes: measured in a thread whose stack is memory of our own, painted before.
+use crate::exports::Call;
+use crate::plan::{BLOCK, MOST_BLOCKS};
+use std::ffi::{c_int, c_void};
+
+/// A thread's memory: more than any call takes.
+const STACK: usize = 1 << 20;
+const PAINT: u8 = 0xA5;
+
+/// As long as the system's own, or longer.
+#[repr(C, align(16))]
+struct Attributes([u8; 256]);
+
+unsafe extern "C" {
+    fn pthread_attr_init(attributes: *mut Attributes) -> c_int;
+    fn pthread_attr_setstack(attributes: *mut Attributes, memory: *mut c_void, length: usize) -> c_int;
+    fn pthread_attr_destroy(attributes: *mut Attributes) -> c_int;
+    fn pthread_create(
+        thread: *mut usize,
+        attributes: *const Attributes,
+        start: extern "C" fn(*mut c_void) -> *mut c_void,
+        argument: *mut c_void,
+    ) -> c_int;
+    fn pthread_join(thread: usize, answer: *mut *mut c_void) -> c_int;
+}
+
+/// What the thread does: a call, or nothing.
+struct Work<'a> {
+    call: Option<Call>,
+    plan: &'a [u8],
+    out: [u8; MOST_BLOCKS * BLOCK],
+}
+
+extern "C" fn start(work: *mut c_void) -> *mut c_void {
+    // SAFETY: `used` lends it, and waits for the thread
+    let work = unsafe { &mut *work.cast::<Work>() };
+    if let Some(call) = work.call {
+        call.run(work.plan, &mut work.out);
+    }
+    std::ptr::null_mut()
+}
+
+/// Memory for the threads' stacks, to be used again and again.
+pub struct Meter {
+    memory: Vec<u128>,
+    /// What a thread takes that calls nothing.
+    own: usize,
+    /// How many bytes from the top on may have lost their paint.
+    worn: usize,
+}
+
+impl Default for Meter {
+    fn default() -> Meter {
+        let mut meter = Meter { memory: vec![0; STACK / 16], own: 0, worn: STACK };
+        meter.own = meter.used(None, &[]);
+        meter
+    }
+}
+
+impl Meter {
+    /// The bytes of stack that a call on the plan took, beside those of the thread itself.
+    pub fn of(&mut self, call: Call, plan: &[u8]) -> usize {
+        self.used(Some(call), plan) - self.own
+    }
+
+    fn used(&mut self, call: Option<Call>, plan: &[u8]) -> usize {
+        let mut work = Box::new(Work { call, plan, out: [0; MOST_BLOCKS * BLOCK] });
+        let memory = self.memory.as_mut_ptr().cast::<u8>();
+        let (mut attributes, mut thread) = (Attributes([0; 256]), 0);
+        // SAFETY: the memory is STACK bytes long and nobody else's until the thread has ended; so is the work
+        unsafe {
+            std::ptr::write_bytes(memory.add(STACK - self.worn), PAINT, self.worn);
+            assert_eq!(pthread_attr_init(&mut attributes), 0);
+            assert_eq!(pthread_attr_setstack(&mut attributes, memory.cast(), STACK), 0);
+            assert_eq!(pthread_create(&mut thread, &attributes, start, (&raw mut *work).cast()), 0);
+            assert_eq!(pthread_join(thread, std::ptr::null_mut()), 0);
+            pthread_attr_destroy(&mut attributes);
+            let left = std::slice::from_raw_parts(memory, STACK).iter().take_while(|b| **b == PAINT).count();
+            self.worn = STACK - left;
+        }
+        self.worn
+    }
+}
+
+#[cfg(test)]
+mod tests {
+    use super::*;
+    use crate::exports::ALL;
+    use crate::random::Rng;
+    use crate::{MOST_STACK, STACK_TO_20_NODES, random_plans, text};
+
+    /// Every call, with the settings on too.
+    fn calls() -> impl Iterator<Item = Call> {
+        ALL.into_iter().chain([Call::Preserve([1; 3])])
+    }
+
+    fn room(nodes: usize) -> usize {
+        if nodes <= 20 { STACK_TO_20_NODES } else { MOST_STACK }
+    }
+
+    #[test]
+    fn random_plans_fit_their_stack() {
+        let (mut meter, mut small) = (Meter::default(), 0);
+        for i in 0..3_000 {
+            let plan = random_plans::plan(&mut Rng::new(17, i));
+            small += usize::from(plan.count() <= 20);
+            for call in calls() {
+                let used = meter.of(call, &plan.write());
+                assert!(used <= room(plan.count()), "{used} bytes, {call:?}:\n{}", text::show(&plan));
+            }
+        }
+        assert!((1_000..2_999).contains(&small));
+    }
+
+    /// Plans that a search for the most slots, or for the most stack, found.
+    #[test]
+    fn the_worst_plans_fit_their_stack() {
+        let mut meter = Meter::default();
+        let mut most = [0, 0];
+        for plan in include_str!("../tests/deep_plans.txt").split("\n\n") {
+            let plan = text::parse(plan).expect("a plan");
+            for call in calls() {
+                let used = meter.of(call, &plan.write());
+                assert!(used <= room(plan.count()), "{used} bytes, {call:?}:\n{}", text::show(&plan));
+                let most = &mut most[usize::from(plan.count() > 20)];
+                *most = used.max(*most);
+            }
+        }
+        // the figures say no more than is so
+        assert!(most[0] > STACK_TO_20_NODES * 9 / 10 && most[1] > MOST_STACK * 8 / 10, "{most:?}");
+    }
+}
