@@ -18,10 +18,16 @@ pub fn run(plans: u64, seed: u64) -> bool {
             *most = meter.of(*call, &file).max(*most);
         }
     }
-    println!("most bytes of stack, {plans} plans of seed {seed}\n{:24}{}", "up to .. nodes", NODES.map(|n| format!("{n:>8}")).concat());
+    println!(
+        "most bytes of stack, {plans} plans of seed {seed}\n{:24}{}",
+        "up to .. nodes",
+        NODES.map(|n| format!("{n:>8}")).concat()
+    );
     for (call, most) in calls.iter().zip(&most) {
         println!("{:24}{}", format!("{call:?}"), most.map(|n| format!("{n:>8}")).concat());
     }
-    let within = |most: &[usize; NODES.len()]| NODES.iter().zip(most).all(|(n, used)| *used <= if *n <= 20 { STACK_TO_20_NODES } else { MOST_STACK });
+    let within = |most: &[usize; NODES.len()]| {
+        NODES.iter().zip(most).all(|(n, used)| *used <= if *n <= 20 { STACK_TO_20_NODES } else { MOST_STACK })
+    };
     most.iter().all(within)
 }

@@ -12,7 +12,9 @@
    Threads: the library has no state of its own, so calls may run in any number of threads at once, on the same plan too, as long
    as each has its own output.
 
-   Stack: a call takes 288 to 407 kB of it, measured; a thread that calls needs room for that.
+   Stack: a call takes at most SORT_PLACEMENT_MOST_STACK bytes of it, and on a plan of up to 20 nodes at most
+   SORT_PLACEMENT_STACK_TO_20_NODES: measured on random plans and on plans that were sought for it. A thread that calls needs them
+   beside what it takes itself.
 
    Names: the exports have no prefix of their own. A program that links the library can have no other external symbol named
    check_order, copy_plan, ensure_sorting, parallelize_sorts, replace_with_order_preserving_variants, pushdown_sorts or
@@ -30,6 +32,10 @@ extern "C" {
 
 /* An output of this length is never too short. */
 #define SORT_PLACEMENT_MOST_BYTES 9216
+
+/* The bytes of stack that a call takes at most: on any plan, and on one of up to 20 nodes. */
+#define SORT_PLACEMENT_MOST_STACK 256000
+#define SORT_PLACEMENT_STACK_TO_20_NODES 48000
 
 /* The refusals. Of a file: */
 #define SORT_PLACEMENT_LENGTH 1           /* length 0, no multiple of 512, or above 18 blocks */

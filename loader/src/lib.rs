@@ -2,6 +2,7 @@
 //! Document 01 has the form of a file, the calls and their refusals; document 02 adds the aggregate.
 //!
 //! A call takes a plan file and an output of [`MOST_BYTES`], and answers the length of the file that it wrote, or a [`Refusal`].
+//! It allocates nothing, and takes [`MOST_STACK`] bytes of the stack at most, on a small plan [`STACK_TO_20_NODES`].
 //! [`Plan`] is a plan file as a tree, made from a file or from a [`text`], and [`listing`], [`draw`] and [`unmet`] show it.
 //!
 //! ```
@@ -64,11 +65,11 @@ pub use why::Why;
 /// The length of the longest plan file: an output of that length is never too short.
 pub const MOST_BYTES: usize = plan::MOST_BLOCKS * plan::BLOCK;
 
-/// No call takes more bytes of the stack, measured; a thread that calls needs them beside what it takes itself.
+/// No call takes more bytes of the stack: measured on random plans and on plans that were sought for it. A thread that calls needs
+/// them beside what it takes itself.
 pub const MOST_STACK: usize = 256_000;
 
-/// A call on a plan of up to 20 nodes takes no more bytes of the stack, measured, but for ensuring on plans that were sought for it
-/// (some chains of filters and projections over several sorts): these take up to 90 kB.
+/// No call on a plan of up to 20 nodes takes more bytes of the stack, measured in the same way.
 pub const STACK_TO_20_NODES: usize = 48_000;
 
 /// The README's snippets are compiled and run.

@@ -1,5 +1,5 @@
 //! The header beside the package: compiled and run by a C program over the same library, and held to what the library is.
-use sort_placement::Refusal;
+use sort_placement::{MOST_BYTES, MOST_STACK, Refusal, STACK_TO_20_NODES};
 use std::collections::BTreeSet;
 use std::process::Command;
 
@@ -34,7 +34,8 @@ fn the_header_has_every_refusal() {
         .filter_map(|(name, rest)| Some((name.to_string(), rest.split_whitespace().next()?.parse().ok()?)))
         .collect();
     let mut wanted: BTreeSet<(String, u32)> = Refusal::ALL.iter().map(|r| (constant(r), r.number())).collect();
-    wanted.insert(("SORT_PLACEMENT_MOST_BYTES".into(), sort_placement::MOST_BYTES as u32));
+    let sizes = [("MOST_BYTES", MOST_BYTES), ("MOST_STACK", MOST_STACK), ("STACK_TO_20_NODES", STACK_TO_20_NODES)];
+    wanted.extend(sizes.map(|(name, size)| (format!("SORT_PLACEMENT_{name}"), size as u32)));
     assert_eq!(defined, wanted);
 }
 

@@ -64,6 +64,31 @@ fn an_endless_input_is_cut() {
     assert_eq!(told(&output, 3), "refusal 1: the file is longer than 18 blocks, 9216 bytes\n");
 }
 
+/// Threads of the sizes that the package names, and 16 kB for what a thread takes itself; one that is too small ends the tests.
+#[test]
+fn small_threads_are_large_enough() {
+    use sort_placement::*;
+    for plan in include_str!("deep_plans.txt").split("\n\n") {
+        let plan = text::parse(plan).expect("a plan");
+        let room = if plan.count() <= 20 { STACK_TO_20_NODES } else { MOST_STACK };
+        let (file, mut out) = (plan.write(), vec![0; MOST_BYTES]);
+        let calls = move || {
+            let called = [
+                check_order(&file).is_ok(),
+                copy_plan(&file, &mut out).is_ok(),
+                ensure_sorting(&file, &mut out).is_ok(),
+                parallelize_sorts(&file, &mut out).is_ok(),
+                replace_with_order_preserving_variants(&file, Settings::default(), &mut out).is_ok(),
+                pushdown_sorts(&file, &mut out).is_ok(),
+                replace_with_partial_sort(&file, 0, &mut out).is_ok(),
+            ];
+            called.into_iter().filter(|ok| *ok).count()
+        };
+        let thread = std::thread::Builder::new().stack_size(room + (16 << 10)).spawn(calls).expect("a thread");
+        assert!(thread.join().expect("it ends") >= 2);
+    }
+}
+
 /// A pipe that nobody reads.
 fn closed_pipe() -> std::io::PipeWriter {
     std::io::pipe().expect("a pipe").1
