@@ -25,7 +25,7 @@ fn first_slots(k: Call, blocks: usize, last: u8) -> usize
     }
 }
 
-// More than the rung has that so many slots are taken from.
+// The next rung up: the least number of slots that it is taken for.
 fn above(slots: usize) -> usize
     requires { ⌜ slots ≤ 382 ⌝ }
     ensures { λ n. ⌜ slots < n ⌝ }
@@ -42,8 +42,8 @@ fn above(slots: usize) -> usize
     }
 }
 
-// The call with at least so many slots. It calls itself, and no loop does: a compiler that took the arenas of all rungs into one frame would have them all on
-// the stack, and into a function that calls itself it takes none.
+// The call with at least so many slots, or more where they are too few. It calls itself, and is no loop: into such a function the compiler takes no other that
+// has large locals, so that each rung keeps a frame of its own (docs/DECISIONS.md, 'One frame for each rung').
 fn climb(k: Call, plan: &[u8], out: &mut [u8], slots: usize) -> Reply
     requires { ⌜ (1 ≤ blockCount (now plan)) × (blockCount (now plan) ≤ 18) × (7 * blockCount (now plan) ≤ slots) ⌝ }
     ensures { λ r. ⌜ Answered r (afterReading (resultOf k) (reading (now (plan .entry)))) (now (out .entry)) (now (out .exit)) ⌝ }
