@@ -1,4 +1,4 @@
-/* The C exports of the proved library of sort placement, for x86-64.
+/* The C exports of the proved library of sort placement, for x86-64; a header for C99 and later, and for C++.
 
    A plan is a file of 1 to 18 blocks of 512 bytes. Each call returns 0, or the number of a refusal; a refused call has written
    nothing, neither to the output nor to *passes.
@@ -34,8 +34,8 @@ extern "C" {
 #define SORT_PLACEMENT_MOST_BYTES 9216
 
 /* The bytes of stack that a call takes at most: on any plan, and on one of up to 20 nodes. */
-#define SORT_PLACEMENT_MOST_STACK 256000
-#define SORT_PLACEMENT_STACK_TO_20_NODES 48000
+#define SORT_PLACEMENT_MOST_STACK 262144
+#define SORT_PLACEMENT_STACK_TO_20_NODES 49152
 
 /* The refusals. Of a file: */
 #define SORT_PLACEMENT_LENGTH 1           /* length 0, no multiple of 512, or above 18 blocks */

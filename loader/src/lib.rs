@@ -67,10 +67,10 @@ pub const MOST_BYTES: usize = plan::MOST_BLOCKS * plan::BLOCK;
 
 /// No call takes more bytes of the stack: measured on random plans and on plans that were sought for it. A thread that calls needs
 /// them beside what it takes itself.
-pub const MOST_STACK: usize = 256_000;
+pub const MOST_STACK: usize = 256 << 10;
 
 /// No call on a plan of up to 20 nodes takes more bytes of the stack, measured in the same way.
-pub const STACK_TO_20_NODES: usize = 48_000;
+pub const STACK_TO_20_NODES: usize = 48 << 10;
 
 /// The README's snippets are compiled and run.
 #[cfg(doctest)]

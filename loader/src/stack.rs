@@ -84,6 +84,7 @@ impl Meter {
 mod tests {
     use super::*;
     use crate::exports::ALL;
+    use crate::plan::repair_sum;
     use crate::random::Rng;
     use crate::{MOST_STACK, STACK_TO_20_NODES, random_plans, text};
 
@@ -94,6 +95,26 @@ mod tests {
 
     fn room(nodes: usize) -> usize {
         if nodes <= 20 { STACK_TO_20_NODES } else { MOST_STACK }
+    }
+
+    /// A file's header chooses the arenas to start with: whatever it says, three blocks take no more than a plan of 20 nodes does.
+    #[test]
+    fn damaged_files_fit_the_stack_of_their_length() {
+        let mut meter = Meter::default();
+        for blocks in [1, 2, 3, 18] {
+            let room = if blocks <= 3 { STACK_TO_20_NODES } else { MOST_STACK };
+            for (count, fill) in [(255, 0), (0, 0), (8, 1), (7, 255)] {
+                let mut file = vec![fill; blocks * BLOCK];
+                for block in file.chunks_mut(BLOCK) {
+                    block[4] = count;
+                    repair_sum(block);
+                }
+                for call in calls() {
+                    let used = meter.of(call, &file);
+                    assert!(used <= room, "{used} bytes, {call:?}: {blocks} blocks that say {count} records");
+                }
+            }
+        }
     }
 
     #[test]
@@ -110,7 +131,7 @@ mod tests {
         assert!((200..599).contains(&small));
     }
 
-    /// Plans that a search for the most slots, or for the most stack, found: four of 20 nodes, one of 126.
+    /// Plans that a search for the most slots, or for the most stack, found: six of 20 nodes, one of 126.
     #[test]
     fn the_worst_plans_fit_their_stack() {
         let mut meter = Meter::default();

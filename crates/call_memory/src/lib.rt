@@ -11,11 +11,12 @@ ghost use Rattle.call_answers.specs.Answers.{afterReading, rewrites};
 ghost use Rattle.plan_calls.specs.Results.{resultOf};
 ghost use Rattle.call_rungs.specs.Replies.{Answered};
 
-// The slots to start with, for a file of so many blocks whose last has so many records: a walk takes some four for each node.
+// The slots to start with, for a file of so many blocks whose last says that it has so many records, of which seven fit: a walk takes some four for each node.
 fn first_slots(k: Call, blocks: usize, last: u8) -> usize
     requires { ⌜ (1 ≤ blocks) × (blocks ≤ 18) ⌝ }
     ensures { λ n. ⌜ 7 * blocks ≤ n ⌝ }
 {
+    let last = if last <= 7 { last } else { 7 };
     let nodes = 7 * (blocks - 1) + last as usize;
     match k {
         Call::CheckOrder => 7 * blocks,
@@ -25,7 +26,8 @@ fn first_slots(k: Call, blocks: usize, last: u8) -> usize
     }
 }
 
-// The next rung up: the least number of slots that it is taken for.
+// The next rung up: the least number of slots that it is taken for. The rung of 150 slots, which tidies, is for small plans that climb from 126: no call starts
+// with 127 to 129.
 fn above(slots: usize) -> usize
     requires { ⌜ slots ≤ 382 ⌝ }
     ensures { λ n. ⌜ slots < n ⌝ }
@@ -36,8 +38,8 @@ fn above(slots: usize) -> usize
         15..=42 => 43,
         43..=84 => 85,
         85..=126 => 127,
-        127..=160 => 161,
-        161..=254 => 255,
+        127..=129 => 130,
+        130..=254 => 255,
         _ => 383,
     }
 }
@@ -57,8 +59,8 @@ fn climb(k: Call, plan: &[u8], out: &mut [u8], slots: usize) -> Reply
         15..=42 => in_42(k, plan, out),
         43..=84 => in_84(k, plan, out),
         85..=126 => in_126(k, plan, out),
-        127..=160 => in_160(k, plan, out),
-        161..=254 => in_254(k, plan, out),
+        127..=129 => in_150(k, plan, out),
+        130..=254 => in_254(k, plan, out),
         _ => in_382(k, plan, out),
     };
     let Called::Done(number, passes) = r else {

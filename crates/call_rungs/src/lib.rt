@@ -21,7 +21,7 @@ const SLOTS_14: usize = 14 * SLOT;
 
 const SLOTS_21: usize = 21 * SLOT;
 
-const SLOTS_26: usize = 26 * SLOT;
+const SLOTS_32: usize = 32 * SLOT;
 
 const SLOTS_42: usize = 42 * SLOT;
 
@@ -31,7 +31,7 @@ const SLOTS_84: usize = 84 * SLOT;
 
 const SLOTS_126: usize = 126 * SLOT;
 
-const SLOTS_160: usize = 160 * SLOT;
+const SLOTS_150: usize = 150 * SLOT;
 
 const SLOTS_189: usize = 189 * SLOT;
 
@@ -94,13 +94,13 @@ pub fn in_126(k: Call, plan: &[u8], out: &mut [u8]) -> Called
     call_in(k, plan, out, &mut m, &mut c)
 }
 
-// With scratch for trees of up to 26 nodes, so that what steps leave behind is given back.
-pub fn in_160(k: Call, plan: &[u8], out: &mut [u8]) -> Called
-    requires { ⌜ 7 * blockCount (now plan) ≤ 160 ⌝ }
+// With scratch for trees of up to 32 nodes, so that what steps leave behind is given back.
+pub fn in_150(k: Call, plan: &[u8], out: &mut [u8]) -> Called
+    requires { ⌜ 7 * blockCount (now plan) ≤ 150 ⌝ }
     ensures { λ r. ⌜ CalledAs r (afterReading (resultOf k) (reading (now (plan .entry)))) (now (out .entry)) (now (out .exit)) 1 ⌝ }
 {
-    let mut m = [0u8; SLOTS_160];
-    let mut c = [0u8; SLOTS_26];
+    let mut m = [0u8; SLOTS_150];
+    let mut c = [0u8; SLOTS_32];
     call_in(k, plan, out, &mut m, &mut c)
 }
 

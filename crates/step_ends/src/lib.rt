@@ -34,15 +34,15 @@ pub fn has_room(slots: usize, need: usize) -> bool
     (need <= slots) & ((need <= TIDY_FROM) | (FULL <= slots))
 }
 
-// The tree of s, of k nodes, copied to the slots from v on where many are used, of a smaller arena more than half if there is room to copy it: what only the
-// steps needed goes. Everything from v on is of this subtree, so no live handle moves.
+// The tree of s, of k nodes, copied to the slots from v on where many are used, of a smaller arena more than a third if there is room to copy it: what only
+// the steps needed goes. Everything from v on is of this subtree, so no live handle moves.
 fn tidied(m: &mut [u8], v: usize, s: At, k: usize, c: &mut [u8]) -> At
     requires { ⌜ Tidies (now m) v s k (now c) ⌝ }
     ensures { λ r. ⌜ Tidied (now (m .entry)) v (now (m .exit)) r (treeOf (now (m .entry)) (s .root)) ⌝ }
 {
     if s.used <= TIDY_FROM {
         let slots = m.len() / SLOT;
-        if (s.used <= slots / 2) | (slots < v + k) | (c.len() / SLOT < k) {
+        if (s.used <= slots / 3) | (FULL <= slots) | (slots < v + k) | (c.len() / SLOT < k) {
             return s;
         }
     }

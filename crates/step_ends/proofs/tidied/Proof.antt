@@ -1,18 +1,19 @@
 use borrow.Author.Needs.{needs}
 use native.Mathlib.Omega.{arith}
+use mathlib.Core.Bool.{_||_}
 use mathlib.Core.Logic.{⊎-elim}
 use Prim.Native.Nat.{_/_}
 use lib.Dec.{leb}
 use lib.ListN.{length}
 use Rattle.arena.specs.Arena.{slotSize}
-use Rattle.step_ends.specs.Tidying.{as-is, Fits, full-fits, small-fits, out-asks, back-asks, back}
+use Rattle.step_ends.specs.Tidying.{fullSlots, as-is, Fits, full-fits, small-fits, out-asks, back-asks, back}
 use Rattle.step_ends.proofs.tidied.Statement.{statement}
 use Rattle.step_ends.proofs.tidied.Tie as tie
 
 -- where the tree is copied there is room for it
 fits : (c : tie.Joined1) → Fits (c .before .before .before .before .args .m .now) (c .before .before .before .before .args .v) (c .before .before .before .before .args .s) (c .before .before .before .before .args .k) (c .before .before .before .before .args .c .now) (c .before .before .before .before .pre)
 fits c = let s = c .before .before .before .before in ⊎-elim (λ w. small-fits (s .args .m .now) (s .args .v) (s .args .s) (s .args .k) (s .args .c .now) (s .pre)
-    (leb (s .args .s .used) (length (s .args .m .now) / slotSize / 2)) (w .2 .left)) (λ w. full-fits (s .args .m .now) (s .args .v) (s .args .s) (s .args .k) (s .args .c .now) (s .pre) (omega (arith, w .left))) (c .if1 .came)
+    (leb (s .args .s .used) (length (s .args .m .now) / slotSize / 3) || leb fullSlots (length (s .args .m .now) / slotSize)) (w .2 .left)) (λ w. full-fits (s .args .m .now) (s .args .v) (s .args .s) (s .args .k) (s .args .c .now) (s .pre) (omega (arith, w .left))) (c .if1 .came)
 
 add-if2 : tie.Need-add-if2
 add-if2 c = search needs
