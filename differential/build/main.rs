@@ -39,9 +39,16 @@ fn sources() -> PathBuf {
     println!("cargo:rerun-if-env-changed=OPTIMIZER_SOURCES");
     let package = Path::new(env!("CARGO_MANIFEST_DIR"));
     let near = || package.ancestors().map(|a| a.join("shared/docs/src")).find(|f| f.exists());
-    let folder = std::env::var_os("OPTIMIZER_SOURCES").map(PathBuf::from).or_else(near).expect(HOW);
+    let named = std::env::var_os("OPTIMIZER_SOURCES").map(PathBuf::from);
+    let folder = named.or_else(near).unwrap_or_else(|| stop(&format!("the optimizer's sources are wanted: {HOW}")));
     let found = [folder.join("src"), folder.clone()].into_iter().find(|f| f.join("output_requirements.rs").exists());
-    found.unwrap_or_else(|| panic!("the files are not in {}: {HOW}", folder.display()))
+    found.unwrap_or_else(|| stop(&format!("the optimizer's files are not in {}: {HOW}", folder.display())))
+}
+
+/// Ends the build with what is wanted, and no trace of the stack.
+fn stop(why: &str) -> ! {
+    eprintln!("{why}");
+    std::process::exit(1)
 }
 
 fn place_of(file: &str) -> PathBuf {
@@ -50,7 +57,7 @@ fn place_of(file: &str) -> PathBuf {
 
 fn text(path: &Path) -> String {
     println!("cargo:rerun-if-changed={}", path.display());
-    std::fs::read_to_string(path).unwrap_or_else(|e| panic!("{}: {e}", path.display()))
+    std::fs::read_to_string(path).unwrap_or_else(|e| stop(&format!("{}: {e}", path.display())))
 }
 
 fn write(path: &Path, text: &str) {

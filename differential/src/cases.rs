@@ -1,5 +1,6 @@
 //! The cases of the program `replay`: requests with their answers, in the form that tools/sample_vectors.py describes.
 use crate::rust_side::{self, Answer};
+use crate::usage::stop;
 use sort_placement::exports::Call;
 use std::path::Path;
 
@@ -98,7 +99,7 @@ impl Case {
 }
 
 pub fn read(path: &Path) -> Vec<Case> {
-    let bytes = std::fs::read(path).unwrap_or_else(|e| panic!("{}: {e}", path.display()));
+    let bytes = std::fs::read(path).unwrap_or_else(|e| stop(&format!("{}: {e}", path.display())));
     let mut out = vec![];
     let mut at = 0;
     while at < bytes.len() {

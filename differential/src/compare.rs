@@ -1,6 +1,7 @@
 //! Random plans through the Rust and through the library: the same numbers and the same bytes.
 use crate::random_plans::{self, Rng};
 use crate::rust_side::{self, Answer};
+use crate::usage::stop;
 use crate::{domain, library, shrink};
 use sort_placement::exports::{ALL, Call};
 use sort_placement::plan::{self, BLOCK, MOST_BLOCKS, Node, kind::*};
@@ -131,18 +132,30 @@ fn report(call: Call, room: usize, tree: Node, place: &str) {
 
 /// The call that words name, as `preserve spr prefer` or `partial 3`.
 fn call_of(words: &[String]) -> Option<Call> {
-    let on = |word: &str| words.iter().any(|w| w == word) as u8;
-    match words.first()?.as_str() {
-        "preserve" => Some(Call::Preserve([on("spr"), on("spm"), on("prefer")])),
-        "partial" => Some(Call::Partial(words.get(1)?.parse().ok()?)),
-        name => ALL.into_iter().find(|c| c.name() == name),
+    let (name, rest) = words.split_first()?;
+    match (name.as_str(), rest) {
+        ("preserve", settings) => {
+            let times = ["spr", "spm", "prefer"].map(|s| settings.iter().filter(|w| *w == s).count());
+            let each_once = times.iter().all(|n| *n <= 1) && times.iter().sum::<usize>() == settings.len();
+            each_once.then(|| Call::Preserve(times.map(|n| n as u8)))
+        }
+        ("partial", rest) => {
+            if let [node] = rest {
+                node.parse().ok().map(Call::Partial)
+            } else {
+                None
+            }
+        }
+        (name, []) => ALL.into_iter().find(|c| c.name() == name),
+        _ => None,
     }
 }
 
 /// Prints both sides' answers to one call on the plan of a text; whether they agree.
 pub fn show(words: &[String], path: &str) -> bool {
-    let call = call_of(words).expect("a call");
-    let plan = text::parse(&std::fs::read_to_string(path).expect("a text")).expect("a plan");
+    let call = call_of(words).unwrap_or_else(|| stop(&format!("no call '{}'", words.join(" "))));
+    let text = std::fs::read_to_string(path).unwrap_or_else(|e| stop(&format!("{path}: {e}")));
+    let plan = text::parse(&text).unwrap_or_else(|e| stop(&format!("{path}: {e}")));
     let (file, room) = (plan.write(), if call == Call::Check { 1 } else { MOST_BLOCKS * BLOCK });
     let rust = rust_side::answer(call, &file, room);
     println!("the Rust{}:\n{}", if rust.panicked { " panics; document 01" } else { "" }, shown(&rust));

@@ -54,32 +54,11 @@ extern crate stand_ins as datafusion_physical_expr_common;
 extern crate stand_ins as datafusion_physical_plan;
 extern crate stand_ins as itertools;
 use stand_ins::PhysicalOptimizerRule;
-use std::path::{Path, PathBuf};
+use std::path::Path;
+use usage::Options;
 include!(concat!(env!("OUT_DIR"), "/optimizer.rs"));
 #[cfg(mutant)]
 include!(concat!(env!("OUT_DIR"), "/rust_side.rs"));
-
-/// The words of the command line.
-struct Options(Vec<String>);
-
-impl Options {
-    fn is_given(&self, name: &str) -> bool {
-        self.0.iter().any(|a| a == name)
-    }
-
-    /// The word after an option.
-    fn word(&self, name: &str) -> Option<&String> {
-        self.0.iter().position(|a| a == name).and_then(|i| self.0.get(i + 1))
-    }
-
-    fn number(&self, name: &str, default: u64) -> u64 {
-        self.word(name).map_or(default, |v| v.parse().expect("a number: `usage` has asked"))
-    }
-
-    fn path(&self, name: &str) -> Option<PathBuf> {
-        self.word(name).map(PathBuf::from)
-    }
-}
 
 /// Panics of the Rust are caught and compared, and not told.
 fn silence_the_rust() {
@@ -98,7 +77,7 @@ fn on_mutants(command: &str, options: &Options) -> Option<bool> {
         "mutants" => Some(mutants::run(plans, seed, options.number("--from", 0), options.path("--cases").as_deref(), kept)),
         "sample" => {
             let (small, most) = (options.number("--small", 12_000), options.number("--most", 3_000) as usize);
-            sample::run(Path::new(options.0.get(1)?), &sample::Choice { small, seed, plans, most, kept });
+            sample::run(Path::new(options.words.get(1)?), &sample::Choice { small, seed, plans, most, kept });
             Some(true)
         }
         "answers" => {
@@ -113,7 +92,7 @@ fn on_mutants(command: &str, options: &Options) -> Option<bool> {
 /// Runs a command; whether both sides agreed. None if there is no such command.
 fn run(options: &Options) -> Option<bool> {
     let number = |name: &str, default: u64| options.number(name, default);
-    let (words, aggregates) = (&options.0, !options.is_given("--without-aggregates"));
+    let (words, aggregates) = (&options.words, !options.is_given("--without-aggregates"));
     match words.first()?.as_str() {
         "vectors" if words.len() == 2 => Some(vectors::run(Path::new(&words[1]))),
         "cases" if words.len() == 2 => Some(vectors::run_cases(Path::new(&words[1]))),
@@ -140,11 +119,14 @@ fn run(options: &Options) -> Option<bool> {
 fn main() {
     silence_the_rust();
     let words: Vec<String> = std::env::args().skip(1).collect();
-    if let Some(wrong) = usage::wrong(&words) {
-        eprintln!("{wrong}");
-        std::process::exit(2);
+    if let [word] = &words[..]
+        && ["--help", "-h", "help"].contains(&word.as_str())
+    {
+        print!("{}", usage::all());
+        return;
     }
-    let agreed = run(&Options(words)).expect("a command");
+    let options = usage::take(&words).unwrap_or_else(|wrong| usage::stop(&wrong));
+    let agreed = run(&options).expect("a command");
     #[cfg(feature = "branches")]
     let agreed = branches::print() && agreed;
     std::process::exit(if agreed { 0 } else { 1 });

@@ -1,5 +1,34 @@
 //! What each command takes, and what is wrong with the words of a command line: an option that a command does not have is not passed
 //! over, since a run that did something else would look the same.
+use std::collections::BTreeMap;
+use std::path::PathBuf;
+
+/// A command line: the command's name and the words behind it, and the options with their values.
+#[derive(Debug, Default)]
+pub struct Options {
+    pub words: Vec<String>,
+    values: BTreeMap<String, String>,
+}
+
+impl Options {
+    pub fn is_given(&self, name: &str) -> bool {
+        self.values.contains_key(name)
+    }
+
+    pub fn number(&self, name: &str, default: u64) -> u64 {
+        self.values.get(name).map_or(default, |v| v.parse().expect("a number: `take` has asked"))
+    }
+
+    pub fn path(&self, name: &str) -> Option<PathBuf> {
+        self.values.get(name).map(PathBuf::from)
+    }
+}
+
+/// Ends the program where a command can't be carried out.
+pub fn stop(why: &str) -> ! {
+    eprintln!("{why}");
+    std::process::exit(2)
+}
 
 /// A command: its name, its words as they are told, how many at the least and at the most, its options with a number, with a file, and
 /// with nothing behind them.
@@ -50,48 +79,70 @@ impl Usage {
         format!("differential {}{}{}", self.name, self.words, numbers.chain(files).chain(flags).collect::<String>())
     }
 
-    /// What is wrong with the words behind the command's name.
-    fn wrong(&self, words: &[String]) -> Option<String> {
-        let (mut plain, mut words) = (0, words.iter());
+    /// The value that an option takes from the words behind it.
+    fn value(&self, name: &str, behind: Option<&String>) -> Result<String, String> {
+        let value = behind.map_or("", String::as_str);
+        if self.files.contains(&name) {
+            return if value.is_empty() { Err(format!("{name} wants a file behind it")) } else { Ok(value.into()) };
+        }
+        match value.parse::<u64>() {
+            Err(_) => Err(format!("{name} wants a number, and {value:?} is none")),
+            Ok(0) if name == "--threads" => Err("no threads do nothing".into()),
+            Ok(_) => Ok(value.into()),
+        }
+    }
+
+    /// The words behind the command's name, or what is wrong with them.
+    fn take(&self, words: &[String]) -> Result<Options, String> {
+        let mut options = Options { words: vec![self.name.into()], values: BTreeMap::new() };
+        let mut words = words.iter();
         while let Some(word) = words.next() {
             let name = word.as_str();
-            if self.numbers.contains(&name) {
-                let value = words.next().map_or("", String::as_str);
-                if value.parse::<u64>().is_err() {
-                    return Some(format!("{name} wants a number, and {value:?} is none"));
-                }
-            } else if self.files.contains(&name) {
-                if words.next().is_none() {
-                    return Some(format!("{name} wants a file behind it"));
-                }
-            } else if name.starts_with("--") && !self.flags.contains(&name) {
-                return Some(format!("{} has no option {name}", self.name));
-            } else if !name.starts_with("--") {
-                plain += 1;
+            if !name.starts_with("--") {
+                options.words.push(word.clone());
+                continue;
+            }
+            let value = if self.flags.contains(&name) {
+                String::new()
+            } else if self.numbers.contains(&name) || self.files.contains(&name) {
+                self.value(name, words.next())?
+            } else {
+                return Err(format!("{} has no option {name}", self.name));
+            };
+            if options.values.insert(name.into(), value).is_some() {
+                return Err(format!("{name} stands twice"));
             }
         }
-        let fits = (self.least..=self.most).contains(&plain);
-        (!fits).then(|| format!("{} was given {plain} words", self.name))
+        let plain = options.words.len() - 1;
+        if (self.least..=self.most).contains(&plain) {
+            Ok(options)
+        } else {
+            Err(format!("{} was given {plain} words", self.name))
+        }
     }
 }
 
-/// What is wrong with a command line, with what the command takes; nothing where it can be run.
-pub fn wrong(words: &[String]) -> Option<String> {
+/// What all commands take.
+pub fn all() -> String {
+    COMMANDS.iter().map(|c| c.told() + "\n").collect()
+}
+
+/// A command line, or what is wrong with it, with what the command takes.
+pub fn take(words: &[String]) -> Result<Options, String> {
     let name = words.first().map_or("", String::as_str);
     match COMMANDS.iter().find(|c| c.name == name) {
-        Some(command) => command.wrong(&words[1..]).map(|wrong| format!("{wrong}\n{}", command.told())),
-        None => {
-            let all: Vec<String> = COMMANDS.iter().map(Usage::told).collect();
-            Some(format!("no command {name:?}\n{}", all.join("\n")))
-        }
+        Some(command) => command.take(&words[1..]).map_err(|wrong| format!("{wrong}\n{}", command.told())),
+        None => Err(format!("no command {name:?}\n{}", all().trim_end())),
     }
 }
 
 #[cfg(test)]
 mod tests {
-    fn wrong(line: &str) -> Option<String> {
+    use super::Options;
+
+    fn take(line: &str) -> Result<Options, String> {
         let words: Vec<String> = line.split_whitespace().map(String::from).collect();
-        super::wrong(&words)
+        super::take(&words)
     }
 
     #[test]
@@ -103,10 +154,13 @@ mod tests {
             ("compare 5", "given 1 words"),
             ("vectors", "given 0 words"),
             ("mutants --cases", "wants a file"),
+            ("compare --threads 0", "no threads do nothing"),
+            ("compare --seed 1 --seed 2", "--seed stands twice"),
+            ("sample --small 5", "given 0 words"),
             ("compute", "no command \"compute\""),
             ("", "no command"),
         ] {
-            let told = wrong(line).unwrap_or_else(|| panic!("{line}: nothing wrong"));
+            let told = take(line).expect_err(line);
             assert!(told.contains(part), "{line}: {told}");
         }
     }
@@ -120,7 +174,10 @@ mod tests {
             "times --svg F --without-aggregates",
             "sample F --kept",
         ] {
-            assert_eq!(wrong(line), None, "{line}");
+            take(line).expect(line);
         }
+        let sample = take("sample --small 5 F --kept").expect("a command line");
+        assert_eq!(sample.words, ["sample", "F"]);
+        assert_eq!((sample.number("--small", 0), sample.number("--seed", 7), sample.is_given("--kept")), (5, 7, true));
     }
 }

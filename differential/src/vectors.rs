@@ -3,6 +3,7 @@
 use crate::cases::{self, Case, Request};
 use crate::library;
 use crate::rust_side::Answer;
+use crate::usage::stop;
 use sort_placement::exports::Call;
 use std::collections::BTreeMap;
 use std::path::Path;
@@ -81,8 +82,10 @@ fn hold(case: &Case, place: &str, figures: &mut BTreeMap<&str, Figures>) {
     }
 }
 
-fn agree(figures: &BTreeMap<&str, Figures>) -> bool {
-    assert!(!figures.is_empty(), "no cases there");
+fn agree(figures: &BTreeMap<&str, Figures>, path: &Path) -> bool {
+    if figures.is_empty() {
+        stop(&format!("{}: no requests there", path.display()));
+    }
     print(figures);
     figures.values().all(|f| f.rust_differs + f.library_differs == 0)
 }
@@ -99,7 +102,7 @@ pub fn run(folder: &Path) -> bool {
             hold(&Case { request, number, bytes }, &format!("{}:{}", path.display(), 2 * i + 1), &mut figures);
         }
     }
-    agree(&figures)
+    agree(&figures, folder)
 }
 
 /// Whether both sides agree with all cases of replay.
@@ -108,5 +111,5 @@ pub fn run_cases(path: &Path) -> bool {
     for (i, case) in cases::read(path).iter().enumerate() {
         hold(case, &format!("case {i}"), &mut figures);
     }
-    agree(&figures)
+    agree(&figures, path)
 }

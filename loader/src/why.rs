@@ -42,6 +42,11 @@ impl Fault {
     }
 }
 
+/// So many of something, in words.
+pub(crate) fn counted(n: usize, one: &str, many: &str) -> String {
+    format!("{n} {}", if n == 1 { one } else { many })
+}
+
 impl Why {
     /// Of the file as a whole.
     pub(crate) fn of_file(refusal: Refusal, words: &str) -> Why {

@@ -86,6 +86,21 @@ fn a_refusal_says_where() {
 }
 
 #[test]
+fn a_refusal_of_a_text_says_its_line() {
+    let tried = |words: &[&str], plan: &str| {
+        let text = format!("# a remark\n{plan}");
+        told(&run(&[&["try"], words].concat(), text.as_bytes()), 3).to_string()
+    };
+    let partial = "filter\n\n  partial-sort keys=0,1 prefix=1\n    source streams=1 width=2 keys=0 unbounded";
+    let rule = "refusal 21: line 4: node 1 (partial-sort): a tree with a partial sort is not rewritten\n";
+    assert_eq!(tried(&["ensure"], partial), rule);
+    let sorted = "filter\n  sort keys=0\n    source streams=1 width=2 keys=0 unbounded";
+    let rule = "refusal 22: line 3: node 1 (sort): its unbounded child already meets all its keys\n";
+    assert_eq!(tried(&["partial", "1"], sorted), rule);
+    assert_eq!(tried(&["partial", "9"], sorted), "refusal 20: there is no node 9, the last is 2\n");
+}
+
+#[test]
 fn the_sample_is_ensured() {
     let ensured = run(&["ensure"], &sample()).stdout;
     assert_eq!(text(&run(&["check"], &ensured)), "passes\n");

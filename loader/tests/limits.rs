@@ -37,7 +37,7 @@ fn a_deep_text_is_told() {
 
 #[test]
 fn what_is_no_text_is_told() {
-    assert_eq!(told(&run(&["make"], b"filter\n  \xff"), 2), "standard input: line 2: not a text in UTF-8\n");
+    assert_eq!(told(&run(&["make"], b"filter\n \xc3\xa9 \xff"), 2), "standard input: line 2, column 4: not a text in UTF-8\n");
 }
 
 /// Half a gigabyte that takes no room on the disk; a process that may have 100 MB of memory refuses it by its length.
@@ -118,6 +118,9 @@ fn a_full_disk_is_told() {
     assert_eq!(told(&output, 4), "standard output: No space left on device (os error 28)\n");
     let output = run(&["make", SAMPLE, "-o", "/dev/full"], b"");
     assert_eq!(told(&output, 4), "/dev/full: No space left on device (os error 28)\n");
-    let output = run(&["list", "/no/such/file"], b"");
-    assert_eq!(told(&output, 4), "/no/such/file: No such file or directory (os error 2)\n");
+    for (path, place) in [("/no/such/file", "/no/such/file"), ("", "the path ''")] {
+        let missing = format!("{place}: No such file or directory (os error 2)\n");
+        assert_eq!(told(&run(&["list", path], b""), 4), missing);
+    }
+    assert_eq!(told(&run(&["make", SAMPLE, "-o", ""], b""), 4), "the path '': No such file or directory (os error 2)\n");
 }

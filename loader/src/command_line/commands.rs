@@ -64,7 +64,7 @@ fn status(passes: bool) -> ExitCode {
     if passes { ExitCode::SUCCESS } else { ExitCode::from(NOT_PASSED) }
 }
 
-/// A call on the plan of a text, with what it changed.
+/// A call on a plan, with what it changed.
 fn tried(call: Call, plan: &Plan) -> Result<(String, bool), Failure> {
     match call {
         Call::Check => {
@@ -78,24 +78,31 @@ fn tried(call: Call, plan: &Plan) -> Result<(String, bool), Failure> {
     }
 }
 
+/// The same on a text. A refusal has the node's line then.
+fn tried_on(call: Call, text: &str) -> Result<(String, bool), Failure> {
+    tried(call, &text::parse(text)?).map_err(|failure| match failure {
+        Failure::Refused(why) => Failure::Text(text::refused(text, why)),
+        other => other,
+    })
+}
+
 /// Runs a request; the status of one that was answered.
 pub fn run(request: Request) -> Result<ExitCode, Failure> {
     let Request { command, input, output } = request;
     let plan = || Ok::<Plan, Failure>(Plan::read(&files::plan_file(&input)?)?);
-    let parsed = || Ok::<Plan, Failure>(text::parse(&files::text(&input)?)?);
     let (bytes, passes) = match command {
         Command::Print(text) => (text.into_bytes(), true),
         Command::List => (listing(&plan()?).into_bytes(), true),
         Command::Draw => (draw(&plan()?).into_bytes(), true),
         Command::Show => (text::show(&plan()?).into_bytes(), true),
-        Command::Make => (parsed()?.write(), true),
+        Command::Make => (text::parse(&files::text(&input)?)?.write(), true),
         Command::Call(Call::Rewrite(call)) => (rewrite(call, &files::plan_file(&input)?)?, true),
         Command::Call(Call::Check) => {
             let (words, passes) = check(&files::plan_file(&input)?)?;
             (words.into_bytes(), passes)
         }
         Command::Try(call) => {
-            let (words, passes) = tried(call, &parsed()?)?;
+            let (words, passes) = tried_on(call, &files::text(&input)?)?;
             (words.into_bytes(), passes)
         }
     };

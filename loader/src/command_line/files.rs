@@ -2,7 +2,7 @@
 use crate::failure::Failure;
 use sort_placement::MOST_BYTES;
 use sort_placement::text::{MOST_TEXT_BYTES, TextError};
-use std::ffi::{OsStr, OsString};
+use std::ffi::OsString;
 use std::fs::File;
 use std::io::{self, ErrorKind, Read, Write};
 
@@ -10,7 +10,11 @@ use std::io::{self, ErrorKind, Read, Write};
 pub type Place = Option<OsString>;
 
 fn name(place: &Place, standard: &str) -> String {
-    place.as_deref().map_or(standard.into(), |path: &OsStr| path.display().to_string())
+    match place.as_deref() {
+        None => standard.into(),
+        Some(path) if path.is_empty() => "the path ''".into(),
+        Some(path) => path.display().to_string(),
+    }
 }
 
 /// Reads one byte more than there may be, which tells that there are too many, and no more of a large file.
@@ -38,8 +42,9 @@ pub fn text(place: &Place) -> Result<String, Failure> {
     }
     String::from_utf8(bytes).map_err(|e| {
         let good = &e.as_bytes()[..e.utf8_error().valid_up_to()];
-        let line = 1 + good.iter().filter(|b| **b == b'\n').count();
-        Failure::NoText(format!("{}: line {line}: not a text in UTF-8", name(place, "standard input")))
+        let good = String::from_utf8_lossy(good);
+        let (line, column) = (1 + good.matches('\n').count(), 1 + good.chars().rev().take_while(|c| *c != '\n').count());
+        Failure::NoText(format!("{}: line {line}, column {column}: not a text in UTF-8", name(place, "standard input")))
     })
 }
 

@@ -160,8 +160,8 @@ Options: -o OUT, -h or --help, -V or --version; behind -- nothing is an option.
     out += ORDERS.replace("It looks", "The order check looks").as_str();
     out += "
 
-Status: 0 done; 1 the plan does not pass the check; 2 bad usage, or a text that is none; 3 a refusal, told with its number and its
-place, and nothing is written; 4 a file can't be read or written.
+Status: 0 done; 1 the plan does not pass the check; 2 bad usage, or a text that is not of the form; 3 a refusal, told with its number
+and its place, and nothing is written; 4 a file can't be read or written.
 ";
     out
 }

@@ -107,7 +107,8 @@ fn settings(rest: &mut Rest) -> Result<Settings, Failure> {
 
 fn node(rest: &mut Rest) -> Result<u32, Failure> {
     let Some(word) = rest.next() else { return usage("partial wants a node's number behind it".into()) };
-    let number = word.to_str().and_then(|w| w.parse().ok());
+    let digits = word.to_str().filter(|w| w.bytes().all(|b| b.is_ascii_digit()));
+    let number = digits.and_then(|w| w.parse().ok());
     number.ok_or_else(|| Failure::Usage(format!("partial wants a node's number behind it, not '{}'", word.display())))
 }
 
@@ -150,28 +151,37 @@ fn command(name: &str, rest: &mut Rest) -> Result<Command, Failure> {
     }
 }
 
+/// The list of commands, or a command's own page.
+fn page(topic: Option<&OsString>) -> Result<String, Failure> {
+    match topic {
+        None => Ok(help::all()),
+        Some(name) => match name.to_str().and_then(help::of) {
+            Some(text) => Ok(text),
+            None => usage(format!("there is no command '{}'", name.display())),
+        },
+    }
+}
+
 /// `--help`, `--version`, `help`, `help COMMAND`, `COMMAND --help`.
 fn printed(words: &Words) -> Result<Option<Command>, Failure> {
-    let first = words.words.first().and_then(|w| w.to_str());
-    if words.version {
-        return Ok(Some(Command::Print(help::VERSION.into())));
-    }
-    let topic = match first {
-        Some("help") => words.words.get(1),
-        _ if words.help => words.words.first(),
-        _ => return Ok(None),
+    let mut rest = Rest(&words.words);
+    let asked = match (words.version, words.help || rest.peek() == Some("help")) {
+        (false, false) => return Ok(None),
+        (true, true) => return usage("--version does not go with help".into()),
+        (true, false) => "--version",
+        (false, true) => "help",
     };
-    if first == Some("help") && words.words.len() > 2 {
-        return usage(format!("help tells of one command, and '{}' is a second", words.words[2].display()));
+    if words.output.is_some() {
+        return usage(format!("-o does not go with {asked}"));
     }
-    let text = match topic {
-        None => help::all(),
-        Some(name) => match name.to_str().and_then(help::of) {
-            Some(text) => text,
-            None => return usage(format!("there is no command '{}'", name.display())),
-        },
-    };
-    if words.output.is_some() { usage("-o does not go with help".into()) } else { Ok(Some(Command::Print(text))) }
+    if rest.peek() == Some("help") {
+        rest.next();
+    }
+    let text = if words.version { help::VERSION.into() } else { page(rest.next().as_ref())? };
+    match rest.next() {
+        Some(word) => usage(format!("'{}' has no place beside {asked}", word.display())),
+        None => Ok(Some(Command::Print(text))),
+    }
 }
 
 fn place(path: Option<OsString>) -> Place {

@@ -2,7 +2,7 @@
 use super::kind::*;
 use super::record::{HASH, PRESERVE, UNBOUNDED};
 use super::{MOST_COLUMNS, MOST_KEYS, NO_FETCH, number};
-use crate::why::Fault;
+use crate::why::{Fault, counted};
 
 /// Whether a record is a repartition by hash.
 pub(super) fn is_hash(r: &[u8]) -> bool {
@@ -20,7 +20,7 @@ pub(super) fn kind_fault(r: &[u8]) -> Option<Fault> {
         return None;
     }
     let can_have = if kind == UNION { "2 to 8".into() } else { allowed.start().to_string() };
-    Fault::new("children", format!("it has {children} children, and can have {can_have}"))
+    Fault::new("children", format!("it has {}, and can have {can_have}", counted(children, "child", "children")))
 }
 
 /// A field that is wrong; one that the kind does not have must be zero.

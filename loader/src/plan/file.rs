@@ -2,26 +2,42 @@
 use super::blocks::{self, MOST_RECORDS, RECORD, RECORDS_FROM};
 use super::{BLOCK, Node, Record, columns, fields, lists};
 use crate::Refusal;
-use crate::why::{Fault, Why};
+use crate::why::{Fault, Why, counted};
 
 /// The records of a file whose blocks are right.
 fn records(file: &[u8]) -> Vec<&[u8]> {
     file.chunks(BLOCK).flat_map(|b| b[RECORDS_FROM..RECORDS_FROM + RECORD * b[4] as usize].chunks(RECORD)).collect()
 }
 
-/// Refusal 5, counted from the last record: each takes its children from the trees that are finished.
-fn shape_fault(records: &[&[u8]]) -> Option<Why> {
-    let mut open = 0usize;
+/// Refusal 5 where records are left over: the root's tree ends before the last of them.
+fn left_over(records: &[&[u8]]) -> Option<Why> {
+    let mut wanted = 1usize;
+    for (node, r) in records.iter().enumerate() {
+        if wanted == 0 {
+            let left = counted(records.len() - node, "record is", "records are");
+            return Some(Why::of_file(
+                Refusal::Shape,
+                &format!("the root's tree ends with node {}, and {left} left over", node - 1),
+            ));
+        }
+        wanted = wanted - 1 + r[1] as usize;
+    }
+    None
+}
+
+/// Refusal 5 where records are missing, counted from the last: each takes its children from the trees that are finished.
+fn missing(records: &[&[u8]]) -> Option<Why> {
+    let mut finished = 0usize;
     for (node, r) in records.iter().enumerate().rev() {
         let children = r[1] as usize;
-        if open < children {
-            let words = format!("it has {children} children, and {open} stand behind it: records are missing");
+        if finished < children {
+            let has = counted(children, "child", "children");
+            let words = format!("it has {has}, and {finished} of them in the file: records are missing");
             return Some(Why::of_node(Refusal::Shape, node, r[0], Fault { field: "children", words }));
         }
-        open = open - children + 1;
+        finished = finished - children + 1;
     }
-    let left = open - 1;
-    (left != 0).then(|| Why::of_file(Refusal::Shape, &format!("{left} subtrees are left over behind the root's tree")))
+    None
 }
 
 /// Why documents 01 and 02 refuse a file, in their order of refusals; `None` where they accept it.
@@ -34,7 +50,8 @@ pub(crate) fn explain(file: &[u8]) -> Option<Why> {
         records.iter().enumerate().find_map(|(i, r)| Some(Why::of_node(refusal, i, r[0], rule(r)?)))
     };
     first(Refusal::Kind, fields::kind_fault)
-        .or_else(|| shape_fault(&records))
+        .or_else(|| left_over(&records))
+        .or_else(|| missing(&records))
         .or_else(|| first(Refusal::Field, |r| fields::number_fault(r).or_else(|| lists::fault(r))))
         .or_else(|| columns::fault(&records))
 }

@@ -53,11 +53,15 @@ fn a_file_is_explained_by_its_node() {
     assert_eq!(at(&[(8, 77)]), "refusal 4: node 0: no kind has the number 77");
     assert_eq!(at(&[(9, 2)]), "refusal 4: node 0 (sort): it has 2 children, and can have 1");
     assert_eq!(at(&[(8, 8), (4, 1), (72, 0)]), "refusal 3: block 0: its byte 74 is 1, not zero");
-    assert_eq!(at(&[(8, 1), (9, 0)]), "refusal 5: 1 subtrees are left over behind the root's tree");
+    assert_eq!(at(&[(8, 1), (9, 0)]), "refusal 5: the root's tree ends with node 0, and 1 record is left over");
     assert_eq!(
         at(&[(72, 2), (73, 1)]),
-        "refusal 5: node 1 (filter): it has 1 children, and 0 stand behind it: records are missing"
+        "refusal 5: node 1 (filter): it has 1 child, and 0 of them in the file: records are missing"
     );
+    let two = "filter\n  filter\n    source streams=1 width=1";
+    let rest = "the root's tree ends with node 1, and 1 record is left over";
+    // the source before the second filter, which then has no child either
+    assert_eq!(refused(two, &[(72, 1), (73, 0), (74, 1), (136, 2), (137, 1)]), format!("refusal 5: {rest}"));
     assert_eq!(at(&[(8 + 15, 3)]), "refusal 6: node 0 (sort): byte 15 is 3, not zero");
     assert_eq!(at(&[(8 + 17, 4)]), "refusal 6: node 0 (sort): key 0 has options 4, and only bits 0 and 1 have a meaning");
     assert_eq!(at(&[(8 + 16, 9)]), "refusal 7: node 0 (sort): key column 9 is not below the child's width 3");

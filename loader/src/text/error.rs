@@ -28,6 +28,13 @@ pub enum TextError {
     },
 }
 
+/// The beginning of a word, and none of its control characters: a message is read on a terminal.
+pub(super) fn quoted(word: &str) -> String {
+    const MOST: usize = 40;
+    let seen: String = word.chars().take(MOST).map(|c| if c.is_control() { '\u{fffd}' } else { c }).collect();
+    format!("'{seen}{}'", if word.chars().nth(MOST).is_some() { ".." } else { "" })
+}
+
 impl fmt::Display for TextError {
     fn fmt(&self, f: &mut fmt::Formatter) -> fmt::Result {
         match self {

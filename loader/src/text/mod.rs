@@ -25,7 +25,7 @@ mod show;
 mod values;
 
 pub use error::TextError;
-pub use parse::{MOST_TEXT_BYTES, parse};
+pub use parse::{MOST_TEXT_BYTES, parse, refused};
 pub use show::show;
 
 pub(crate) use show::line;

@@ -1,5 +1,5 @@
 //! The plan of a text. Every word of it is in the plan, or is an error with its line and column.
-use super::error::TextError;
+use super::error::{TextError, quoted};
 use super::fields::{self, Field};
 use super::values;
 use crate::plan::kind::{JOIN_TYPES, NAMES, is_join, name};
@@ -18,12 +18,20 @@ struct Wrong {
 /// The words of a line without its remark, each with the character that it begins at.
 fn words(line: &str) -> Vec<(usize, &str)> {
     let line = line.split('#').next().unwrap_or_default();
-    let mut out = vec![];
+    let (mut out, mut at, mut counted) = (vec![], 0, 0);
     for word in line.split_ascii_whitespace() {
         let from = word.as_ptr() as usize - line.as_ptr() as usize;
-        out.push((line[..from].chars().count(), word));
+        at += line[counted..from].chars().count();
+        counted = from;
+        out.push((at, word));
     }
     out
+}
+
+/// The lines that have words, with their numbers from 1 on; a byte order mark is no word.
+fn lines_with_words(text: &str) -> impl Iterator<Item = (usize, &str, Vec<(usize, &str)>)> {
+    let text = text.strip_prefix('\u{feff}').unwrap_or(text);
+    text.lines().zip(1..).map(|(line, number)| (number, line, words(line))).filter(|(_, _, words)| !words.is_empty())
 }
 
 /// A name with 'a' or 'an' before it.
@@ -45,7 +53,8 @@ fn put(r: &mut Record, field: &str, value: &str) -> Result<(), String> {
         }
         "type" => {
             let found = JOIN_TYPES.iter().position(|t| *t == value);
-            r.variant = found.ok_or_else(|| format!("no join type '{value}'; there are {}", JOIN_TYPES.join(", ")))? as u8;
+            r.variant =
+                found.ok_or_else(|| format!("no join type {}; there are {}", quoted(value), JOIN_TYPES.join(", ")))? as u8;
         }
         "prefix" => r.variant = values::byte(value)?,
         "constants" => r.set = values::column_set(value)?,
@@ -70,7 +79,7 @@ fn put_word(r: &mut Record, word: &str) -> Result<Field, String> {
     let (name, value) = word.split_once('=').map_or((word, None), |(name, value)| (name, Some(value)));
     let Some(field) = fields::of_kind(r.kind).iter().find(|f| f.name() == name) else {
         let kind = one(plan::kind::name(r.kind));
-        return Err(format!("{kind} has no field '{name}'; it has {}", fields::in_words(r.kind)));
+        return Err(format!("{kind} has no field {}; it has {}", quoted(name), fields::in_words(r.kind)));
     };
     match (field, value) {
         (Field::Valued(name), Some(value)) => put(r, name, value).map_err(|why| format!("{name}: {why}"))?,
@@ -97,7 +106,7 @@ fn clash(seen: &[&str], name: &str) -> Option<String> {
 fn record(words: &[(usize, &str)]) -> Result<Record, Wrong> {
     let (start, kind_name) = words[0];
     let known = NAMES.iter().skip(1).position(|n| *n == kind_name).map(|i| i as u8 + 1);
-    let no_kind = || Wrong { at: start, words: format!("no kind '{kind_name}'; there are {}", NAMES[1..].join(", ")) };
+    let no_kind = || Wrong { at: start, words: format!("no kind {}; there are {}", quoted(kind_name), NAMES[1..].join(", ")) };
     let mut r = Record::new(known.ok_or_else(no_kind)?);
     let (mut seen, mut right_at) = (vec![], start);
     for (at, word) in &words[1..] {
@@ -128,17 +137,16 @@ struct Line {
 
 fn lines(text: &str) -> Result<Vec<Line>, TextError> {
     let mut out = vec![];
-    for (i, line) in text.lines().enumerate() {
-        let wrong = |w: Wrong| TextError::Form { line: i + 1, column: w.at + 1, words: w.words };
-        let words = words(line);
-        let Some((indent, _)) = words.first().copied() else { continue };
+    for (number, line, words) in lines_with_words(text) {
+        let wrong = |w: Wrong| TextError::Form { line: number, column: w.at + 1, words: w.words };
+        let (indent, _) = words[0];
         if out.len() == MOST_NODES {
             return Err(wrong(Wrong { at: indent, words: "a plan has at most 126 nodes".into() }));
         }
         if let Some(at) = line.chars().take(indent).position(|c| c != ' ') {
             return Err(wrong(Wrong { at, words: "a line is indented by spaces alone".into() }));
         }
-        out.push(Line { number: i + 1, indent, record: record(&words).map_err(wrong)? });
+        out.push(Line { number, indent, record: record(&words).map_err(wrong)? });
     }
     Ok(out)
 }
@@ -186,6 +194,22 @@ pub fn parse(text: &str) -> Result<Plan, TextError> {
     if let Some(line) = rest.next() {
         return Err(form(line, "a second root: it stands no deeper than the first"));
     }
-    let refused = |why: Why| TextError::Refused { line: why.node.and_then(|n| lines.get(n)).map(|l| l.number), why };
-    Plan::read(&plan::write(&root)).map_err(refused)
+    Plan::read(&plan::write(&root)).map_err(|why| refused(text, why))
+}
+
+/// The refusal of a text's plan, or of a rewrite of it, with the line of the node: the nodes of a plan are its text's lines, in
+/// their order.
+///
+/// ```
+/// use sort_placement::{MOST_BYTES, Why, pushdown_sorts, text};
+///
+/// let written = "filter\n  # by a constant\n  sort keys=0\n    source streams=1 width=1 constants=0";
+/// let plan = text::parse(written).unwrap();
+/// let refusal = pushdown_sorts(&plan.write(), &mut [0; MOST_BYTES]).unwrap_err();
+/// let told = text::refused(written, Why::of_rewrite(refusal, &plan, None)).to_string();
+/// assert_eq!(told, "refusal 25: line 3: node 1 (sort): its keys 0al are all constant, and push meets it");
+/// ```
+pub fn refused(text: &str, why: Why) -> TextError {
+    let line = why.node.and_then(|node| lines_with_words(text).nth(node));
+    TextError::Refused { line: line.map(|(number, ..)| number), why }
 }

@@ -127,6 +127,7 @@ fn a_value_that_does_not_fit_is_told() {
         ("merge keys=0,1,2,3,4,5,6,7,8", 7, "keys: the list has 9 entries, more than 8"),
         ("hash-join keys=0 right=0,1", 18, "a hash-join has as many right columns as keys, not 2 and 1"),
         ("hash-join keys=0", 1, "a hash-join has as many right columns as keys, not 0 and 1"),
+        ("hash-join right=0,0,0,0,0,0,0,0,0", 11, "right: the list has 9 entries, more than 8"),
     ] {
         assert_eq!(wrong(text), format!("line 1, column {column}: {words}"));
     }
@@ -148,6 +149,27 @@ fn lines_stand_in_their_places() {
     assert_eq!(wrong("source streams=1 width=1\n# and\nfilter"), second);
     // columns count characters
     assert_eq!(wrong("sort é=1 keys=0"), "line 1, column 6: a sort has no field 'é'; it has keys, fetch, preserve");
+    assert_eq!(wrong("sort keys=0 \u{85} é"), "line 1, column 13: a sort has no field '\u{fffd}'; it has keys, fetch, preserve");
+}
+
+/// A message shows the beginning of a word, without what a terminal would take for a command.
+#[test]
+fn a_wrong_word_is_cut_and_clean() {
+    let long = format!("sort keys=0 {}", "\u{1b}é".repeat(100));
+    let shown = "\u{fffd}é".repeat(20);
+    assert_eq!(wrong(&long), format!("line 1, column 13: a sort has no field '{shown}..'; it has keys, fetch, preserve"));
+    // as many words as a text can have
+    let words = format!("sort preserve{}", " é=".repeat((MOST_TEXT_BYTES - 13) / 4));
+    assert_eq!(wrong(&words), "line 1, column 15: a sort has no field 'é'; it has keys, fetch, preserve");
+}
+
+#[test]
+fn a_byte_order_mark_is_passed_over() {
+    let source = "source streams=1 width=1\n";
+    assert_eq!(parse(&format!("\u{feff}{source}")), parse(source));
+    assert_eq!(wrong("\u{feff}\nsource"), "refusal 6: line 2: node 0 (source): streams are 0, not 1 to 64");
+    let inside = wrong("filter\n  \u{feff}source");
+    assert!(inside.starts_with("line 2, column 3: no kind '\u{feff}source'"), "{inside}");
 }
 
 #[test]
@@ -166,6 +188,8 @@ fn a_text_has_its_own_bound() {
 fn a_refusal_says_its_line() {
     let refused = |text: &str| wrong(&format!("# a remark\n{text}"));
     assert_eq!(refused("filter"), "refusal 4: line 2: node 0 (filter): it has 0 children, and can have 1");
+    let over_one = "union\n  source streams=1 width=1";
+    assert_eq!(refused(over_one), "refusal 4: line 2: node 0 (union): it has 1 child, and can have 2 to 8");
     assert_eq!(refused("filter\n  # below\n  source width=1"), "refusal 6: line 4: node 1 (source): streams are 0, not 1 to 64");
 }
 
