@@ -26,7 +26,7 @@ fn first_slots(k: Call, blocks: usize, last: u8) -> usize
     }
 }
 
-// The next rung up: the least number of slots that it is taken for. The rung of 150 slots, which tidies, is for small plans that climb from 126: no call starts
+// The next rung up: the least number of slots that it is taken for. The rung of 148 slots, which tidies, is for small plans that climb from 126: no call starts
 // with 127 to 129.
 fn above(slots: usize) -> usize
     requires { ⌜ slots ≤ 382 ⌝ }
@@ -59,7 +59,7 @@ fn climb(k: Call, plan: &[u8], out: &mut [u8], slots: usize) -> Reply
         15..=42 => in_42(k, plan, out),
         43..=84 => in_84(k, plan, out),
         85..=126 => in_126(k, plan, out),
-        127..=129 => in_150(k, plan, out),
+        127..=129 => in_148(k, plan, out),
         130..=254 => in_254(k, plan, out),
         _ => in_382(k, plan, out),
     };

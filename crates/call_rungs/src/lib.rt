@@ -31,7 +31,7 @@ const SLOTS_84: usize = 84 * SLOT;
 
 const SLOTS_126: usize = 126 * SLOT;
 
-const SLOTS_150: usize = 150 * SLOT;
+const SLOTS_148: usize = 148 * SLOT;
 
 const SLOTS_189: usize = 189 * SLOT;
 
@@ -95,11 +95,11 @@ pub fn in_126(k: Call, plan: &[u8], out: &mut [u8]) -> Called
 }
 
 // With scratch for trees of up to 32 nodes, so that what steps leave behind is given back.
-pub fn in_150(k: Call, plan: &[u8], out: &mut [u8]) -> Called
-    requires { ⌜ 7 * blockCount (now plan) ≤ 150 ⌝ }
+pub fn in_148(k: Call, plan: &[u8], out: &mut [u8]) -> Called
+    requires { ⌜ 7 * blockCount (now plan) ≤ 148 ⌝ }
     ensures { λ r. ⌜ CalledAs r (afterReading (resultOf k) (reading (now (plan .entry)))) (now (out .entry)) (now (out .exit)) 1 ⌝ }
 {
-    let mut m = [0u8; SLOTS_150];
+    let mut m = [0u8; SLOTS_148];
     let mut c = [0u8; SLOTS_32];
     call_in(k, plan, out, &mut m, &mut c)
 }

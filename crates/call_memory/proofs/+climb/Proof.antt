@@ -24,7 +24,7 @@ use Rattle.call_rungs.proofs.in_14.Reads as in-14
 use Rattle.call_rungs.proofs.in_42.Reads as in-42
 use Rattle.call_rungs.proofs.in_84.Reads as in-84
 use Rattle.call_rungs.proofs.in_126.Reads as in-126
-use Rattle.call_rungs.proofs.in_150.Reads as in-150
+use Rattle.call_rungs.proofs.in_148.Reads as in-148
 use Rattle.call_rungs.proofs.in_254.Reads as in-254
 use Rattle.call_rungs.proofs.in_382.Reads as in-382
 use Rattle.call_memory.proofs.above.Reads as above
@@ -41,7 +41,7 @@ abbrev climb-below : ℕ → In 2 climb-kinds.ps
 climb-below t = and 2 climb-kinds.ps (falls 2 climb-kinds.ps _<_ μ-climb t) climb.Pre
 
 abbrev calls : ℕ → lts.Claims
-calls t = (in-772.Asked, in-772.Learnt, in-7.Asked, in-7.Learnt, in-14.Asked, in-14.Learnt, in-42.Asked, in-42.Learnt, in-84.Asked, in-84.Learnt, in-126.Asked, in-126.Learnt, in-150.Asked, in-150.Learnt, in-254.Asked, in-254.Learnt, in-382.Asked, in-382.Learnt, above.Asked, above.Learnt, climb-below t, climb.Post)
+calls t = (in-772.Asked, in-772.Learnt, in-7.Asked, in-7.Learnt, in-14.Asked, in-14.Learnt, in-42.Asked, in-42.Learnt, in-84.Asked, in-84.Learnt, in-126.Asked, in-126.Learnt, in-148.Asked, in-148.Learnt, in-254.Asked, in-254.Learnt, in-382.Asked, in-382.Learnt, above.Asked, above.Learnt, climb-below t, climb.Post)
 
 -- what the rung answered, and left in the output
 module _ (t : ℕ) (c : lts.Joined2 (calls t) (climb-at t) climb.Post) where
@@ -91,8 +91,8 @@ climb-in-84-requires t c κs = let p = c .before .before .before .before .before
 climb-in-126-requires : (t : ℕ) → lts.Need-in-126-requires (calls t) (climb-at t) climb.Post
 climb-in-126-requires t c κs = let p = c .before .before .before .before .before .before .before .before .before .pre .1 .2 in let x = c .before .if6 .taken in omega arith
 
-climb-in-150-requires : (t : ℕ) → lts.Need-in-150-requires (calls t) (climb-at t) climb.Post
-climb-in-150-requires t c κs = let p = c .before .before .before .before .before .before .before .before .before .before .pre .1 .2 in let x = c .before .if7 .taken in omega arith
+climb-in-148-requires : (t : ℕ) → lts.Need-in-148-requires (calls t) (climb-at t) climb.Post
+climb-in-148-requires t c κs = let p = c .before .before .before .before .before .before .before .before .before .before .pre .1 .2 in let x = c .before .if7 .taken in omega arith
 
 climb-in-254-requires : (t : ℕ) → lts.Need-in-254-requires (calls t) (climb-at t) climb.Post
 climb-in-254-requires t c κs = let p = c .before .before .before .before .before .before .before .before .before .before .before .pre .1 .2 in let x = c .before .if8 .taken in omega arith
@@ -138,7 +138,7 @@ pub +climb-spec : {M : Type 1} → statement M
     (climb-in-42-requires t)
     (climb-in-84-requires t)
     (climb-in-126-requires t)
-    (climb-in-150-requires t)
+    (climb-in-148-requires t)
     (climb-in-254-requires t)
     (climb-in-382-requires t)
     (climb-enum-known-r t)
