@@ -139,13 +139,8 @@ fn call_of(words: &[String]) -> Option<Call> {
             let each_once = times.iter().all(|n| *n <= 1) && times.iter().sum::<usize>() == settings.len();
             each_once.then(|| Call::Preserve(times.map(|n| n as u8)))
         }
-        ("partial", rest) => {
-            if let [node] = rest {
-                node.parse().ok().map(Call::Partial)
-            } else {
-                None
-            }
-        }
+        ("partial", [node]) => node.parse().ok().map(Call::Partial),
+        ("partial", _) => None,
         (name, []) => ALL.into_iter().find(|c| c.name() == name),
         _ => None,
     }
