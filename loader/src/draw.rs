@@ -6,6 +6,7 @@ use crate::listing::keys_text;
 use crate::plan::Node;
 use crate::text::line;
 use crate::unmet::{Edge, edges};
+use crate::why::counted;
 
 fn edge_line(edge: &Edge) -> String {
     let attributes = match edge.wanted.len() {
@@ -17,9 +18,8 @@ fn edge_line(edge: &Edge) -> String {
 }
 
 fn node_line(number: usize, node: &Node, facts: &Facts) -> String {
-    let plural = if facts.streams == 1 { "" } else { "s" };
-    let (line, streams, order) = (line(&node.record), facts.streams, keys_text(&facts.order));
-    format!("  n{number} [label=\"{number} {line}\\n{streams} stream{plural}, order {order}\"];\n")
+    let (line, streams, order) = (line(&node.record), counted(facts.streams, "stream", "streams"), keys_text(&facts.order));
+    format!("  n{number} [label=\"{number} {line}\\n{streams}, order {order}\"];\n")
 }
 
 /// A graph in Graphviz's language. Rows flow upwards, from the sources to the root; red edges want an order that is not met.

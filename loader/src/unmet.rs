@@ -3,6 +3,7 @@ use crate::Plan;
 use crate::facts::{Facts, Key, of_tree, wanted};
 use crate::listing::keys_text;
 use crate::plan::{Node, kind};
+use crate::why::counted;
 use std::fmt;
 
 /// A wanted order that a child does not meet. Orders are written as in a [`listing`](crate::listing()).
@@ -36,9 +37,9 @@ impl fmt::Display for Unmet {
     fn fmt(&self, f: &mut fmt::Formatter) -> fmt::Result {
         let Unmet { node, child, child_node, wanted, known, met, keys, kinds: [kind, below] } = self;
         let known = if known == "-" { "no order" } else { known };
-        let are = if *keys == 1 { "key is" } else { "keys are" };
+        let of_keys = counted(*keys, "key is", "keys are");
         write!(f, "node {node} ({kind}) wants {wanted} of child {child}, node {child_node} ({below}), ")?;
-        write!(f, "which knows {known}: {met} of {keys} {are} met")
+        write!(f, "which knows {known}: {met} of {of_keys} met")
     }
 }
 

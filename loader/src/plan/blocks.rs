@@ -1,7 +1,7 @@
 //! Refusals 1, 2 and 3: a file as blocks.
 use super::{BLOCK, MOST_BLOCKS, number};
 use crate::Refusal;
-use crate::why::{Fault, Why};
+use crate::why::{Fault, Why, counted};
 
 /// A block's records and what stands around them.
 pub(super) const RECORDS_FROM: usize = 8;
@@ -44,7 +44,7 @@ fn header_fault(block: &[u8], at: usize, total: usize) -> Option<Fault> {
         return Fault::new("block total", format!("its block total is {}, the file has {total}", half(2)));
     }
     if at + 1 < total && count != MOST_RECORDS {
-        return Fault::new("records", format!("it has {count} records; a block before the last has 7"));
+        return Fault::new("records", format!("it has {}; a block before the last has 7", counted(count, "record", "records")));
     }
     if !(1..=MOST_RECORDS).contains(&count) {
         return Fault::new("records", format!("it has {count} records, not 1 to 7"));

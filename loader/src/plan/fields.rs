@@ -66,7 +66,7 @@ fn skip_fault(r: &[u8]) -> Option<Fault> {
 
 fn key_count_fault(r: &[u8]) -> Option<Fault> {
     let (kind, keys) = (r[0], r[12]);
-    let wrong = |rule: &str| Fault::new("key count", format!("it has {keys} keys, {rule}"));
+    let wrong = |rule: &str| Fault::new("key count", format!("it has {}, {rule}", counted(keys as usize, "key", "keys")));
     let must = matches!(kind, SORT | MERGE | SORT_MERGE_JOIN | HASH_JOIN | PARTIAL_SORT | AGGREGATE) || is_hash(r);
     let may = must || matches!(kind, SOURCE | GLOBAL_LIMIT | LOCAL_LIMIT | OUTPUT_REQUIREMENT);
     match keys {

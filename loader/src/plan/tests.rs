@@ -63,6 +63,7 @@ fn a_file_is_explained_by_its_node() {
     // the source before the second filter, which then has no child either
     assert_eq!(refused(two, &[(72, 1), (73, 0), (74, 1), (136, 2), (137, 1)]), format!("refusal 5: {rest}"));
     assert_eq!(at(&[(8 + 15, 3)]), "refusal 6: node 0 (sort): byte 15 is 3, not zero");
+    assert_eq!(refused(two, &[(8 + 12, 1)]), "refusal 6: node 0 (filter): it has 1 key, and its kind has none");
     assert_eq!(at(&[(8 + 17, 4)]), "refusal 6: node 0 (sort): key 0 has options 4, and only bits 0 and 1 have a meaning");
     assert_eq!(at(&[(8 + 16, 9)]), "refusal 7: node 0 (sort): key column 9 is not below the child's width 3");
     assert_eq!(at(&[(72 + 32, 8)]), "refusal 7: node 1 (source): constant column 3 is not below its width 3");
