@@ -20,7 +20,7 @@ type Plan = Arc<dyn ExecutionPlan>;
 pub struct Answer {
     pub number: u32,
     pub bytes: Vec<u8>,
-    /// the Rust panicked, and the answer is what document 01 gives there
+    /// the Rust panicked, and the answer is what the documents give there
     pub panicked: bool,
 }
 
@@ -127,7 +127,7 @@ fn refusal_of(error: DataFusionError) -> u32 {
     }
 }
 
-/// Runs a call, and where the Rust panics gives document 01's answer.
+/// Runs a call, and where the Rust panics gives the documents' answer.
 fn rewritten(call: Call, tree: &Node) -> (std::result::Result<Node, u32>, bool) {
     let run = || match call {
         Call::Copy => Ok(tree.clone()),
@@ -136,8 +136,11 @@ fn rewritten(call: Call, tree: &Node) -> (std::result::Result<Node, u32>, bool) 
     };
     match catch_unwind(AssertUnwindSafe(run)) {
         Ok(result) => (result.map_err(refusal_of), false),
-        Err(_) if matches!(call, Call::Partial(_)) => (Err(22), true),
-        Err(_) => (with_merge_rule(run).map_err(refusal_of), true),
+        Err(_) => match call {
+            // a sort over an unbounded child that meets all its keys: the plan as it was (document 02, P2)
+            Call::Partial(_) => (Ok(tree.clone()), true),
+            _ => (with_merge_rule(run).map_err(refusal_of), true),
+        },
     }
 }
 

@@ -38,21 +38,20 @@ extern "C" {
 #define SORT_PLACEMENT_STACK_TO_20_NODES 49152
 
 /* The refusals. Of a file: */
-#define SORT_PLACEMENT_LENGTH 1           /* length 0, no multiple of 512, or above 18 blocks */
-#define SORT_PLACEMENT_SUM 2              /* a block's sum */
-#define SORT_PLACEMENT_HEADER 3           /* a block's header or padding */
-#define SORT_PLACEMENT_KIND 4             /* unknown kind, or a child count that it can't have */
-#define SORT_PLACEMENT_SHAPE 5            /* records missing or left over */
-#define SORT_PLACEMENT_FIELD 6            /* another field outside its rule, or union children of unequal width */
-#define SORT_PLACEMENT_COLUMN 7           /* a column not below its width, or twice in one key list */
-#define SORT_PLACEMENT_WIDTH 8            /* a node wider than 32 columns */
+#define SORT_PLACEMENT_LENGTH 1          /* length 0, no multiple of 512, or above 18 blocks */
+#define SORT_PLACEMENT_SUM 2             /* a block's sum */
+#define SORT_PLACEMENT_HEADER 3          /* a block's header or padding */
+#define SORT_PLACEMENT_KIND 4            /* unknown kind, or a child count that it can't have */
+#define SORT_PLACEMENT_SHAPE 5           /* records missing or left over */
+#define SORT_PLACEMENT_FIELD 6           /* another field outside its rule, or union children of unequal width */
+#define SORT_PLACEMENT_COLUMN 7          /* a column not below its width, or twice in one key list */
+#define SORT_PLACEMENT_WIDTH 8           /* a node wider than 32 columns */
 /* Of a rewrite: */
-#define SORT_PLACEMENT_NO_SUCH_NODE 20    /* no node of that number */
-#define SORT_PLACEMENT_PARTIAL_SORT 21    /* a tree with a partial sort is not rewritten */
-#define SORT_PLACEMENT_NOTHING_TO_SORT 22 /* the sort's unbounded child already meets all its keys */
-#define SORT_PLACEMENT_TOO_MANY_NODES 23  /* more than 126 nodes on the way */
-#define SORT_PLACEMENT_SHORT_OUTPUT 24    /* the output is shorter than the file to write */
-#define SORT_PLACEMENT_CONSTANT_SORT 25   /* pushing meets a sort whose keys are all constant */
+#define SORT_PLACEMENT_NO_SUCH_NODE 20   /* no node of that number */
+#define SORT_PLACEMENT_PARTIAL_SORT 21   /* a tree with a partial sort is not rewritten */
+#define SORT_PLACEMENT_TOO_MANY_NODES 23 /* more than 126 nodes on the way */
+#define SORT_PLACEMENT_SHORT_OUTPUT 24   /* the output is shorter than the file to write */
+#define SORT_PLACEMENT_CONSTANT_SORT 25  /* pushing meets a sort whose keys are all constant */
 
 /* *passes is 1 where the plan passes the order check, 0 where it does not. The check looks at orders, not at distributions.
    Refusals 1 to 8. */
@@ -68,7 +67,7 @@ uint32_t replace_with_order_preserving_variants(const uint8_t *plan, size_t plan
                                                 uint8_t prefer_existing, uint8_t *out, size_t out_len);
 uint32_t pushdown_sorts(const uint8_t *plan, size_t plan_len, uint8_t *out, size_t out_len);
 
-/* One node, by its number from 0. Refusals 1 to 8, then 20, 22, 24. */
+/* One node, by its number from 0. A sort whose unbounded child meets all its keys stays as it is. Refusals 1 to 8, then 20, 24. */
 uint32_t replace_with_partial_sort(const uint8_t *plan, size_t plan_len, uint32_t node, uint8_t *out, size_t out_len);
 
 /* The length of the file that an accepted rewrite has written to out. */

@@ -118,11 +118,12 @@ pub fn pushdown_sorts(plan: &[u8], out: &mut [u8]) -> Result<usize, Refusal> {
     rewrite(Call::Push, plan, out)
 }
 
-/// Makes one sort over an unbounded child a partial sort by the keys that the child already meets.
+/// Makes one sort over an unbounded child a partial sort by the keys that the child already meets. Where it meets none of them, or all,
+/// the plan comes back as it was; so it does at any other node.
 ///
 /// # Errors
 ///
-/// The file's refusal, 1 to 8; then 20, 22 or 24.
+/// The file's refusal, 1 to 8; then 20 or 24.
 #[cfg(has_replace_with_partial_sort)]
 pub fn replace_with_partial_sort(plan: &[u8], node: u32, out: &mut [u8]) -> Result<usize, Refusal> {
     rewrite(Call::Partial(node), plan, out)

@@ -54,7 +54,6 @@ refusals! {
     Width = 8, "A node is wider than 32 columns.";
     NoSuchNode = 20, "The tree has no node of that number.";
     PartialSort = 21, "A tree with a partial sort is not rewritten.";
-    NothingToSort = 22, "The sort's unbounded child already meets all its keys.";
     TooManyNodes = 23, "The rewrite passes 126 nodes.";
     ShortOutput = 24, "The output is shorter than the file to write.";
     ConstantSort = 25, "Pushing meets a sort whose keys are all constant.";
@@ -84,12 +83,13 @@ mod tests {
         for refusal in Refusal::ALL {
             assert_eq!(Refusal::from_number(refusal.number()), Some(*refusal));
         }
-        assert_eq!(Refusal::ALL.iter().map(|r| r.number()).collect::<Vec<_>>(), [1, 2, 3, 4, 5, 6, 7, 8, 20, 21, 22, 23, 24, 25]);
+        assert_eq!(Refusal::ALL.iter().map(|r| r.number()).collect::<Vec<_>>(), [1, 2, 3, 4, 5, 6, 7, 8, 20, 21, 23, 24, 25]);
     }
 
     #[test]
     fn an_unknown_number_is_told() {
-        assert_eq!(Refusal::from_number(99), None);
+        // 22 is not given any more (document 02, P2)
+        assert_eq!((Refusal::from_number(22), Refusal::from_number(99)), (None, None));
         assert!(Refusal::of(99).to_string().starts_with("refusal 99: The linked library is newer"));
         assert_eq!(Refusal::of(99).number(), 99);
     }

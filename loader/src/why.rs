@@ -80,9 +80,6 @@ impl Why {
             (Refusal::PartialSort, _) => {
                 first(plan, PARTIAL_SORT).map(|n| at(n, PARTIAL_SORT, "a tree with a partial sort is not rewritten".into()))
             }
-            (Refusal::NothingToSort, Some(node)) => {
-                Some(at(node as usize, SORT, "its unbounded child already meets all its keys".into()))
-            }
             (Refusal::ConstantSort, _) => {
                 constant_sort(plan).map(|(n, keys)| at(n, SORT, format!("its keys {keys} are all constant, and push meets it")))
             }

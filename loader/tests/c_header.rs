@@ -15,11 +15,11 @@ fn a_c_program_calls_every_export() {
     assert!(compiler.status().expect("cc").success());
     let run = Command::new(&program).output().expect("the program");
     let rewrites: String = ["copy", "ensure", "parallelize", "preserve", "push"].map(|c| format!("{c} 0 512\n")).concat();
-    let wanted = format!("check 0 1\nshort 1\n{rewrites}partial 20\nrefusals 14\n");
+    let wanted = format!("check 0 1\nshort 1\n{rewrites}partial 20\nrefusals 13\n");
     assert_eq!(String::from_utf8(run.stdout).expect("text"), wanted);
 }
 
-/// `NothingToSort` as the header writes it.
+/// `NoSuchNode` as the header writes it.
 fn constant(refusal: &Refusal) -> String {
     let name = format!("{refusal:?}");
     let words = name.chars().map(|c| if c.is_uppercase() { format!("_{c}") } else { c.to_uppercase().to_string() });

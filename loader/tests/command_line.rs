@@ -77,9 +77,6 @@ fn a_refusal_says_where() {
     let partial = made("filter\n  partial-sort keys=0,1 prefix=1\n    source streams=1 width=2 keys=0 unbounded");
     let rule = "refusal 21: node 1 (partial-sort): a tree with a partial sort is not rewritten\n";
     assert_eq!(told(&run(&["ensure"], &partial), 3), rule);
-    let sorted = made("filter\n  sort keys=0\n    source streams=1 width=2 keys=0 unbounded");
-    let rule = "refusal 22: node 1 (sort): its unbounded child already meets all its keys\n";
-    assert_eq!(told(&run(&["partial", "1"], &sorted), 3), rule);
     let constant = made("filter\n  sort keys=0\n    source streams=2 width=2 constants=0");
     let rule = "refusal 25: node 1 (sort): its keys 0al are all constant, and push meets it\n";
     assert_eq!(told(&run(&["push"], &constant), 3), rule);
@@ -94,10 +91,22 @@ fn a_refusal_of_a_text_says_its_line() {
     let partial = "filter\n\n  partial-sort keys=0,1 prefix=1\n    source streams=1 width=2 keys=0 unbounded";
     let rule = "refusal 21: line 4: node 1 (partial-sort): a tree with a partial sort is not rewritten\n";
     assert_eq!(tried(&["ensure"], partial), rule);
-    let sorted = "filter\n  sort keys=0\n    source streams=1 width=2 keys=0 unbounded";
-    let rule = "refusal 22: line 3: node 1 (sort): its unbounded child already meets all its keys\n";
-    assert_eq!(tried(&["partial", "1"], sorted), rule);
-    assert_eq!(tried(&["partial", "9"], sorted), "refusal 20: there is no node 9, the last is 2\n");
+    let constant = "filter\n  sort keys=0\n    source streams=2 width=2 constants=0";
+    let rule = "refusal 25: line 3: node 1 (sort): its keys 0al are all constant, and push meets it\n";
+    assert_eq!(tried(&["push"], constant), rule);
+    assert_eq!(tried(&["partial", "9"], constant), "refusal 20: there is no node 9, the last is 2\n");
+}
+
+/// Document 02, P2: what such a call answers is the file that it got, with a mark that does nothing too.
+#[test]
+fn a_sort_with_nothing_left_to_do_stays() {
+    let sorted = run(&["make"], b"filter\n  sort keys=0 preserve\n    source streams=1 width=2 keys=0 unbounded").stdout;
+    let answered = run(&["partial", "1"], &sorted);
+    assert!(answered.status.success());
+    assert_eq!(answered.stdout, sorted);
+    // one key more, and there is something to sort
+    let further = run(&["make"], b"filter\n  sort keys=0,1 preserve\n    source streams=1 width=2 keys=0 unbounded").stdout;
+    assert!(text(&run(&["show"], &run(&["partial", "1"], &further).stdout)).contains("partial-sort keys=0al,1al preserve prefix=1"));
 }
 
 #[test]

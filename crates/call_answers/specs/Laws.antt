@@ -50,13 +50,16 @@ module _ (f : Plan) (out : List ℕ) where
     pub fit-accepted : refusalIn (gives f) out ≡ Accepted
     fit-accepted = rw (fits (tooShort f out) refl)
 
+    pub fit-written : outputIn (gives f) out ≡ fileOfPlan f ++ drop (length (fileOfPlan f)) out
+    fit-written = rw (fits (tooShort f out) refl)
+
     -- the file stands at the output's start
     pub file-first : take (length (fileOfPlan f)) (outputIn (gives f) out) ≡ fileOfPlan f
-    file-first = rw (fits (tooShort f out) refl) (take-at (fileOfPlan f) (drop (length (fileOfPlan f)) out) (length (fileOfPlan f)) refl)
+    file-first = rw fit-written (take-at (fileOfPlan f) (drop (length (fileOfPlan f)) out) (length (fileOfPlan f)) refl)
 
     -- "bytes past the file stay"
     pub past-stays : drop (length (fileOfPlan f)) (outputIn (gives f) out) ≡ drop (length (fileOfPlan f)) out
-    past-stays = rw (fits (tooShort f out) refl) (drop-at (fileOfPlan f) (drop (length (fileOfPlan f)) out) (length (fileOfPlan f)) refl)
+    past-stays = rw fit-written (drop-at (fileOfPlan f) (drop (length (fileOfPlan f)) out) (length (fileOfPlan f)) refl)
 
 -- "A setting is one byte: zero is off, all else on"
 pub zero-off : setting 0 ≡ false

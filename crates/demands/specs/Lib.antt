@@ -7,3 +7,4 @@ pub mod ChecksKept
 pub mod AcceptedRuns
 pub mod CheckedFiles
 pub mod RewrittenFiles
+pub mod SortedAlready

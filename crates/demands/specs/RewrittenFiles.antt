@@ -30,8 +30,8 @@ use Rattle.walks.specs.EnsureSorting.{ensureSorting}
 use Rattle.walks.specs.ParallelizeSorts.{parallelizeSorts}
 use Rattle.walks.specs.OrderPreserving.{replaceWithOrderPreservingVariants}
 use Rattle.walks.specs.PushdownSorts.{atRoot, push}
-use Rattle.walks.specs.PartialSort.{becomes, fromNode, pastTheEnd, Replaced, replaceWithPartialSort}
-use Rattle.walks.specs.Counted.{Answer, answered, hasPartialSort, partialAnswer, partialAt, partiallySorted, refused}
+use Rattle.walks.specs.PartialSort.{fromNode}
+use Rattle.walks.specs.Counted.{Answer, answered, hasPartialSort, partialAt, partiallySorted, refused}
 use Rattle.walks.specs.Terms.{answerDown, answerUp, clear, hasConstantSort, sizesDown, sizesUp, small}
 use Rattle.walks.specs.theorems.calls.Answers.{ensured-is, parallelized-is, preserved-is, pushed-is, well-fit}
 use Rattle.walks.specs.theorems.partial_sort.Kept.{partial-sources, partial-well}
@@ -76,11 +76,7 @@ answer-numbered pushing f e = subst Numbered (sym (pushed-is f (well-fit f e))) 
 -- nor does partial sorting
 partial-numbered : (n : ℕ) (f h : Plan) → Numbered (partialAt n f h)
 partial-numbered n f none = λ e. omega arith
-partial-numbered n f (tree o c r) = go (replaceWithPartialSort o c)
-  where
-    go : (x : Replaced) → Numbered (partialAnswer n f x)
-    go pastTheEnd = λ e. omega arith
-    go (becomes p) = tt
+partial-numbered n f (tree o c r) = tt
 
 -- ---- where an export answers 0: the plan that it was given, the plan that the rewrite g answers, and how long its file is
 

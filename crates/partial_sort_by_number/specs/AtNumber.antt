@@ -13,12 +13,12 @@ use Rattle.plan.specs.declared.Refusal.the-variants as refusals
 use Rattle.arena.specs.Arena.{index, slot}
 use Rattle.arena.specs.declared.At.{At}
 use Rattle.walks.specs.Marks.{strip, opT, sizeT}
-use Rattle.walks.specs.PartialSort.{Replaced, pastTheEnd, becomes, replaceWithPartialSort, fromNode, setNode}
-use Rattle.walks.specs.Counted.{Answer, answered, refused, partialAnswer, partialAt, partiallySorted}
+use Rattle.walks.specs.PartialSort.{replaceWithPartialSort, fromNode, setNode}
+use Rattle.walks.specs.Counted.{Answer, answered, refused, partialAt, partiallySorted}
 use Rattle.plan_context.specs.View.{treeOf, forest, Arena, Same}
 use Rattle.plan_context.specs.Records.{planT}
 use Rattle.partial_sort_by_number.specs.declared.Sorted.{Sorted}
-use Rattle.partial_sort_by_number.specs.declared.Sorted.the-variants.{NoSuchNode, AllKeysMet, Becomes}
+use Rattle.partial_sort_by_number.specs.declared.Sorted.the-variants.{NoSuchNode, Becomes}
 use Rattle.partial_sort_by_number.specs.declared.Place.{Place}
 use Rattle.walks.specs.theorems.common.Trees.{strip-size}
 
@@ -26,7 +26,7 @@ use Rattle.walks.specs.theorems.common.Trees.{strip-size}
 
 pub data Outcome : Type 0 where
   missing : Outcome
-  found : Replaced → Outcome
+  found : Op → Outcome
 
 abbrev pub outcome : Plan → Outcome
 outcome none = missing
@@ -34,7 +34,7 @@ outcome (tree o c r) = found (replaceWithPartialSort o c)
 
 abbrev answerBy : ℕ → Plan → Outcome → Answer
 answerBy n f missing = refused refusals.NoSuchNode
-answerBy n f (found x) = partialAnswer n f x
+answerBy n f (found o) = answered (setNode n o f)
 
 answer-is : (n : ℕ) (f g : Plan) → partialAt n f g ≡ answerBy n f (outcome g)
 answer-is n f none = refl
@@ -48,7 +48,7 @@ by-outcome n f x e = answer-is n f (fromNode n f) ∙ ap (answerBy n f) e
 
 pub record Became (m : List ℕ) (u : ℕ) (m' : List ℕ) (h n : ℕ) (a : At) : Type 0 where
   pub op : Op
-  pub here : outcome (fromNode n (planT (treeOf m h))) ≡ found (becomes op)
+  pub here : outcome (fromNode n (planT (treeOf m h))) ≡ found op
   pub plan : planT (treeOf m' (a .root)) ≡ setNode n op (planT (treeOf m h))
   pub is : partiallySorted n (planT (treeOf m h)) ≡ answered (planT (treeOf m' (a .root)))
   pub arena : Arena m' (a .used)
@@ -61,19 +61,13 @@ pub record Became (m : List ℕ) (u : ℕ) (m' : List ℕ) (h n : ℕ) (a : At) 
 abbrev pub AnswersPartial : List ℕ → ℕ → List ℕ → ℕ → ℕ → Sorted → Type 0
 AnswersPartial m u m' h n NoSuchNode = (partiallySorted n (planT (treeOf m h)) ≡ refused refusals.NoSuchNode)
     × (outcome (fromNode n (planT (treeOf m h))) ≡ missing)
-AnswersPartial m u m' h n AllKeysMet = (partiallySorted n (planT (treeOf m h)) ≡ refused refusals.AllKeysMet)
-    × (outcome (fromNode n (planT (treeOf m h))) ≡ found pastTheEnd)
 AnswersPartial m u m' h n (Becomes a) = Became m u m' h n a
 
 pub answers-none : (m : List ℕ) (u : ℕ) (m' : List ℕ) (h n : ℕ) → outcome (fromNode n (planT (treeOf m h))) ≡ missing → AnswersPartial m u m' h n NoSuchNode
 answers-none m u m' h n e = (by-outcome n (planT (treeOf m h)) missing e, e)
 
-pub answers-met : (m : List ℕ) (u : ℕ) (m' : List ℕ) (h n : ℕ) → outcome (fromNode n (planT (treeOf m h))) ≡ found pastTheEnd
-    → AnswersPartial m u m' h n AllKeysMet
-answers-met m u m' h n e = (by-outcome n (planT (treeOf m h)) (found pastTheEnd) e, e)
-
-pub answered-is : (n : ℕ) (f g : Plan) (p : Op) → outcome (fromNode n f) ≡ found (becomes p) → g ≡ setNode n p f → partiallySorted n f ≡ answered g
-answered-is n f g p e q = by-outcome n f (found (becomes p)) e ∙ ap answered (sym q)
+pub answered-is : (n : ℕ) (f g : Plan) (p : Op) → outcome (fromNode n f) ≡ found p → g ≡ setNode n p f → partiallySorted n f ≡ answered g
+answered-is n f g p e q = by-outcome n f (found p) e ∙ ap answered (sym q)
 
 -- ---- a number among children
 

@@ -24,7 +24,7 @@ use Rattle.arena.specs.declared.At.{At}
 use Rattle.arena.specs.Laws.{below-at, below-more, below-set}
 use Rattle.walks.specs.Marks.{Tree, strip, node, opT, sizeT}
 use Rattle.walks.specs.theorems.common.Trees.{Ok, OkT, strip-size}
-use Rattle.walks.specs.PartialSort.{becomes, replaceWithPartialSort, fromNode, setNode}
+use Rattle.walks.specs.PartialSort.{replaceWithPartialSort, fromNode, setNode}
 use Rattle.walks.specs.theorems.partial_sort.Kept.{SetKept, partial-kept}
 use Rattle.plan_context.specs.View.{treeOf, forest, mostSlots, Arena, Grown, Puts}
 use Rattle.plan_context.specs.Laws.{slot-same, tree-same, forest-same, same-trans}
@@ -34,11 +34,11 @@ use Rattle.plan_updates.specs.Covering.{ok-of}
 use Rattle.sort_connection.specs.Standing.{Standing, view, tree-is, own-over, own-proper, sort-op, one-kid}
 use Rattle.replace_with_partial_sort.specs.Replacing.{partial, becoming, Fitting}
 use Rattle.replace_with_partial_sort.specs.declared.Replaced.{Replaced as Told}
-use Rattle.replace_with_partial_sort.specs.declared.Replaced.the-variants.{AllKeysMet as Past, Same as Stays, Partial}
+use Rattle.replace_with_partial_sort.specs.declared.Replaced.the-variants.{Same as Stays, Partial}
 use Rattle.partial_sort_by_number.specs.declared.Sorted.{Sorted}
-use Rattle.partial_sort_by_number.specs.declared.Sorted.the-variants.{NoSuchNode, AllKeysMet, Becomes}
+use Rattle.partial_sort_by_number.specs.declared.Sorted.the-variants.{NoSuchNode, Becomes}
 use Rattle.partial_sort_by_number.specs.declared.Place.{Place}
-use Rattle.partial_sort_by_number.specs.AtNumber.{AnswersPartial, answered-is, answers-met, answers-none, at-size, Became, found, Located, missing, out-at, out-past, out-root, outcome, set-at, set-root, take-size}
+use Rattle.partial_sort_by_number.specs.AtNumber.{AnswersPartial, answered-is, answers-none, at-size, Became, found, Located, missing, out-at, out-past, out-root, outcome, set-at, set-root, take-size}
 
 -- ---- the children's handles with another in one place
 
@@ -98,11 +98,11 @@ module _ (m : List ℕ) (u h : ℕ) (p : Sorting m u h) where
   ok = ok-of m u h (p .arena) (p .here)
 
   -- the plan that comes in its place is one that the rules accept, and as large
-  kept : (n : ℕ) (o : Op) → outcome (fromNode n (planT (treeOf m h))) ≡ found (becomes o) → SetKept (planT (treeOf m h)) (setNode n o (planT (treeOf m h)))
+  kept : (n : ℕ) (o : Op) → outcome (fromNode n (planT (treeOf m h))) ≡ found o → SetKept (planT (treeOf m h)) (setNode n o (planT (treeOf m h)))
   kept n o e = partial-kept n f (setNode n o f) (answered-is n f (setNode n o f) o e refl)
 
   -- nothing changes
-  pub same-became : replaceWithPartialSort (opT (treeOf m h)) (strip (treeOf m h .kids)) ≡ becomes (opT (treeOf m h))
+  pub same-became : replaceWithPartialSort (opT (treeOf m h)) (strip (treeOf m h .kids)) ≡ opT (treeOf m h)
       → Became m u m h 0 (record { used = u; root = h })
   same-became e =
       record {
@@ -119,19 +119,16 @@ module _ (m : List ℕ) (u h : ℕ) (p : Sorting m u h) where
 
   -- as the code has it
   module _ (r : Told) (e : replaceWithPartialSort (opT (treeOf m h)) (strip (treeOf m h .kids)) ≡ becoming (opT (treeOf m h)) r) where
-    pub met-node : r ≡ Past → (m' : List ℕ) → AnswersPartial m u m' h 0 AllKeysMet
-    met-node q m' = answers-met m u m' h 0 (ap found (e ∙ ap (becoming (opT t)) q))
-
     pub same-node : r ≡ Stays → Became m u m h 0 (record { used = u; root = h })
     same-node q = same-became (e ∙ ap (becoming (opT t)) q)
 
     pub partial-node : Fitting (opT (treeOf m h)) r → (n : ℕ) → r ≡ Partial n
-        → (replaceWithPartialSort (opT (treeOf m h)) (strip (treeOf m h .kids)) ≡ becomes (partial n (opT (treeOf m h)))) × (n ≤ 8)
+        → (replaceWithPartialSort (opT (treeOf m h)) (strip (treeOf m h .kids)) ≡ partial n (opT (treeOf m h))) × (n ≤ 8)
         × (code (opT (treeOf m h)) ≡ 7)
     partial-node f n q = let g = subst (Fitting (opT t)) q f in (e ∙ ap (becoming (opT t)) q, g .0, g .1)
 
   -- a partial sort of n keys met
-  module _ (n : ℕ) (e : replaceWithPartialSort (opT (treeOf m h)) (strip (treeOf m h .kids)) ≡ becomes (partial n (opT (treeOf m h)))) (few : n ≤ 8)
+  module _ (n : ℕ) (e : replaceWithPartialSort (opT (treeOf m h)) (strip (treeOf m h .kids)) ≡ partial n (opT (treeOf m h))) (few : n ≤ 8)
       (c : code (opT (treeOf m h)) ≡ 7) where
     abbrev y : NodeRecord
     y = fromBytes (slot m (index h) .rec)
@@ -259,9 +256,6 @@ module _ (m : List ℕ) (u h : ℕ) (p : Sorting m u h) (n : ℕ) (q : Place) (w
     pub none-below : (m' : List ℕ) → AnswersPartial m u m' k (q .left) NoSuchNode → AnswersPartial m u m' h (suc n) NoSuchNode
     none-below m' a = answers-none m u m' h (suc n) (found-below ∙ a .1)
 
-    pub met-below : (m' : List ℕ) → AnswersPartial m u m' k (q .left) AllKeysMet → AnswersPartial m u m' h (suc n) AllKeysMet
-    met-below m' a = answers-met m u m' h (suc n) (found-below ∙ a .1)
-
     module _ (m' : List ℕ) (lm : length m' ≡ length m) (a : At) (b : Became m u m' k (q .left) a) where
       abbrev ks : List ℕ
       ks = set hs (q .child) (a .root)
@@ -292,7 +286,7 @@ module _ (m : List ℕ) (u h : ℕ) (p : Sorting m u h) (n : ℕ) (q : Place) (w
               ap size (forest-same u m m' (b .old) (take j hs)
               (below-take (2 * u) j hs (below-more hs (omega arith) (view m u h (standing m u h p) .below))))
 
-      here-is : outcome (fromNode (suc n) (planT (treeOf m h))) ≡ found (becomes (b .op))
+      here-is : outcome (fromNode (suc n) (planT (treeOf m h))) ≡ found (b .op)
       here-is = found-below ∙ b .here
 
       plan-is : tree (decode (slot m (index h) .rec)) (strip (forest m' (set (slot m (index h) .kids) (q .child) (a .root)))) none ≡ setNode (suc n) (b .op)
@@ -388,10 +382,6 @@ module _ (m : List ℕ) (u h : ℕ) (p : Sorting m u h) (n : ℕ) (z : n ≡ 0 �
         pub step-missing : r ≡ NoSuchNode → AnswersPartial m u m' h n NoSuchNode
         step-missing x = subst (λ i. AnswersPartial m u m' h i NoSuchNode) back
             (none-below m u h p (n - 1) q w step-low k hk m' (subst (AnswersPartial m u m' k (q .left)) x g))
-
-        pub step-met : r ≡ AllKeysMet → AnswersPartial m u m' h n AllKeysMet
-        step-met x = subst (λ i. AnswersPartial m u m' h i AllKeysMet) back
-            (met-below m u h p (n - 1) q w step-low k hk m' (subst (AnswersPartial m u m' k (q .left)) x g))
 
         module _ (lm : length m' ≡ length m) (a : At) (x : r ≡ Becomes a) where
           below-became : Became m u m' k (q .left) a

@@ -21,17 +21,16 @@ ghost use Rattle.plan.specs.Numbers.{code};
 ghost use Rattle.plan_codec.specs.Decode.{decode};
 ghost use Rattle.arena.specs.Arena.{index, slot};
 ghost use Rattle.walks.specs.Marks.{node, opT, strip};
-ghost use Rattle.walks.specs.PartialSort.{becomes, replaceWithPartialSort as replaced};
+ghost use Rattle.walks.specs.PartialSort.{replaceWithPartialSort as replaced};
 ghost use Rattle.plan_context.specs.View.{treeOf, forest, Grown, Puts};
 ghost use Rattle.sort_connection.specs.Standing.{Standing};
 ghost use Rattle.replace_with_partial_sort.specs.Replacing.{partial};
 ghost use Rattle.partial_sort_by_number.specs.AtNumber.{Located, Became, AnswersPartial};
 ghost use Rattle.partial_sort_by_number.specs.ByNumber.{Sorting};
 
-// Refusal 20, refusal 22, or the tree that it becomes.
+// Refusal 20, or the tree that it becomes.
 pub enum Sorted {
     NoSuchNode,
-    AllKeysMet,
     Becomes(At),
 }
 
@@ -86,7 +85,7 @@ fn with_child(m: &[u8], u: usize, h: usize, j: usize, k: usize) -> [usize; 8]
 
 // The sort at h as a partial sort with n keys met.
 fn put_partial(m: &mut [u8], u: usize, h: usize, n: usize) -> At
-    requires { ⌜ Sorting (now m) u h × (replaced (opT (treeOf (now m) h)) (strip (treeOf (now m) h .kids)) ≡ becomes (partial n (opT (treeOf (now m) h))))
+    requires { ⌜ Sorting (now m) u h × (replaced (opT (treeOf (now m) h)) (strip (treeOf (now m) h .kids)) ≡ partial n (opT (treeOf (now m) h)))
         × (n ≤ 8) × (code (opT (treeOf (now m) h)) ≡ 7) ⌝ }
     ensures { λ a. ⌜ Became (now (m .entry)) u (now (m .exit)) h 0 a ⌝ }
 {
@@ -108,7 +107,6 @@ fn replace_node(m: &mut [u8], u: usize, h: usize) -> Sorted
 {
     let found = replace_with_partial_sort(m, u, h);
     match found {
-        Replaced::AllKeysMet => Sorted::AllKeysMet,
         Replaced::Same => Sorted::Becomes(At { used: u, root: h }),
         Replaced::Partial(n) => {
             let a = put_partial(m, u, h, n);
@@ -148,7 +146,6 @@ pub fn partially_sorted(m: &mut [u8], u: usize, h: usize, n: usize) -> Sorted
     let below = partially_sorted(m, u, k, p.left);
     match below {
         Sorted::NoSuchNode => Sorted::NoSuchNode,
-        Sorted::AllKeysMet => Sorted::AllKeysMet,
         Sorted::Becomes(a) => {
             let top = put_child(m, a.used, h, j, a.root);
             Sorted::Becomes(top)

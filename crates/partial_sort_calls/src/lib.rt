@@ -27,7 +27,6 @@ pub fn sort_partially(m: &mut [u8], u: usize, h: usize, n: u32, out: &mut [u8]) 
     }
     match partially_sorted(m, u, h, n as usize) {
         Sorted::NoSuchNode => Called::Done(plan::number(Refusal::NoSuchNode), false),
-        Sorted::AllKeysMet => Called::Done(plan::number(Refusal::AllKeysMet), false),
         Sorted::Becomes(a) => write_out(m, a.used, a.root, k, out),
     }
 }

@@ -10,7 +10,7 @@ use Rattle.plan.specs.declared.JoinType.the-variants.{Inner, Left, Right
 use Rattle.plan.specs.declared.Distribution.{Distribution}
 use Rattle.plan.specs.declared.Distribution.the-variants.{Unspecified, Single, Keyed}
 use Rattle.plan.specs.declared.Refusal.{Refusal}
-use Rattle.plan.specs.declared.Refusal.the-variants.{Accepted, Length, BlockSum, Header, KindOrChildren, RecordCount, Field, Column, Width, NoSuchNode, HasPartialSort, AllKeysMet, TooManyNodes, OutputTooShort, ConstantSort}
+use Rattle.plan.specs.declared.Refusal.the-variants.{Accepted, Length, BlockSum, Header, KindOrChildren, RecordCount, Field, Column, Width, NoSuchNode, HasPartialSort, TooManyNodes, OutputTooShort, ConstantSort}
 
 -- 01, 'Kinds': 1 source, .. 14 partial sort; 02, P1: 15 aggregate
 abbrev pub kindNumber : Kind → ℕ
@@ -69,7 +69,7 @@ distributionNumber Unspecified = 0
 distributionNumber Single = 1
 distributionNumber (Keyed s) = 2
 
--- 01, 'From the input' and 'From the state'
+-- 01, 'From the input' and 'From the state'; 22 isn't given any more (02, P2)
 abbrev pub numberOf : Refusal → ℕ
 numberOf Accepted = 0
 numberOf Length = 1
@@ -82,7 +82,6 @@ numberOf Column = 7
 numberOf Width = 8
 numberOf NoSuchNode = 20
 numberOf HasPartialSort = 21
-numberOf AllKeysMet = 22
 numberOf TooManyNodes = 23
 numberOf OutputTooShort = 24
 numberOf ConstantSort = 25

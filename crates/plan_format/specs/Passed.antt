@@ -13,7 +13,7 @@ use Rattle.scan.specs.Bytes.{le16}
 use Rattle.plan.specs.Numbers.{numberOf}
 use Rattle.plan.specs.declared.Refusal.{Refusal}
 use Rattle.plan.specs.declared.Refusal.the-variants.{Accepted, Length, BlockSum, Header, KindOrChildren, RecordCount, Field, Column, Width}
-use Rattle.plan.specs.declared.Refusal.the-variants.{NoSuchNode, HasPartialSort, AllKeysMet, TooManyNodes, OutputTooShort, ConstantSort}
+use Rattle.plan.specs.declared.Refusal.the-variants.{NoSuchNode, HasPartialSort, TooManyNodes, OutputTooShort, ConstantSort}
 use Rattle.plan_format.specs.Blocks.{lengthOk, records, block, blockCount, recordCount, countOk, paddingOk, headerOk}
 use Rattle.plan_format.specs.LastPass.{lastPass}
 use Rattle.plan_format.specs.Reading.{sumsOk, headersOk, kindsOk, treeOk, recordsOk, earlyRefusal, refusalOf}
@@ -30,7 +30,6 @@ accepted Column e = absurd (omega arith)
 accepted Width e = absurd (omega arith)
 accepted NoSuchNode e = absurd (omega arith)
 accepted HasPartialSort e = absurd (omega arith)
-accepted AllKeysMet e = absurd (omega arith)
 accepted TooManyNodes e = absurd (omega arith)
 accepted OutputTooShort e = absurd (omega arith)
 accepted ConstantSort e = absurd (omega arith)

@@ -1,16 +1,14 @@
 -- Partial sorting of one node, as the code asks.
 use mathlib.Core.Path.{_≡_, refl, sym, ap, ap₂, _∙_}
-use mathlib.Core.Bool.{Bool, true, false, cond}
+use mathlib.Core.Bool.{Bool, true, false, cond, _||_}
 use mathlib.Core.List.{List, [], _∷_, _++_, append-assoc}
 use Prim.Native.Nat.{ℕ, zero, suc, _≤_, _<_}
 use native.Mathlib.Omega.{arith}
-use borrow.Author.Tests.{eq-eqb, ne-eqb}
 use lib.Dec.{eqb}
 use lib.ListN.{length, getD, take}
 use Rattle.row_order.specs.Iso.{Key}
 use Rattle.plan.specs.Op.{Op, source, filter, projection, union, repartition, coalesce, sortOp, mergeOp, globalLimit, localLimit, sortMergeJoin, hashJoin, outputRequirement, partialSort, aggregate, Plan}
 use Rattle.plan.specs.Numbers.{code}
-use Rattle.plan.specs.declared.Fetch.{Fetch}
 use Rattle.plan_codec.specs.NodeRecord.{NodeRecord}
 use Rattle.plan_codec.specs.Decode.{fromBytes, decode}
 use Rattle.semantics.specs.Facts.{Facts, met, at0}
@@ -21,14 +19,14 @@ use Rattle.key_lists.specs.declared.Keys.{Keys}
 use Rattle.asked_facts.specs.Asked.{told, MetKeys}
 use Rattle.arena.specs.Arena.{index, slot}
 use Rattle.walks.specs.Marks.{Tree, strip, known, opT, fact}
-use Rattle.walks.specs.PartialSort.{commonPrefixLength, Replaced, pastTheEnd, becomes, ofPrefix, partialOf, replaceWithPartialSort}
+use Rattle.walks.specs.PartialSort.{commonPrefixLength, partialOf, replaceWithPartialSort}
 use Rattle.plan_context.specs.View.{treeOf, forest, Sums}
 use Rattle.plan_context.specs.Laws.{facts-at}
 use Rattle.plan_context.specs.Facts.{Tells}
 use Rattle.tree_summary.specs.declared.Summary.{Summary}
 use Rattle.sort_connection.specs.Standing.{Standing, tree-is, op-is, own-over, own-proper, sort-op, one-kid, is-code, not-code}
 use Rattle.replace_with_partial_sort.specs.declared.Replaced.{Replaced as Answer}
-use Rattle.replace_with_partial_sort.specs.declared.Replaced.the-variants.{AllKeysMet, Same, Partial}
+use Rattle.replace_with_partial_sort.specs.declared.Replaced.the-variants.{Same, Partial}
 use Rattle.scan.specs.Below.{or-false}
 
 -- A sort with n keys met, as a partial sort
@@ -50,14 +48,12 @@ partial n (partialSort p ks k f) = partialSort p ks k f
 partial n (aggregate ks k) = aggregate ks k
 
 -- What the code's answer stands for, at a node o
-abbrev pub becoming : Op → Answer → Replaced
-becoming o AllKeysMet = pastTheEnd
-becoming o Same = becomes o
-becoming o (Partial n) = becomes (partial n o)
+abbrev pub becoming : Op → Answer → Op
+becoming o Same = o
+becoming o (Partial n) = partial n o
 
 -- A partial sort comes in a sort's place, with eight keys met at most
 abbrev pub Fitting : Op → Answer → Type 0
-Fitting o AllKeysMet = Unit {0}
 Fitting o Same = Unit {0}
 Fitting o (Partial n) = (n ≤ 8) × (code o ≡ 7)
 
@@ -76,7 +72,7 @@ common F done (k ∷ ks) (suc r) l f s =
 met-common : (F : Facts) (ks : List Key) (r : ℕ) → MetKeys F ks r → commonPrefixLength F [] ks ≡ r
 met-common F ks r m = common F [] ks r (m .few) (m .front) (m .stop)
 
-other-same : (o : Op) (c : Plan) → (code o ≡ 7 → ⊥) → replaceWithPartialSort o c ≡ becomes o
+other-same : (o : Op) (c : Plan) → (code o ≡ 7 → ⊥) → replaceWithPartialSort o c ≡ o
 other-same (source s) c f = refl
 other-same filter c f = refl
 other-same (projection cols) c f = refl
@@ -101,15 +97,11 @@ only-endless m [] e = absurd (omega arith)
 only-endless m (k ∷ []) e = or-false (endlessOp (opT (treeOf m k)) (endless (strip (treeOf m k .kids))))
 only-endless m (k ∷ l ∷ ks) e = absurd (omega arith)
 
-some-prefix : (p : Bool) (ks : List Key) (f : Fetch) (n : ℕ) → (n ≡ 0 → ⊥) → ofPrefix p ks f n ≡ partialSort p ks n f
-some-prefix p ks f zero e = absurd (e refl)
-some-prefix p ks f (suc n) e = refl
-
 module _ (m : List ℕ) (u h : ℕ) (a : Standing m u h) (r : List ℕ) (hr : r ≡ slot m (index h) .rec) (x : Bool) (hx : x ≡ eqb (code (decode r)) 7) where
   abbrev t : Tree
   t = treeOf m h
 
-  pub not-sort : x ≡ false → replaceWithPartialSort (opT (treeOf m h)) (strip (treeOf m h .kids)) ≡ becomes (opT (treeOf m h))
+  pub not-sort : x ≡ false → replaceWithPartialSort (opT (treeOf m h)) (strip (treeOf m h .kids)) ≡ opT (treeOf m h)
   not-sort e = other-same (opT t) (strip (t .kids)) (λ c. not-code (decode r) 7 x hx e (ap code (op-is m u h a r hr) ∙ c))
 
   module _ (e : x ≡ true) where
@@ -138,18 +130,18 @@ module _ (m : List ℕ) (u h : ℕ) (a : Standing m u h) (r : List ℕ) (hr : r 
           ∙ ap (λ i. endlessOp (opT (treeOf m i)) (endless (strip (treeOf m i .kids)))) (sym hk) ∙ sym (hs .endless)
 
       -- what it becomes, by the keys met
-      abbrev P : ℕ → Replaced
+      abbrev P : ℕ → Op
       P n = partialOf (y .preserve) (y .keys) (y .fetch) n
 
       by-endless : replaceWithPartialSort (opT (treeOf m h)) (strip (treeOf m h .kids)) ≡ cond (s .endless)
           (partialOf (fromBytes r .preserve) (fromBytes r .keys) (fromBytes r .fetch)
-          (commonPrefixLength (at0 (known (treeOf m h .kids))) [] (fromBytes r .keys))) (becomes (opT (treeOf m h)))
+          (commonPrefixLength (at0 (known (treeOf m h .kids))) [] (fromBytes r .keys))) (opT (treeOf m h))
       by-endless =
           ap (λ o. replaceWithPartialSort o (strip (t .kids))) sorts
-          ∙ ap₂ (λ b o. cond b (P (commonPrefixLength (at0 (known (t .kids))) [] (y .keys))) (becomes o)) endless-is (sym sorts)
+          ∙ ap₂ (λ b o. cond b (P (commonPrefixLength (at0 (known (t .kids))) [] (y .keys))) o) endless-is (sym sorts)
 
-      pub bounded : s .endless ≡ false → replaceWithPartialSort (opT (treeOf m h)) (strip (treeOf m h .kids)) ≡ becomes (opT (treeOf m h))
-      bounded z = by-endless ∙ ap (λ b. cond b (P (commonPrefixLength (at0 (known (t .kids))) [] (y .keys))) (becomes (opT t))) z
+      pub bounded : s .endless ≡ false → replaceWithPartialSort (opT (treeOf m h)) (strip (treeOf m h .kids)) ≡ opT (treeOf m h)
+      bounded z = by-endless ∙ ap (λ b. cond b (P (commonPrefixLength (at0 (known (t .kids))) [] (y .keys))) (opT t)) z
 
       module _ (z : s .endless ≡ true) (row : List ℕ) (sh : Tells (treeOf m k) row) (ks : Keys) (hks : Keyed (fromBytes r .keys) ks) (n : ℕ)
           (hn : MetKeys (told row) (keysOf ks) n) where
@@ -160,26 +152,19 @@ module _ (m : List ℕ) (u h : ℕ) (a : Standing m u h) (r : List ℕ) (hr : r 
         met-is : commonPrefixLength (at0 (known (treeOf m h .kids))) [] (fromBytes r .keys) ≡ n
         met-is = ap₂ (λ F l. commonPrefixLength F [] l) (sym first) (sym (hks .is)) ∙ met-common (told row) (keysOf ks) n hn
 
-        by-keys : replaceWithPartialSort (opT (treeOf m h)) (strip (treeOf m h .kids)) ≡ cond (eqb n (ks .len)) pastTheEnd
-            (becomes (ofPrefix (fromBytes r .preserve) (fromBytes r .keys) (fromBytes r .fetch) n))
+        by-keys : replaceWithPartialSort (opT (treeOf m h)) (strip (treeOf m h .kids)) ≡ cond (eqb n 0 || eqb n (ks .len)) (opT (treeOf m h))
+            (partial n (opT (treeOf m h)))
         by-keys =
-            by-endless ∙ ap₂ (λ b i. cond b (P i) (becomes (opT t))) z met-is
-            ∙ ap (λ l. cond (eqb n l) pastTheEnd (becomes (ofPrefix (y .preserve) (y .keys) (y .fetch) n)))
-            (ap length (sym (hks .is)) ∙ length-keys (ks .len) (ks .word))
+            by-endless ∙ ap₂ (λ b i. cond b (P i) (opT t)) z met-is
+            ∙ ap₂ (λ l o. cond (eqb n 0 || eqb n l) o (partial n o)) (ap length (sym (hks .is)) ∙ length-keys (ks .len) (ks .word)) (sym sorts)
 
-        pub all-met : n ≡ ks .len → replaceWithPartialSort (opT (treeOf m h)) (strip (treeOf m h .kids)) ≡ pastTheEnd
-        all-met q = by-keys ∙ ap (λ b. cond b pastTheEnd (becomes (ofPrefix (y .preserve) (y .keys) (y .fetch) n))) (eq-eqb n (ks .len) q)
+        -- none of the keys is met, or all are
+        pub stays : (eqb n 0 || eqb n (ks .len)) ≡ true → replaceWithPartialSort (opT (treeOf m h)) (strip (treeOf m h .kids)) ≡ opT (treeOf m h)
+        stays q = by-keys ∙ ap (λ b. cond b (opT t) (partial n (opT t))) q
 
-        module _ (q : n ≡ ks .len → ⊥) where
-          not-all : replaceWithPartialSort (opT (treeOf m h)) (strip (treeOf m h .kids)) ≡ becomes
-              (ofPrefix (fromBytes r .preserve) (fromBytes r .keys) (fromBytes r .fetch) n)
-          not-all = by-keys ∙ ap (λ b. cond b pastTheEnd (becomes (ofPrefix (y .preserve) (y .keys) (y .fetch) n))) (ne-eqb n (ks .len) q)
-
-          pub none-met : n ≡ 0 → replaceWithPartialSort (opT (treeOf m h)) (strip (treeOf m h .kids)) ≡ becomes (opT (treeOf m h))
-          none-met w = not-all ∙ ap (λ i. becomes (ofPrefix (y .preserve) (y .keys) (y .fetch) i)) w ∙ ap becomes (sym sorts)
-
-          pub some-met : (n ≡ 0 → ⊥) → replaceWithPartialSort (opT (treeOf m h)) (strip (treeOf m h .kids)) ≡ becomes (partial n (opT (treeOf m h)))
-          some-met w = not-all ∙ ap becomes (some-prefix (y .preserve) (y .keys) (y .fetch) n w) ∙ ap (λ o. becomes (partial n o)) (sym sorts)
-
-          pub some-fits : (n ≤ 8) × (code (opT (treeOf m h)) ≡ 7)
-          some-fits = let l = length-keys (ks .len) (ks .word) in let f = hn .few in let g = hks .few in (omega arith, ap code sorts)
+        -- some of them are
+        pub some-met : (eqb n 0 || eqb n (ks .len)) ≡ false
+            → (replaceWithPartialSort (opT (treeOf m h)) (strip (treeOf m h .kids)) ≡ partial n (opT (treeOf m h))) × Fitting (opT (treeOf m h)) (Partial n)
+        some-met q =
+            let l = length-keys (ks .len) (ks .word) in let f = hn .few in let g = hks .few in
+            (by-keys ∙ ap (λ b. cond b (opT t) (partial n (opT t))) q, (omega arith, ap code sorts))

@@ -13,14 +13,13 @@ ghost use Rattle.plan_context.specs.View.{treeOf};
 ghost use Rattle.sort_connection.specs.Standing.{Standing};
 ghost use Rattle.replace_with_partial_sort.specs.Replacing.{becoming, Fitting};
 
-// What becomes of the node: refusal 22, itself, or a partial sort with this many keys met.
+// What becomes of the node: itself, or a partial sort with this many keys met.
 pub enum Replaced {
-    AllKeysMet,
     Same,
     Partial(usize),
 }
 
-// The node at h. A sort stays where its child is bounded or meets none of its keys.
+// The node at h. A sort stays where its child is bounded, or meets none of its keys or all.
 pub fn replace_with_partial_sort(m: &[u8], u: usize, h: usize) -> Replaced
     requires { ⌜ Standing (now m) u h ⌝ }
     ensures { λ r. ⌜ (replaced (opT (treeOf (now (m .entry)) h)) (strip (treeOf (now (m .entry)) h .kids)) ≡ becoming (opT (treeOf (now (m .entry)) h)) r)
@@ -37,10 +36,7 @@ pub fn replace_with_partial_sort(m: &[u8], u: usize, h: usize) -> Replaced
     }
     let own = keys(r);
     let n = met_keys(row(m, k), own);
-    if n == own.len {
-        return Replaced::AllKeysMet;
-    }
-    if n == 0 {
+    if (n == 0) | (n == own.len) {
         return Replaced::Same;
     }
     Replaced::Partial(n)

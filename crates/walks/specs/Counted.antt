@@ -1,4 +1,4 @@
--- The walks as they are called: 21 for a tree with a partial sort, then 23 and 25 as reached; for partial sorting 20 and 22.
+-- The walks as they are called: 21 for a tree with a partial sort, then 23 and 25 as reached; for partial sorting 20.
 -- These are definitions.
 use mathlib.Core.Bool.{Bool, true, false, cond, not, _&&_, _||_}
 use Prim.Native.Nat.{ℕ, suc, _+_, _-_}
@@ -8,7 +8,7 @@ use Rattle.plan.specs.Forest.{Forest, none, tree, size}
 use Rattle.plan.specs.Op.{Op, Plan}
 use Rattle.plan.specs.Numbers.{code}
 use Rattle.plan.specs.declared.Refusal.{Refusal}
-use Rattle.plan.specs.declared.Refusal.the-variants.{NoSuchNode, HasPartialSort, AllKeysMet, TooManyNodes, ConstantSort}
+use Rattle.plan.specs.declared.Refusal.the-variants.{NoSuchNode, HasPartialSort, TooManyNodes, ConstantSort}
 use Rattle.semantics.specs.Facts.{isNil, factsOp, facts, knownOrder}
 use Rattle.walks.specs.Marks.{Marked, Tree, strip, plant, sizeT, rebuild}
 use Rattle.walks.specs.Utils.{isSort}
@@ -16,7 +16,7 @@ use Rattle.walks.specs.EnsureSorting.{ensureSorting}
 use Rattle.walks.specs.ParallelizeSorts.{parallelizeSorts}
 use Rattle.walks.specs.OrderPreserving.{Settings, replaceWithOrderPreservingVariants}
 use Rattle.walks.specs.PushdownSorts.{Visit, atRoot, Decision, pushdownSortsHelper, carryOut}
-use Rattle.walks.specs.PartialSort.{Replaced, pastTheEnd, becomes, replaceWithPartialSort, fromNode, setNode}
+use Rattle.walks.specs.PartialSort.{replaceWithPartialSort, fromNode, setNode}
 
 -- ---- what a call answers
 
@@ -88,7 +88,7 @@ abbrev pub answerOf : Counted (Forest Marked) → Answer
 answerOf (stopped e) = refused e
 answerOf (counted x n) = answered (strip x)
 
--- "Several at once: 20, 21, then 22, 23 or 25 as reached"
+-- "Several at once: 20, 21, then 22, 23 or 25 as reached"; 22 isn't given any more (02, P2)
 abbrev pub answerTo : Plan → Counted (Forest Marked) → Answer
 answerTo f w = cond (hasPartialSort f) (refused HasPartialSort) (answerOf w)
 
@@ -105,13 +105,9 @@ abbrev pub pushed : Plan → Answer
 pushed f = answerTo f (countDown (λ i. atRoot) (size f) f)
 
 -- 20: "a call on one node whose number isn't in the tree"; partial sorting gives no 21 (reading 12)
-abbrev pub partialAnswer : ℕ → Plan → Replaced → Answer
-partialAnswer n f pastTheEnd = refused AllKeysMet
-partialAnswer n f (becomes o) = answered (setNode n o f)
-
 abbrev pub partialAt : ℕ → Plan → Plan → Answer
 partialAt n f none = refused NoSuchNode
-partialAt n f (tree o c r) = partialAnswer n f (replaceWithPartialSort o c)
+partialAt n f (tree o c r) = answered (setNode n (replaceWithPartialSort o c) f)
 
 abbrev pub partiallySorted : ℕ → Plan → Answer
 partiallySorted n f = partialAt n f (fromNode n f)

@@ -1,5 +1,5 @@
 -- enforce_sorting/mod.rs, replace_with_partial_sort: it works on one node. These are definitions.
-use mathlib.Core.Bool.{Bool, cond}
+use mathlib.Core.Bool.{Bool, cond, _||_}
 use mathlib.Core.List.{List, [], _∷_, _++_}
 use Prim.Native.Nat.{ℕ, zero, suc, _-_}
 use lib.Dec.{eqb, ltb}
@@ -17,26 +17,17 @@ abbrev pub commonPrefixLength : Facts → List Key → List Key → ℕ
 commonPrefixLength F done [] = 0
 commonPrefixLength F done (k ∷ ks) = cond (met F (done ++ (k ∷ []))) (suc (commonPrefixLength F (done ++ (k ∷ [])) ks)) 0
 
--- What a node becomes; or that its child meets all its keys: "The Rust indexes past the end there" (22)
-pub data Replaced : Type 0 where
-  pastTheEnd : Replaced
-  becomes : Op → Replaced
-
--- n: the keys met. With none the sort stays (reading 11)
-abbrev pub ofPrefix : Bool → List Key → Fetch → ℕ → Op
-ofPrefix p ks f zero = sortOp p ks f
-ofPrefix p ks f (suc n) = partialSort p ks (suc n) f
-
-abbrev pub partialOf : Bool → List Key → Fetch → ℕ → Replaced
-partialOf p ks f n = cond (eqb n (length ks)) pastTheEnd (becomes (ofPrefix p ks f n))
+-- n: the keys met. With none of them the sort stays (reading 11), and with all: "partial sorting of such a sort answers the tree unchanged" (02, P2);
+-- the Rust indexes past the end there
+abbrev pub partialOf : Bool → List Key → Fetch → ℕ → Op
+partialOf p ks f n = cond (eqb n 0 || eqb n (length ks)) (sortOp p ks f) (partialSort p ks n f)
 
 -- 01, 'The four walks': it "returns a non-sort or a bounded child unchanged"
-abbrev pub partialBy : Shape → Op → Plan → Replaced
-partialBy s o c =
-    ifSort s (λ p ks f. cond (anyOf (endless c)) (partialOf p ks f (commonPrefixLength (at0 (facts c)) [] ks)) (becomes o)) (becomes o)
+abbrev pub partialBy : Shape → Op → Plan → Op
+partialBy s o c = ifSort s (λ p ks f. cond (anyOf (endless c)) (partialOf p ks f (commonPrefixLength (at0 (facts c)) [] ks)) o) o
 
 -- A node o over c
-abbrev pub replaceWithPartialSort : Op → Plan → Replaced
+abbrev pub replaceWithPartialSort : Op → Plan → Op
 replaceWithPartialSort o c = partialBy (shape o) o c
 
 -- ---- node number n, in node order

@@ -100,7 +100,7 @@ sizesDown a q (tree o c r) =
     cond (constantSort o c) [] (reaches D (a + size (tree o c r)) ++ (below ++ cond (hasConstantSort c) [] right))
 
 -- ---- partial sorting
--- 22: node number n is "a sort over an unbounded child that already meets all its keys"
+-- Node number n is "a sort over an unbounded child that already meets all its keys": 01's refusal 22, since 02, P2, no refusal
 pub record SortedAlready (n : ℕ) (f : Plan) : Type 0 where
   pub preserve : Bool
   pub keys : List Key

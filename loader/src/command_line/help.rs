@@ -78,7 +78,7 @@ const TOPICS: [Topic; 12] = [
         name: "partial",
         words: "NODE",
         short: "the sort of that number made a partial sort",
-        long: "NODE is a number of the listing. A node that is no sort, or whose child is bounded, stays as it is.",
+        long: "NODE is a number of the listing. A node that is no sort stays as it is, and so does a sort whose child is bounded, or meets none of its keys or all of them.",
         example: "sort_placement make examples/extended_echo.txt | sort_placement partial 1 | sort_placement list",
     },
     Topic {

@@ -5,7 +5,7 @@ use Rattle.walks.specs.Marks.{sizeT}
 use Rattle.plan_context.specs.View.{treeOf}
 use Rattle.sort_connection.specs.Standing.{slot-room, kid-asks}
 use Rattle.partial_sort_by_number.specs.AtNumber.{AnswersPartial}
-use Rattle.partial_sort_by_number.specs.ByNumber.{standing, step-past, step-low, step-asks, step-missing, step-met, step-puts, step-became}
+use Rattle.partial_sort_by_number.specs.ByNumber.{standing, step-past, step-low, step-asks, step-missing, step-puts, step-became}
 use Prim.Native.Nat.{ℕ, _<_}
 use borrow.Fn.Kinds.{In}
 use borrow.Fn.PlainCycle.{Measures, is, falls, and}
@@ -116,9 +116,6 @@ partially-sorted-partially-sorted-requires t c κs = let s = c .before .before .
 partially-sorted-enum-told : (t : ℕ) → partially-sorted-lts.Need-enum-told (calls t) (partially-sorted-at t) partially-sorted.Post
 partially-sorted-enum-told t c = search needs
 
-partially-sorted-enum-told-2 : (t : ℕ) → partially-sorted-lts.Need-enum-told-2 (calls t) (partially-sorted-at t) partially-sorted.Post
-partially-sorted-enum-told-2 t c = search needs
-
 partially-sorted-enum-known-below : (t : ℕ) → partially-sorted-lts.Need-enum-known-below (calls t) (partially-sorted-at t) partially-sorted.Post
 partially-sorted-enum-known-below t c = search needs
 
@@ -148,24 +145,11 @@ partially-sorted-returns-3 t c = let s =
     (c .before .before .before .before .partially-sorted .ensures) (c .enum-told .given .1)
 
 partially-sorted-same-length-4 : (t : ℕ) → partially-sorted-lts.Need-same-length-4 (calls t) (partially-sorted-at t) partially-sorted.Post
-partially-sorted-same-length-4 t c = c .before .before .before .before .partially-sorted .kept .0
+partially-sorted-same-length-4 t c = c .before .before .put-child .kept .0
+    ∙ c .before .before .before .before .before .before .before .before .before .partially-sorted .kept .0
 
 partially-sorted-returns-4 : (t : ℕ) → partially-sorted-lts.Need-returns-4 (calls t) (partially-sorted-at t) partially-sorted.Post
 partially-sorted-returns-4 t c = let s =
-    c .before .before .before .before .before .before .before .before .before .before .before .before .before .before .before in
-    step-met (s .args .m .now) (s .args .u) (s .args .h) (s .pre .1) (s .args .n)
-    (c .before .before .before .before .before .before .before .before .before .before .before .before .before .if1 .left) _
-    (c .before .before .before .before .before .before .before .before .before .before .before .locate .ensures) _
-    (c .before .before .before .before .before .before .before .before .before .child-count .ensures)
-    (c .before .before .before .before .before .before .before .before .if2 .left) _ (c .before .before .before .before .before .before .child .ensures) _ _
-    (c .before .before .before .before .partially-sorted .ensures) (c .enum-told2 .given .1)
-
-partially-sorted-same-length-5 : (t : ℕ) → partially-sorted-lts.Need-same-length-5 (calls t) (partially-sorted-at t) partially-sorted.Post
-partially-sorted-same-length-5 t c = c .before .before .put-child .kept .0
-    ∙ c .before .before .before .before .before .before .before .before .before .partially-sorted .kept .0
-
-partially-sorted-returns-5 : (t : ℕ) → partially-sorted-lts.Need-returns-5 (calls t) (partially-sorted-at t) partially-sorted.Post
-partially-sorted-returns-5 t c = let s =
     c .before .before .before .before .before .before .before .before .before .before .before .before .before .before .before .before .before .before
     .before .before in step-became (s .args .m .now) (s .args .u) (s .args .h) (s .pre .1) (s .args .n)
     (c .before .before .before .before .before .before .before .before .before .before .before .before .before .before .before .before .before .before .if1
@@ -192,12 +176,9 @@ pub +partially-sorted-spec : {M : Type 1} → statement M
     (partially-sorted-child-requires t)
     (partially-sorted-partially-sorted-requires t)
     (partially-sorted-enum-told t)
-    (partially-sorted-enum-told-2 t)
     (partially-sorted-enum-known-below t)
     (partially-sorted-put-child-requires t)
     (partially-sorted-same-length-3 t)
     (partially-sorted-returns-3 t)
     (partially-sorted-same-length-4 t)
     (partially-sorted-returns-4 t)
-    (partially-sorted-same-length-5 t)
-    (partially-sorted-returns-5 t)

@@ -1,5 +1,5 @@
 use borrow.Author.Needs.{needs}
-use Rattle.partial_sort_by_number.specs.ByNumber.{standing, met-node, same-node, partial-node}
+use Rattle.partial_sort_by_number.specs.ByNumber.{standing, same-node, partial-node}
 use Rattle.partial_sort_by_number.proofs.replace_node.Statement.{statement}
 use Rattle.partial_sort_by_number.proofs.replace_node.Tie as tie
 
@@ -8,9 +8,6 @@ replace-with-partial-sort-requires c κs = let s = c .before .before in standing
 
 enum-told : tie.Need-enum-told
 enum-told c = search needs
-
-enum-told-2 : tie.Need-enum-told-2
-enum-told-2 c = search needs
 
 enum-known-found : tie.Need-enum-known-found
 enum-known-found c = search needs
@@ -25,21 +22,13 @@ same-length c = search needs
 
 returns : tie.Need-returns
 returns c = let s = c .before .before .before .before .before in
-    met-node (s .args .m .now) (s .args .u) (s .args .h) (s .pre) _ (c .before .before .replace-with-partial-sort .ensures .0) (c .enum-told .given .1)
-    (s .args .m .now)
+    same-node (s .args .m .now) (s .args .u) (s .args .h) (s .pre) _ (c .before .before .replace-with-partial-sort .ensures .0) (c .enum-told .given .1)
 
 same-length-2 : tie.Need-same-length-2
 same-length-2 c = search needs
 
 returns-2 : tie.Need-returns-2
-returns-2 c = let s = c .before .before .before .before .before in
-    same-node (s .args .m .now) (s .args .u) (s .args .h) (s .pre) _ (c .before .before .replace-with-partial-sort .ensures .0) (c .enum-told2 .given .1)
-
-same-length-3 : tie.Need-same-length-3
-same-length-3 c = search needs
-
-returns-3 : tie.Need-returns-3
-returns-3 c = search needs
+returns-2 c = search needs
 
 pub replace-node-spec : {M : Type 1} → statement M
 replace-node-spec =
@@ -47,12 +36,9 @@ replace-node-spec =
     (tie.spec
     replace-with-partial-sort-requires
     enum-told
-    enum-told-2
     enum-known-found
     put-partial-requires
     same-length
     returns
     same-length-2
-    returns-2
-    same-length-3
-    returns-3)
+    returns-2)

@@ -43,12 +43,6 @@ enum-told c = search needs
 number-requires : tie.Need-number-requires
 number-requires c κs = search needs
 
-enum-told-2 : tie.Need-enum-told-2
-enum-told-2 c = search needs
-
-number-requires-2 : tie.Need-number-requires-2
-number-requires-2 c κs = search needs
-
 enum-known-a : tie.Need-enum-known-a
 enum-known-a c = search needs
 
@@ -79,23 +73,11 @@ returns-2 c = let s = c .before .before .before .before .before .before .before 
 same-length-3 : tie.Need-same-length-3
 same-length-3 c = search needs
 
-returns-3 : tie.Need-returns-3
-returns-3 c = let s = c .before .before .before .before .before .before .before .before .before .before .before .before .before .before .before .before in
-    let p = s .pre .0 in let w = s .pre .1 in let m = s .args .m .now in let u = s .args .u in let h = s .args .h in let n = s .args .n in
-    let out = s .args .out .now in let t = c .before .before .before .before .before .before .before .before .before .before .before .before .settle-all in
-    let m' = t .last .0 in let l = t .kept .0 in let a = t .ensures .0 in let f = t .ensures .1 in
-    let y = c .before .before .before .before .before .partially-sorted in let g = c .before .enum-told2 .given in
-    partial-refuses m u h p w m' l a f _ (c .before .before .before .before .before .before .before .before .nodes .ensures) n out refusals.AllKeysMet
-    (subst (λ o. AnswersPartial m' u (y .last .0) h n o) (g .1) (y .ensures) .0) _ (c .number2 .ensures)
-
 same-length-4 : tie.Need-same-length-4
 same-length-4 c = search needs
 
-same-length-5 : tie.Need-same-length-5
-same-length-5 c = search needs
-
-returns-4 : tie.Need-returns-4
-returns-4 c = let s = c .before .before .before .before .before .before .before .before .before .before .before .before .before .before .before .before
+returns-3 : tie.Need-returns-3
+returns-3 c = let s = c .before .before .before .before .before .before .before .before .before .before .before .before .before .before .before .before
     .before .before .before .before .before in let p = s .pre .0 in let w = s .pre .1 in let m = s .args .m .now in let u = s .args .u in
     let h = s .args .h in let n = s .args .n in let out = s .args .out .now in
     let t = c .before .before .before .before .before .before .before .before .before .before .before .before .before .before .before .before .before
@@ -119,14 +101,10 @@ sort-partially-spec =
     partially-sorted-requires
     enum-told
     number-requires
-    enum-told-2
-    number-requires-2
     enum-known-a
     write-out-requires
     same-length-2
     returns-2
     same-length-3
-    returns-3
     same-length-4
-    same-length-5
-    returns-4)
+    returns-3)

@@ -1,7 +1,7 @@
 use borrow.Author.Needs.{needs}
 use borrow.Author.Tests.{not-true, not-false}
 use Rattle.sort_connection.specs.Standing.{is-here, own-proper, kid-asks, kid-standing}
-use Rattle.replace_with_partial_sort.specs.Replacing.{not-sort, sort-some, bounded, all-met, none-met, some-met, some-fits}
+use Rattle.replace_with_partial_sort.specs.Replacing.{not-sort, sort-some, bounded, stays, some-met}
 use Rattle.replace_with_partial_sort.proofs.replace_with_partial_sort.Statement.{statement}
 use Rattle.replace_with_partial_sort.proofs.replace_with_partial_sort.Tie as tie
 
@@ -56,7 +56,7 @@ met-keys-requires c κs = search needs
 
 returns-3 : tie.Need-returns-3
 returns-3 c = let s = c .before .before .before .before .before .before .before .before .before .before .before .before .before in (
-  all-met (s .args .m .now) (s .args .u) (s .args .h) (s .pre) _
+  stays (s .args .m .now) (s .args .u) (s .args .h) (s .pre) _
       (c .before .before .before .before .before .before .before .before .before .before .before .record-at .ensures) _
       (c .before .before .before .before .before .before .before .before .before .before .is-sort .ensures)
       (not-false _ (c .before .before .before .before .before .before .before .before .before .if1 .left)) _
@@ -68,38 +68,15 @@ returns-3 c = let s = c .before .before .before .before .before .before .before 
 )
 
 returns-4 : tie.Need-returns-4
-returns-4 c = let s = c .before .before .before .before .before .before .before .before .before .before .before .before .before .before in (
-  none-met (s .args .m .now) (s .args .u) (s .args .h) (s .pre) _
-      (c .before .before .before .before .before .before .before .before .before .before .before .before .record-at .ensures) _
-      (c .before .before .before .before .before .before .before .before .before .before .before .is-sort .ensures)
-      (not-false _ (c .before .before .before .before .before .before .before .before .before .before .if1 .left)) _
-      (c .before .before .before .before .before .before .before .before .before .child .ensures) _
-      (c .before .before .before .before .before .before .before .before .summary .ensures)
-      (not-false _ (c .before .before .before .before .before .before .if2 .left)) _ (c .before .before .before .before .row .ensures .1) _
-      (c .before .before .before .before .before .keys .ensures) _ (c .before .before .before .met-keys .ensures) (c .before .if3 .left) (c .if4 .taken),
-  tt,
-)
-
-returns-5 : tie.Need-returns-5
-returns-5 c = let s = c .before .before .before .before .before .before .before .before .before .before .before .before .before .before in
-    let q = some-fits (s .args .m .now) (s .args .u) (s .args .h) (s .pre) _
-    (c .before .before .before .before .before .before .before .before .before .before .before .before .record-at .ensures) _
-    (c .before .before .before .before .before .before .before .before .before .before .before .is-sort .ensures)
-    (not-false _ (c .before .before .before .before .before .before .before .before .before .before .if1 .left)) _
-    (c .before .before .before .before .before .before .before .before .before .child .ensures) _
-    (c .before .before .before .before .before .before .before .before .summary .ensures)
-    (not-false _ (c .before .before .before .before .before .before .if2 .left)) _ (c .before .before .before .before .row .ensures .1) _
-    (c .before .before .before .before .before .keys .ensures) _ (c .before .before .before .met-keys .ensures) (c .before .if3 .left) in (
-      some-met (s .args .m .now) (s .args .u) (s .args .h) (s .pre) _
-          (c .before .before .before .before .before .before .before .before .before .before .before .before .record-at .ensures) _
-          (c .before .before .before .before .before .before .before .before .before .before .before .is-sort .ensures)
-          (not-false _ (c .before .before .before .before .before .before .before .before .before .before .if1 .left)) _
-          (c .before .before .before .before .before .before .before .before .before .child .ensures) _
-          (c .before .before .before .before .before .before .before .before .summary .ensures)
-          (not-false _ (c .before .before .before .before .before .before .if2 .left)) _ (c .before .before .before .before .row .ensures .1) _
-          (c .before .before .before .before .before .keys .ensures) _ (c .before .before .before .met-keys .ensures) (c .before .if3 .left) (c .if4 .left),
-      q,
-    )
+returns-4 c = let s = c .before .before .before .before .before .before .before .before .before .before .before .before .before in
+    some-met (s .args .m .now) (s .args .u) (s .args .h) (s .pre) _
+    (c .before .before .before .before .before .before .before .before .before .before .before .record-at .ensures) _
+    (c .before .before .before .before .before .before .before .before .before .before .is-sort .ensures)
+    (not-false _ (c .before .before .before .before .before .before .before .before .before .if1 .left)) _
+    (c .before .before .before .before .before .before .before .before .child .ensures) _
+    (c .before .before .before .before .before .before .before .summary .ensures) (not-false _ (c .before .before .before .before .before .if2 .left)) _
+    (c .before .before .before .row .ensures .1) _ (c .before .before .before .before .keys .ensures) _ (c .before .before .met-keys .ensures)
+    (c .if3 .left)
 
 pub replace-with-partial-sort-spec : {M : Type 1} → statement M
 replace-with-partial-sort-spec =
@@ -115,5 +92,4 @@ replace-with-partial-sort-spec =
     row-requires
     met-keys-requires
     returns-3
-    returns-4
-    returns-5)
+    returns-4)

@@ -15,7 +15,7 @@ use Rattle.plan.specs.declared.Distribution.the-variants.{Single, Unspecified}
 use Rattle.plan.specs.declared.Fetch.{Fetch}
 use Rattle.plan.specs.declared.Fetch.the-variants.{AtMost, Unlimited}
 use Rattle.plan.specs.declared.JoinType.the-variants.{Inner, LeftSemi}
-use Rattle.plan.specs.declared.Refusal.the-variants.{AllKeysMet, HasPartialSort, TooManyNodes}
+use Rattle.plan.specs.declared.Refusal.the-variants.{HasPartialSort, TooManyNodes}
 use Rattle.semantics.specs.examples.Examples.{kinds}
 use Rattle.walks.specs.Marks.{bare, node, opT, strip, Tree}
 use Rattle.walks.specs.OrderPreserving.{planWithOrderBreakingVariants}
@@ -349,7 +349,7 @@ partial-second-child = refl
 -- not: each key is met by itself; here all three are met together, though [2] alone is not
 pub partial-keys-together :
     partiallySorted 0 (on (sortOp false (up 0 ∷ up 1 ∷ up 2 ∷ []) Unlimited) (tree (sourceOf 3 1 2 (byTwo 0 2) true) none none))
-    ≡ refused AllKeysMet
+    ≡ answered (on (sortOp false (up 0 ∷ up 1 ∷ up 2 ∷ []) Unlimited) (tree (sourceOf 3 1 2 (byTwo 0 2) true) none none))
 partial-keys-together = refl
 
 -- ---- the theorem on rows is of some tree, and of one with each kind that it may have: the partial sort aside, which no walk takes

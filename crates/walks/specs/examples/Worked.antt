@@ -12,7 +12,7 @@ use Rattle.plan.specs.WellFormed.{width}
 use Rattle.plan.specs.declared.Distribution.the-variants.{Keyed, Single, Unspecified}
 use Rattle.plan.specs.declared.Fetch.the-variants.{AtMost, Unlimited}
 use Rattle.plan.specs.declared.JoinType.the-variants.{Inner}
-use Rattle.plan.specs.declared.Refusal.the-variants.{AllKeysMet, ConstantSort, NoSuchNode, TooManyNodes}
+use Rattle.plan.specs.declared.Refusal.the-variants.{ConstantSort, NoSuchNode, TooManyNodes}
 use Rattle.semantics.specs.Facts.{Facts, met}
 use Rattle.semantics.specs.Check.{check}
 use Rattle.walks.specs.Marks.{bare, node, plant, strip, Tree}
@@ -216,9 +216,17 @@ pub preserve-lost : preserved (settings false false false)
     (on (mergeOp (by 0) Unlimited) (on (repartition false 1 false []) (src 2 [])))
 preserve-lost = refl
 
--- 22, and a partial sort over an unbounded child
-pub partial-all : partiallySorted 0 (on (sortOp false (by 2) Unlimited) (endlessSrc 1 (up 2 ∷ up 0 ∷ []))) ≡ refused AllKeysMet
+-- A sort over an unbounded child that already meets all its keys comes back, idle marks too; and so where all its keys are constant (01's 22; 02, P2)
+pub partial-all : partiallySorted 0 (on (sortOp true (by 2) Unlimited) (endlessSrc 1 (up 2 ∷ up 0 ∷ []))) ≡ answered
+    (on (sortOp true (by 2) Unlimited) (endlessSrc 1 (up 2 ∷ up 0 ∷ [])))
 partial-all = refl
+
+pub partial-constant :
+    partiallySorted 0 (on (sortOp false (by 0) (AtMost 3)) (tree (sourceOf 2 1 1 [] true) none none))
+    ≡ answered (on (sortOp false (by 0) (AtMost 3)) (tree (sourceOf 2 1 1 [] true) none none))
+partial-constant = refl
+
+-- A partial sort over an unbounded child
 
 pub partial-prefix : partiallySorted 0 (on (sortOp false (up 2 ∷ up 1 ∷ []) Unlimited) (endlessSrc 1 (up 2 ∷ up 0 ∷ []))) ≡ answered
     (on (partialSort false (up 2 ∷ up 1 ∷ []) 1 Unlimited) (endlessSrc 1 (up 2 ∷ up 0 ∷ [])))

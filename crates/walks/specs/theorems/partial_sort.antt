@@ -1,2 +1,3 @@
+pub mod Earlier
 pub mod Kept
 pub mod Refusals

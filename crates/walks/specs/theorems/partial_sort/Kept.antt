@@ -1,6 +1,6 @@
 -- Partial sorting changes one record: every node's facts and all sources stay, the order check still passes, and the answer is well formed again.
 use mathlib.Core.Path.{_≡_, refl, sym, ap, ap₂, _∙_, subst}
-use mathlib.Core.Bool.{Bool, true, false, cond, _&&_}
+use mathlib.Core.Bool.{Bool, true, false, cond, _&&_, _||_}
 use mathlib.Core.List.{List, [], _∷_, _++_, append-assoc, map}
 use Prim.Native.Nat.{ℕ, zero, suc, _+_, _-_, _≤_, _<_}
 use native.Mathlib.Omega.{arith}
@@ -17,10 +17,10 @@ use Rattle.semantics.specs.Facts.{at0, Facts, facts, factsOp, met}
 use Rattle.semantics.specs.Properties.{anyOf, endless}
 use Rattle.semantics.specs.Check.{check, wantsMet}
 use Rattle.semantics.specs.Runs.{Env, nextS, past, SourceOK, Sources}
-use Rattle.semantics.specs.theorems.common.Bools.{and-left, and-right}
+use Rattle.semantics.specs.theorems.common.Bools.{and-left, and-right, or-false}
 use Rattle.walks.specs.Marks.{Shape}
-use Rattle.walks.specs.PartialSort.{becomes, commonPrefixLength, fromNode, ofPrefix, partialBy, pastTheEnd, Replaced, replaceWithPartialSort, setNode}
-use Rattle.walks.specs.Counted.{answered, partialAnswer, partialAt, partiallySorted}
+use Rattle.walks.specs.PartialSort.{commonPrefixLength, fromNode, partialBy, replaceWithPartialSort, setNode}
+use Rattle.walks.specs.Counted.{answered, partialAt, partiallySorted}
 use Rattle.walks.specs.theorems.common.Trees.{count, Ok, ok-to}
 use Rattle.walks.specs.theorems.common.Keeps.{shape-ind}
 use Rattle.walks.specs.theorems.calls.Answers.{isAnswer, planOr, well-ok}
@@ -120,14 +120,6 @@ prefix-met F done (k ∷ ks) n e = go (met F more) refl n (commonPrefixLength F 
     go false t n m ih q = absurd (omega arith)
 
 -- ---- what a sort becomes
-abbrev pub isBecome : Replaced → Bool
-isBecome pastTheEnd = false
-isBecome (becomes o) = true
-
-abbrev opOr : Op → Replaced → Op
-opOr d pastTheEnd = d
-opOr d (becomes o) = o
-
 less : (m n : ℕ) → m ≤ n → eqb m n ≡ false → m < n
 less m n l e = go (ltb m n) refl
   where
@@ -152,46 +144,41 @@ module _ (c : Plan) (p : Bool) (ks : List Key) (f : Fetch) where
     λ E i h. tt,
   )
 
-  of-prefix : (r : Plan) (m : ℕ) → commonPrefixLength (at0 (facts c)) [] ks ≡ m → eqb m (length ks) ≡ false → InPlace (tree (sortOp p ks f) c r)
-      (ofPrefix p ks f m)
-  of-prefix r zero q e = itself-in-place (sortOp p ks f) c r
-  of-prefix r (suc m) q e = partial-in-place r m (less (suc m) (length ks) (omega (arith, prefix-le (at0 (facts c)) [] ks)) e)
+  met-in-place : (r : Plan) (m : ℕ) → commonPrefixLength (at0 (facts c)) [] ks ≡ m → (eqb m 0 || eqb m (length ks)) ≡ false
+      → InPlace (tree (sortOp p ks f) c r) (partialSort p ks m f)
+  met-in-place r zero q e = no-bool (sym e)
+  met-in-place r (suc m) q e =
+      partial-in-place r m
+      (less (suc m) (length ks) (omega (arith, prefix-le (at0 (facts c)) [] ks)) (or-false (eqb (suc m) 0) (eqb (suc m) (length ks)) e .1))
       (prefix-met (at0 (facts c)) [] ks m q)
 
-  sort-in-place : (r : Plan) (o : Op) (x : Bool) (b : Bool) → eqb (commonPrefixLength (at0 (facts c)) [] ks) (length ks) ≡ b
-      → cond x (cond b pastTheEnd (becomes (ofPrefix p ks f (commonPrefixLength (at0 (facts c)) [] ks)))) (becomes (sortOp p ks f)) ≡ becomes o
-      → InPlace (tree (sortOp p ks f) c r) o
-  sort-in-place r o true true q e = no-bool (ap isBecome e)
-  sort-in-place r o true false q e = subst (InPlace (tree (sortOp p ks f) c r)) (ap (opOr o) e)
-      (of-prefix r (commonPrefixLength (at0 (facts c)) [] ks) refl q)
-  sort-in-place r o false b q e = subst (InPlace (tree (sortOp p ks f) c r)) (ap (opOr o) e) (itself-in-place (sortOp p ks f) c r)
+  abbrev m : ℕ
+  m = commonPrefixLength (at0 (facts c)) [] ks
 
-becomes-in-place : (c r : Plan) (o q : Op) → replaceWithPartialSort o c ≡ becomes q → InPlace (tree o c r) q
-becomes-in-place c r o q =
-    shape-ind (λ p. replaceWithPartialSort p c ≡ becomes q → InPlace (tree p c r) q)
-    (λ p ks f e. sort-in-place c p ks f r q (anyOf (endless c)) (eqb (commonPrefixLength (at0 (facts c)) [] ks) (length ks)) refl e)
-    (λ ks f e. itself (mergeOp ks f) e)
-    (λ p n h ks e. itself (repartition p n h ks) e)
-    (λ f e. itself (coalesce f) e)
-    (λ p s e. itself p (sym (ap (λ (z : Shape). partialBy z p c) s) ∙ e))
-    o
-  where
-    itself : (p : Op) → becomes p ≡ becomes q → InPlace (tree p c r) q
-    itself p e = subst (InPlace (tree p c r)) (ap (opOr q) e) (itself-in-place p c r)
+  sort-in-place : (r : Plan) (x b : Bool) → (eqb m 0 || eqb m (length ks)) ≡ b → InPlace (tree (sortOp p ks f) c r)
+      (cond x (cond b (sortOp p ks f) (partialSort p ks m f)) (sortOp p ks f))
+  sort-in-place r true true q = itself-in-place (sortOp p ks f) c r
+  sort-in-place r true false q = met-in-place r m refl q
+  sort-in-place r false b q = itself-in-place (sortOp p ks f) c r
+
+replaced-in-place : (c r : Plan) (o : Op) → InPlace (tree o c r) (replaceWithPartialSort o c)
+replaced-in-place c r =
+    shape-ind (λ p. InPlace (tree p c r) (replaceWithPartialSort p c))
+    (λ p ks f. let m : ℕ = commonPrefixLength (at0 (facts c)) [] ks in sort-in-place c p ks f r (anyOf (endless c)) (eqb m 0 || eqb m (length ks)) refl)
+    (λ ks f. itself-in-place (mergeOp ks f) c r)
+    (λ p n h ks. itself-in-place (repartition p n h ks) c r)
+    (λ f. itself-in-place (coalesce f) c r)
+    (λ p s. subst (InPlace (tree p c r)) (sym (ap (λ (z : Shape). partialBy z p c) s)) (itself-in-place p c r))
 
 -- ---- the call
 pub partial-kept : (n : ℕ) (f g : Plan) → partiallySorted n f ≡ answered g → SetKept f g
 partial-kept n f g e = go (fromNode n f) refl e
   where
-    found : (o : Op) (c r : Plan) → fromNode n f ≡ tree o c r → (x : Replaced) → replaceWithPartialSort o c ≡ x → partialAnswer n f x ≡ answered g
-        → SetKept f g
-    found o c r i pastTheEnd j q = no-bool (ap isAnswer q)
-    found o c r i (becomes p) j q =
-        subst (SetKept f) (ap (planOr f) q) (set-kept n p f (subst (λ (h : Plan). InPlace h p) (sym i) (becomes-in-place c r o p j)))
-
     go : (h : Plan) → fromNode n f ≡ h → partialAt n f h ≡ answered g → SetKept f g
     go none i q = no-bool (ap isAnswer q)
-    go (tree o c r) i q = found o c r i (replaceWithPartialSort o c) refl q
+    go (tree o c r) i q =
+        let p : Op = replaceWithPartialSort o c in
+        subst (SetKept f) (ap (planOr f) q) (set-kept n p f (subst (λ (h : Plan). InPlace h p) (sym i) (replaced-in-place c r o)))
 
 pub partial-well : (n : ℕ) (f g : Plan) → wellFormed f ≡ true → partiallySorted n f ≡ answered g → wellFormed g ≡ true
 partial-well n f g e h =
