@@ -65,6 +65,7 @@ fn candidates<'a>(asked: &'a Asked, notices: &'a Notices) -> impl Iterator<Item 
 /// Writes requests, with no answers, as a file of cases that mutants can be asked about.
 fn asked(name: &str, requests: impl Iterator<Item = Request>) -> Asked {
     let path = Path::new(env!("CARGO_MANIFEST_DIR")).join("target/mutants").join(name);
+    std::fs::create_dir_all(path.parent().expect("a folder")).expect("a folder");
     let mut file = BufWriter::new(File::create(&path).expect("a file"));
     for request in requests {
         file.write_all(&Case { request, number: 0, bytes: vec![] }.written()).expect("room for a request");

@@ -22,6 +22,7 @@ use Rattle.walks.specs.SortPushdown.{exprSourceSide, leftSide, minFetch,
 use Rattle.walks.specs.PushdownSorts.{push}
 use Rattle.walks.specs.Counted.{answered, ensured, parallelized, partiallySorted, preserved, pushed, refused}
 use Rattle.walks.specs.Terms.{_⊕_}
+use Rattle.walks.specs.theorems.partial_sort.Earlier.{earlierAnswer, twentyTwo}
 use Rattle.walks.specs.examples.Samples.{besides, endlessSrc, on, settings, src}
 
 -- ---- 01, 'Worked on paper', marked *
@@ -216,18 +217,21 @@ pub preserve-lost : preserved (settings false false false)
     (on (mergeOp (by 0) Unlimited) (on (repartition false 1 false []) (src 2 [])))
 preserve-lost = refl
 
--- A sort over an unbounded child that already meets all its keys comes back, idle marks too; and so where all its keys are constant (01's 22; 02, P2)
-pub partial-all : partiallySorted 0 (on (sortOp true (by 2) Unlimited) (endlessSrc 1 (up 2 ∷ up 0 ∷ []))) ≡ answered
-    (on (sortOp true (by 2) Unlimited) (endlessSrc 1 (up 2 ∷ up 0 ∷ [])))
-partial-all = refl
+-- A sort over an unbounded child that already meets all its keys had 22, and comes back since 02's P2; so does every node with it, idle marks too
+abbrev idleMarks : Plan
+idleMarks = on filter (on (sortOp true (by 2) Unlimited) (on (repartition true 1 false []) (endlessSrc 1 (up 2 ∷ up 0 ∷ []))))
 
-pub partial-constant :
-    partiallySorted 0 (on (sortOp false (by 0) (AtMost 3)) (tree (sourceOf 2 1 1 [] true) none none))
-    ≡ answered (on (sortOp false (by 0) (AtMost 3)) (tree (sourceOf 2 1 1 [] true) none none))
-partial-constant = refl
+pub partial-all : (earlierAnswer 1 idleMarks ≡ twentyTwo) × (partiallySorted 1 idleMarks ≡ answered idleMarks)
+partial-all = (refl, refl)
+
+-- one whose keys are all constant is met as well
+abbrev constantKeys : Plan
+constantKeys = on (sortOp false (by 0) (AtMost 3)) (tree (sourceOf 2 1 1 [] true) none none)
+
+pub partial-constant : (earlierAnswer 0 constantKeys ≡ twentyTwo) × (partiallySorted 0 constantKeys ≡ answered constantKeys)
+partial-constant = (refl, refl)
 
 -- A partial sort over an unbounded child
-
 pub partial-prefix : partiallySorted 0 (on (sortOp false (up 2 ∷ up 1 ∷ []) Unlimited) (endlessSrc 1 (up 2 ∷ up 0 ∷ []))) ≡ answered
     (on (partialSort false (up 2 ∷ up 1 ∷ []) 1 Unlimited) (endlessSrc 1 (up 2 ∷ up 0 ∷ [])))
 partial-prefix = refl

@@ -27,41 +27,41 @@ use Rattle.walks.specs.theorems.partial_sort.Refusals.{all-met, met-all}
 -- ---- the earlier definition, of document 01
 
 -- What a node became; or that its child meets all its keys: "The Rust indexes past the end there" (22)
-pub data Earlier : Type 0 where
-  pastTheEnd : Earlier
-  became : Op → Earlier
+pub data EarlierNode : Type 0 where
+  pastTheEnd : EarlierNode
+  became : Op → EarlierNode
 
 -- n: the keys met. With none the sort stayed
 abbrev ofPrefix : Bool → List Key → Fetch → ℕ → Op
 ofPrefix p ks f zero = sortOp p ks f
 ofPrefix p ks f (suc n) = partialSort p ks (suc n) f
 
-abbrev earlierOf : Bool → List Key → Fetch → ℕ → Earlier
+abbrev earlierOf : Bool → List Key → Fetch → ℕ → EarlierNode
 earlierOf p ks f n = cond (eqb n (length ks)) pastTheEnd (became (ofPrefix p ks f n))
 
-abbrev earlierBy : Shape → Op → Plan → Earlier
+abbrev earlierBy : Shape → Op → Plan → EarlierNode
 earlierBy s o c = ifSort s (λ p ks f. cond (anyOf (endless c)) (earlierOf p ks f (commonPrefixLength (at0 (facts c)) [] ks)) (became o)) (became o)
 
 -- What the call answered: 22, or an answer that there still is
-pub data Before : Type 0 where
-  twentyTwo : Before
-  gave : Answer → Before
+pub data EarlierAnswer : Type 0 where
+  twentyTwo : EarlierAnswer
+  gave : Answer → EarlierAnswer
 
-abbrev earlierAnswer : ℕ → Plan → Earlier → Before
-earlierAnswer n f pastTheEnd = twentyTwo
-earlierAnswer n f (became o) = gave (answered (setNode n o f))
+abbrev earlierSet : ℕ → Plan → EarlierNode → EarlierAnswer
+earlierSet n f pastTheEnd = twentyTwo
+earlierSet n f (became o) = gave (answered (setNode n o f))
 
-abbrev earlierAt : ℕ → Plan → Plan → Before
+abbrev earlierAt : ℕ → Plan → Plan → EarlierAnswer
 earlierAt n f none = gave (refused NoSuchNode)
-earlierAt n f (tree o c r) = earlierAnswer n f (earlierBy (shape o) o c)
+earlierAt n f (tree o c r) = earlierSet n f (earlierBy (shape o) o c)
 
-abbrev pub before : ℕ → Plan → Before
-before n f = earlierAt n f (fromNode n f)
+abbrev pub earlierAnswer : ℕ → Plan → EarlierAnswer
+earlierAnswer n f = earlierAt n f (fromNode n f)
 
 -- ---- the node alone
 
 -- What it becomes now, by what it became
-abbrev nowOf : Op → Earlier → Op
+abbrev nowOf : Op → EarlierNode → Op
 nowOf o pastTheEnd = o
 nowOf o (became p) = p
 
@@ -107,15 +107,15 @@ set-same (suc n) (tree p d s) o c r e = go (ltb n (size d)) (λ q. set-same n d 
 -- ---- the call
 
 -- What is answered now, by what was
-abbrev pub nowAnswers : Plan → Before → Answer
+abbrev pub nowAnswers : Plan → EarlierAnswer → Answer
 nowAnswers f twentyTwo = answered f
 nowAnswers f (gave a) = a
 
 -- "All earlier answers remain", and in 22's place the tree comes back unchanged: for every number and every plan
-pub answers-remain : (n : ℕ) (f : Plan) → partiallySorted n f ≡ nowAnswers f (before n f)
+pub answers-remain : (n : ℕ) (f : Plan) → partiallySorted n f ≡ nowAnswers f (earlierAnswer n f)
 answers-remain n f = go (fromNode n f) refl
   where
-    found : (o : Op) (c r : Plan) → fromNode n f ≡ tree o c r → (x : Earlier) → answered (setNode n (nowOf o x) f) ≡ nowAnswers f (earlierAnswer n f x)
+    found : (o : Op) (c r : Plan) → fromNode n f ≡ tree o c r → (x : EarlierNode) → answered (setNode n (nowOf o x) f) ≡ nowAnswers f (earlierSet n f x)
     found o c r i pastTheEnd = ap answered (set-same n f o c r i)
     found o c r i (became p) = refl
 
@@ -125,7 +125,7 @@ answers-remain n f = go (fromNode n f) refl
 
 -- ---- when 22 was given
 
-abbrev isPast : Earlier → Bool
+abbrev isPast : EarlierNode → Bool
 isPast pastTheEnd = true
 isPast (became o) = false
 
@@ -161,14 +161,14 @@ module _ (n : ℕ) (f : Plan) where
   refused-if none i e = let bad : _≡_ {A = ℕ} 0 1 = cc in absurd (omega arith)
   refused-if (tree o c r) i e = past c r o i (go (earlierBy (shape o) o c) e)
     where
-      go : (x : Earlier) → earlierAnswer n f x ≡ twentyTwo → x ≡ pastTheEnd
+      go : (x : EarlierNode) → earlierSet n f x ≡ twentyTwo → x ≡ pastTheEnd
       go pastTheEnd q = refl
       go (became p) q = let bad : _≡_ {A = ℕ} 0 1 = cc in absurd (omega arith)
 
-  refused-then : SortedAlready n f → before n f ≡ twentyTwo
+  refused-then : SortedAlready n f → earlierAnswer n f ≡ twentyTwo
   refused-then s =
       ap (earlierAt n f) (s .here)
-      ∙ ap₂ (λ (a b : Bool). earlierAnswer n f (cond a (cond b pastTheEnd (became part)) (became (sortOp (s .preserve) (s .keys) (s .fetch)))))
+      ∙ ap₂ (λ (a b : Bool). earlierSet n f (cond a (cond b pastTheEnd (became part)) (became (sortOp (s .preserve) (s .keys) (s .fetch)))))
       (s .unbounded) (eq-eqb m (length (s .keys)) (met-all (at0 (facts (s .child))) [] (s .keys) (s .meets)))
     where
       m : ℕ
@@ -178,7 +178,7 @@ module _ (n : ℕ) (f : Plan) where
       part = ofPrefix (s .preserve) (s .keys) (s .fetch) m
 
 -- 01's 22: "partial sorting of a sort over an unbounded child that already meets all its keys"
-pub earlier-22 : (n : ℕ) (f : Plan) → (before n f ≡ twentyTwo) ↔ SortedAlready n f
+pub earlier-22 : (n : ℕ) (f : Plan) → (earlierAnswer n f ≡ twentyTwo) ↔ SortedAlready n f
 earlier-22 n f = (λ e. refused-if n f (fromNode n f) refl e, λ s. refused-then n f s)
 
 -- 02, P2: "From now on partial sorting of such a sort answers the tree unchanged"
