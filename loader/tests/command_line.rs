@@ -105,8 +105,9 @@ fn a_sort_with_nothing_left_to_do_stays() {
     assert!(answered.status.success());
     assert_eq!(answered.stdout, sorted);
     // one key more, and there is something to sort
-    let further = run(&["make"], b"filter\n  sort keys=0,1 preserve\n    source streams=1 width=2 keys=0 unbounded").stdout;
-    assert!(text(&run(&["show"], &run(&["partial", "1"], &further).stdout)).contains("partial-sort keys=0al,1al preserve prefix=1"));
+    let further = run(&["make"], b"sort keys=0,1 preserve\n  source streams=1 width=2 keys=0 unbounded").stdout;
+    let shown = run(&["show"], &run(&["partial", "0"], &further).stdout);
+    assert!(text(&shown).starts_with("partial-sort keys=0al,1al prefix=1 preserve\n"));
 }
 
 #[test]
