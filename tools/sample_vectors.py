@@ -4,7 +4,7 @@
     tools/sample_vectors.py VECTORS crates/replay/data/cases [all]
 
 VECTORS has one text file for each call, 'rare.txt', 'p1.txt' (half of its plans have aggregates) and 'p2.txt' (partial sorting where 22 was, above all), two
-lines for each case: 'CALL SETTINGS OUTLEN FILE [NODE]' and 'ANSWER', FILE in hex. An answer 22 is one of before document 02's P2; since then the file comes
+lines for each case: 'CALL SETTINGS OUTLEN FILE [NODE]' and 'ANSWER', FILE in hex. An answer 22 is one of before document 02's P2 ('p2.txt' has none); since then the file comes
 back, or 24 where it does not fit. Taken are, of each call's file, REFUSED evenly spaced refused cases and ACCEPTED evenly spaced accepted ones (CHECKED for the order
 check); of 'rare.txt' RARE evenly spaced for each call; of 'p1.txt' for each call every refused case and ACCEPTED evenly spaced accepted ones that
 have an aggregate; of 'p2.txt' REFUSED evenly spaced refused cases and ACCEPTED evenly spaced accepted ones; with 'all' every case of every file.
@@ -34,7 +34,7 @@ def cases(path):
         check = call == "check" and number == 0
         passes = int(said[1]) if check else 255
         wanted = bytes.fromhex(said[1]) if number == 0 and not check else b""
-        if number == 22:
+        if number == 22 and not path.endswith("p2.txt"):
             number, wanted = (0, data) if len(data) <= room else (24, b"")
         marks = bytes(3) if settings == "-" else bytes.fromhex(settings)
         yield call, number, passes, data, wanted, room, marks, node

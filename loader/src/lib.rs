@@ -1,5 +1,5 @@
 //! Sort placement in plan files: safe functions over the C exports of the proved library, and a view of plan files for tools.
-//! Document 01 has the form of a file, the calls and their refusals; document 02 adds the aggregate.
+//! Document 01 has the form of a file, the calls and their refusals; document 02 adds the aggregate, and takes refusal 22 away.
 //!
 //! A call takes a plan file and an output of [`MOST_BYTES`], and answers the length of the file that it wrote, or a [`Refusal`].
 //! It allocates nothing, and takes [`MOST_STACK`] bytes of the stack at most, on a small plan [`STACK_TO_20_NODES`].

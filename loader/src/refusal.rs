@@ -8,7 +8,7 @@ macro_rules! refusals {
         #[non_exhaustive]
         pub enum Refusal {
             $(#[doc = $sentence] $name,)*
-            /// A number that this edition of the package has no sentence for: the library that it is linked to is a newer one.
+            /// A number that this edition of the package has no sentence for: the library that it is linked to is of another edition.
             Other(u32),
         }
 
@@ -36,7 +36,7 @@ macro_rules! refusals {
             pub fn sentence(self) -> &'static str {
                 match self {
                     $(Refusal::$name => $sentence,)*
-                    Refusal::Other(_) => "The linked library is newer than this package, which has no sentence for it.",
+                    Refusal::Other(_) => "The linked library is of another edition than this package, which has no sentence for it.",
                 }
             }
         }
@@ -90,7 +90,7 @@ mod tests {
     fn an_unknown_number_is_told() {
         // 22 is not given any more (document 02, P2)
         assert_eq!((Refusal::from_number(22), Refusal::from_number(99)), (None, None));
-        assert!(Refusal::of(99).to_string().starts_with("refusal 99: The linked library is newer"));
+        assert!(Refusal::of(99).to_string().starts_with("refusal 99: The linked library is of another edition"));
         assert_eq!(Refusal::of(99).number(), 99);
     }
 }

@@ -62,7 +62,7 @@ impl Why {
         Why { node: Some(node), field: Some(fault.field), kind, ..Why::of_file(refusal, &fault.words) }
     }
 
-    /// Of a rewrite of an accepted plan, 20 to 25: the node that was asked for, or the first one that the rule speaks of.
+    /// Of a rewrite of an accepted plan, 20 and above, with the first node that the rule speaks of, where there is one.
     ///
     /// ```
     /// use sort_placement::{MOST_BYTES, Why, replace_with_partial_sort, text};

@@ -1,5 +1,5 @@
 -- The words that the theorems on the walks are stated in: skeletons, limits added, what cuts nothing off, sorts of all-constant keys, the sizes after
--- each step, what partial sorting refuses, answers.
+-- each step, sorts that have nothing left to do, answers.
 -- These are definitions.
 use mathlib.Core.Path.{_≡_}
 use mathlib.Core.Bool.{Bool, true, false, cond, not, _&&_, _||_}

@@ -32,12 +32,12 @@ pub data EarlierNode : Type 0 where
   became : Op → EarlierNode
 
 -- n: the keys met. With none the sort stayed
-abbrev ofPrefix : Bool → List Key → Fetch → ℕ → Op
-ofPrefix p ks f zero = sortOp p ks f
-ofPrefix p ks f (suc n) = partialSort p ks (suc n) f
+abbrev earlierPrefix : Bool → List Key → Fetch → ℕ → Op
+earlierPrefix p ks f zero = sortOp p ks f
+earlierPrefix p ks f (suc n) = partialSort p ks (suc n) f
 
 abbrev earlierOf : Bool → List Key → Fetch → ℕ → EarlierNode
-earlierOf p ks f n = cond (eqb n (length ks)) pastTheEnd (became (ofPrefix p ks f n))
+earlierOf p ks f n = cond (eqb n (length ks)) pastTheEnd (became (earlierPrefix p ks f n))
 
 abbrev earlierBy : Shape → Op → Plan → EarlierNode
 earlierBy s o c = ifSort s (λ p ks f. cond (anyOf (endless c)) (earlierOf p ks f (commonPrefixLength (at0 (facts c)) [] ks)) (became o)) (became o)
@@ -140,7 +140,7 @@ module _ (n : ℕ) (f : Plan) where
       m = commonPrefixLength (at0 (facts c)) [] ks
 
       go : (a : Bool) → anyOf (endless c) ≡ a → (b : Bool) → eqb m (length ks) ≡ b →
-          cond a (cond b pastTheEnd (became (ofPrefix p ks l m))) (became (sortOp p ks l)) ≡ pastTheEnd → SortedAlready n f
+          cond a (cond b pastTheEnd (became (earlierPrefix p ks l m))) (became (sortOp p ks l)) ≡ pastTheEnd → SortedAlready n f
       go true u true q e =
           let all : met (at0 (facts c)) ks ≡ true = all-met (at0 (facts c)) [] ks refl (eqb-true m (length ks) q) in
           record { preserve = p; keys = ks; fetch = l; child = c; right = r; here = i; unbounded = u; meets = all }
@@ -175,7 +175,7 @@ module _ (n : ℕ) (f : Plan) where
       m = commonPrefixLength (at0 (facts (s .child))) [] (s .keys)
 
       part : Op
-      part = ofPrefix (s .preserve) (s .keys) (s .fetch) m
+      part = earlierPrefix (s .preserve) (s .keys) (s .fetch) m
 
 -- 01's 22: "partial sorting of a sort over an unbounded child that already meets all its keys"
 pub earlier-22 : (n : ℕ) (f : Plan) → (earlierAnswer n f ≡ twentyTwo) ↔ SortedAlready n f

@@ -1,5 +1,5 @@
--- When partial sorting refuses: 20 exactly if the number isn't in the tree, and nothing else. That all keys are met one after the other exactly
--- if they are met.
+-- When partial sorting refuses: 20 exactly if the number isn't in the tree, and no other refusal is given. Also, for when 22 was given: all keys are
+-- met one after the other exactly if they are met.
 use mathlib.Core.Path.{_≡_, refl, sym, ap, ap₂, _∙_}
 use mathlib.Core.Bool.{Bool, true, false, cond, _&&_, _||_}
 use mathlib.Core.List.{List, [], _∷_, _++_, append-assoc, append-nil}
@@ -49,7 +49,7 @@ partial-20 n f = (λ e. from-none n f (go (fromNode n f) e), λ h. ap (partialAt
     go none e = refl
     go (tree o c r) e = let bad : _≡_ {A = ℕ} 0 1 = cc in absurd (omega arith)
 
--- 22 isn't given any more, and no other refusal is (02, P2)
+-- 20 is the only one: "22 isn't given any more" (02, P2)
 pub partial-no-other : (n : ℕ) (f : Plan) (e : Refusal) → partiallySorted n f ≡ refused e → e ≡ NoSuchNode
 partial-no-other n f e = go (fromNode n f)
   where
