@@ -217,9 +217,11 @@ pub preserve-lost : preserved (settings false false false)
     (on (mergeOp (by 0) Unlimited) (on (repartition false 1 false []) (src 2 [])))
 preserve-lost = refl
 
--- A sort over an unbounded child that already meets all its keys had 22, and comes back since 02's P2; so does every node with it, idle marks too
+-- A sort over an unbounded child that already meets all its keys had 22, and comes back since 02's P2; so does every node above and below it, idle
+-- marks too
 abbrev idleMarks : Plan
-idleMarks = on filter (on (sortOp true (by 2) Unlimited) (on (repartition true 1 false []) (endlessSrc 1 (up 2 ∷ up 0 ∷ []))))
+idleMarks =
+    on (repartition true 1 false []) (on (sortOp true (by 2) Unlimited) (on (repartition true 1 false []) (endlessSrc 1 (up 2 ∷ up 0 ∷ []))))
 
 pub partial-all : (earlierAnswer 1 idleMarks ≡ twentyTwo) × (partiallySorted 1 idleMarks ≡ answered idleMarks)
 partial-all = (refl, refl)
