@@ -8,3 +8,4 @@ pub mod AcceptedRuns
 pub mod CheckedFiles
 pub mod RewrittenFiles
 pub mod SortedAlready
+pub mod DryRuns

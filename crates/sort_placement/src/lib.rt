@@ -10,6 +10,7 @@ ghost use Rattle.plan.specs.Numbers.{numberOf};
 ghost use Rattle.plan_format.specs.Reading.{refusalOf};
 ghost use Rattle.plan_codec.specs.Reading.{reading};
 ghost use Rattle.walks.specs.Counted.{answered, ensured, parallelized, partiallySorted, preserved, pushed};
+ghost use Rattle.step_answers.specs.Answers.{returned, outputAfter};
 ghost use Rattle.call_answers.specs.Answers.{checkAnswer, settingsIn, rewrites, refusalIn, outputIn};
 
 // In `passes` 1 where the plan passes the order check, 0 where it doesn't.
@@ -86,4 +87,13 @@ pub extern "C" fn replace_with_partial_sort(plan: &[u8], node: u32, out: &mut [u
         × (now (out .exit) ≡ outputIn (rewrites (partiallySorted node) (now (plan .entry))) (now (out .entry))) ⌝ }
 {
     call(Call::PartialSort(node), plan, out).number
+}
+
+// A dry run: rows stepped through the plan, by the caller's list of bytes. What the root delivers is written; a plan with a join or an aggregate isn't stepped.
+#[no_mangle]
+pub extern "C" fn dry_run(plan: &[u8], rows: &[u8], choices: &[u8], out: &mut [u8]) -> u32
+    ensures { λ r. ⌜ (r ≡ returned (now (plan .entry)) (now (rows .entry)) (now (choices .entry)) (now (out .entry)))
+        × (now (out .exit) ≡ outputAfter (now (plan .entry)) (now (rows .entry)) (now (choices .entry)) (now (out .entry))) ⌝ }
+{
+    dry_runs::dry_run(plan, rows, choices, out)
 }

@@ -56,7 +56,7 @@ numbered-length : (b : Bool) (ls rs : Streams) (m n : ℕ) → length ls ≡ m �
 numbered-length true ls rs m n p q = zip-right-length ls rs ∙ q
 numbered-length false ls rs m n p q = zip-left-length ls rs ∙ p
 
-made-many : (E : Env) (i j : ℕ) (o : Op) (fs : List Facts) (css : List Streams) (out : Streams) → Each AsMany fs css → Made E i j o fs css out →
+pub made-many : (E : Env) (i j : ℕ) (o : Op) (fs : List Facts) (css : List Streams) (out : Streams) → Each AsMany fs css → Made E i j o fs css out →
     AsMany (factsOp o fs) out
 made-many E i j o fs css out hs e = go o e
   where

@@ -115,7 +115,7 @@ module _ (s : SourceInfo) where
       at a l = getD-tab n (sourceRow s) [] a (omega (arith, length-tab n (sourceRow s)))
 
 -- ---- sources by their numbers
-abbrev Numbered : (ℕ → SourceInfo → Type 0) → ℕ → List SourceInfo → Type 0
+abbrev pub Numbered : (ℕ → SourceInfo → Type 0) → ℕ → List SourceInfo → Type 0
 Numbered P i [] = Unit {0}
 Numbered P i (s ∷ l) = P i s × Numbered P (suc i) l
 
@@ -136,7 +136,7 @@ own-source P i (outputRequirement ks d f) l h = (tt, h)
 own-source P i (partialSort p ks n f) l h = (tt, h)
 own-source P i (aggregate ks n) l h = (tt, h)
 
-each-source : (P : ℕ → SourceInfo → Type 0) (i : ℕ) (f : Plan) (l : List SourceInfo) → Numbered P i (sourcesOf f l) →
+pub each-source : (P : ℕ → SourceInfo → Type 0) (i : ℕ) (f : Plan) (l : List SourceInfo) → Numbered P i (sourcesOf f l) →
     EachSource P i f × Numbered P (past nextS f i) l
 each-source P i none l h = (tt, h)
 each-source P i (tree o c r) l h =
@@ -145,7 +145,7 @@ each-source P i (tree o c r) l h =
     let d = each-source P (past nextS c (nextS o i)) r l (b .1) in
     ((a .0, b .0, d .0), d .1)
 
-numbered : (P : ℕ → SourceInfo → Type 0) (i : ℕ) (l : List SourceInfo) → ((k : ℕ) → P (k + i) (getD l k noSource)) → Numbered P i l
+pub numbered : (P : ℕ → SourceInfo → Type 0) (i : ℕ) (l : List SourceInfo) → ((k : ℕ) → P (k + i) (getD l k noSource)) → Numbered P i l
 numbered P i [] h = tt
 numbered P i (s ∷ l) h = (
   subst (λ (n : ℕ). P n s) (omega arith) (h 0),

@@ -1,0 +1,5 @@
+pub mod Writing
+pub mod Unsigned
+pub mod Rows
+pub mod Streams
+pub mod Sizes

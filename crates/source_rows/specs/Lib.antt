@@ -1,0 +1,4 @@
+pub mod Files
+pub mod Nodes
+pub mod Sources
+pub mod Declared

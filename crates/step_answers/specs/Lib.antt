@@ -1,0 +1,5 @@
+pub mod Answers
+pub mod InOrder
+pub mod FileNumbers
+pub mod FileAnswers
+pub mod Outputs

@@ -1,0 +1,1 @@
+// Dry runs: see specs/.
