@@ -13,7 +13,7 @@ use std::time::Instant;
 
 const LIBRARY: &str = "sort_placement";
 
-const CALLS: [&str; 7] = [
+const CALLS: [&str; 8] = [
     "check_order",
     "copy_plan",
     "ensure_sorting",
@@ -21,6 +21,7 @@ const CALLS: [&str; 7] = [
     "replace_with_order_preserving_variants",
     "pushdown_sorts",
     "replace_with_partial_sort",
+    "dry_run",
 ];
 
 const NO_TOOLCHAIN: &str = "\

@@ -2,6 +2,8 @@
 use crate::Refusal;
 use crate::exports::Call;
 use crate::plan::BLOCK;
+#[cfg(has_dry_run)]
+use crate::plan::{number, root_streams};
 
 /// The settings of the order-preserving walk, all off by default.
 ///
@@ -127,4 +129,36 @@ pub fn pushdown_sorts(plan: &[u8], out: &mut [u8]) -> Result<usize, Refusal> {
 #[cfg(has_replace_with_partial_sort)]
 pub fn replace_with_partial_sort(plan: &[u8], node: u32, out: &mut [u8]) -> Result<usize, Refusal> {
     rewrite(Call::Partial(node), plan, out)
+}
+
+/// Steps the rows of a plan's sources through it, one row through one operator at a time, as the bytes of `choices` say, and writes
+/// the rows that its root delivers; [`rows`](crate::rows) has their form. An empty list of choices counts as zeros, one that ends
+/// starts over. The answer is the length of what stands in the output; one of [`DRY_RUN_BYTES`](crate::DRY_RUN_BYTES) is never too
+/// short.
+///
+/// What is delivered is what the plan delivers in one of its runs, so from a plan that passes the order check no row comes out of
+/// order.
+///
+/// # Errors
+///
+/// The file's refusal, 1 to 8; then 256 plus a node's number, 26, 27 or 24.
+///
+/// ```
+/// use sort_placement::{DRY_RUN_BYTES, Refusal, dry_run, rows, text};
+///
+/// let plan = text::parse("coalesce\n  source streams=2 width=1").unwrap();
+/// let given = rows::parse("source 1 stream 0\n7\nsource 1 stream 1\n8\n", &plan).unwrap().write();
+/// let mut out = [0; DRY_RUN_BYTES];
+/// // a row waits on each stream, and the byte takes the second
+/// let length = dry_run(&plan.write(), &given, &[1], &mut out).unwrap();
+/// let delivered = rows::Rows::read(&out[..length], &rows::root_streams(&plan)).unwrap();
+/// assert_eq!(rows::show_delivered(&delivered), "stream 0\n8\n7\n");
+/// assert_eq!(dry_run(&plan.write(), &given[1..], &[1], &mut out), Err(Refusal::WrongRows));
+/// ```
+#[cfg(has_dry_run)]
+pub fn dry_run(plan: &[u8], rows: &[u8], choices: &[u8], out: &mut [u8]) -> Result<usize, Refusal> {
+    accepted(crate::exports::dry_run(plan, rows, choices, out))?;
+    // an accepted dry run has written, for each stream of the root, a row count and as many rows
+    let (streams, width) = root_streams(plan);
+    Ok((0..streams).fold(0, |at, _| at + 4 + number(&out[at..]) as usize * (4 + 8 * width)))
 }

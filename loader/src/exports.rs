@@ -21,7 +21,7 @@ pub enum Call {
     Partial(u32),
 }
 
-/// One call of each, in document 01's sequence.
+/// One call of each that takes a plan and an output, in document 01's sequence.
 pub const ALL: [Call; 7] =
     [Call::Check, Call::Copy, Call::Ensure, Call::Parallelize, Call::Preserve([0; 3]), Call::Push, Call::Partial(0)];
 
@@ -122,5 +122,32 @@ fn check_order(plan: &[u8], out: &mut [u8]) -> Option<u32> {
 
 #[cfg(not(has_check_order))]
 fn check_order(_plan: &[u8], _out: &mut [u8]) -> Option<u32> {
+    None
+}
+
+/// The export's number on a plan, its sources' rows and the choices of the steps; the delivered rows stand in the output. `None`
+/// where the linked library does not export it.
+#[cfg(has_dry_run)]
+pub fn dry_run(plan: &[u8], rows: &[u8], choices: &[u8], out: &mut [u8]) -> Option<u32> {
+    unsafe extern "C" {
+        fn dry_run(
+            plan: *const u8,
+            plan_len: usize,
+            rows: *const u8,
+            rows_len: usize,
+            choices: *const u8,
+            choices_len: usize,
+            out: *mut u8,
+            out_len: usize,
+        ) -> u32;
+    }
+    let (p, r, c) = (plan.as_ptr(), rows.as_ptr(), choices.as_ptr());
+    // SAFETY: the slices are live for the call, and the export reads and writes inside them
+    Some(unsafe { dry_run(p, plan.len(), r, rows.len(), c, choices.len(), out.as_mut_ptr(), out.len()) })
+}
+
+/// The export's number; `None`, since the linked library has no dry runs.
+#[cfg(not(has_dry_run))]
+pub fn dry_run(_plan: &[u8], _rows: &[u8], _choices: &[u8], _out: &mut [u8]) -> Option<u32> {
     None
 }

@@ -1,10 +1,10 @@
 //! How much of the stack a call takes: measured in a thread whose stack is memory of our own, painted before.
 use crate::exports::Call;
-use crate::plan::{BLOCK, MOST_BLOCKS};
+#[cfg(has_dry_run)]
+use crate::{DRY_RUN_BYTES, DRY_RUN_STACK, exports::dry_run};
+use crate::{MOST_BYTES, MOST_STACK};
 use std::ffi::{c_int, c_void};
 
-/// A thread's memory, in words of 16 bytes: more than any call takes.
-const STACK: usize = 24 << 10;
 const PAINT: u128 = 0xA5A5_A5A5_A5A5_A5A5_A5A5_A5A5_A5A5_A5A5;
 
 /// As long as the system's own, or longer.
@@ -24,24 +24,19 @@ unsafe extern "C" {
     fn pthread_join(thread: usize, answer: *mut *mut c_void) -> c_int;
 }
 
-/// What the thread does: a call, or nothing.
-struct Work<'a> {
-    call: Option<Call>,
-    plan: &'a [u8],
-    out: [u8; MOST_BLOCKS * BLOCK],
-}
+/// What a thread does.
+type Work<'a> = &'a mut dyn FnMut();
 
 extern "C" fn start(work: *mut c_void) -> *mut c_void {
     // SAFETY: `used` lends it, and waits for the thread
     let work = unsafe { &mut *work.cast::<Work>() };
-    if let Some(call) = work.call {
-        call.run(work.plan, &mut work.out);
-    }
+    work();
     std::ptr::null_mut()
 }
 
 /// Memory for the threads' stacks, to be used again and again.
 pub struct Meter {
+    /// in words of 16 bytes
     memory: Vec<u128>,
     /// What a thread takes that calls nothing.
     own: usize,
@@ -49,33 +44,59 @@ pub struct Meter {
     worn: usize,
 }
 
+/// For the calls that take a plan and an output.
 impl Default for Meter {
     fn default() -> Meter {
-        let mut meter = Meter { memory: vec![0; STACK], own: 0, worn: STACK };
-        meter.own = meter.used(None, &[]);
-        meter
+        Meter::with_room(MOST_STACK)
     }
 }
 
 impl Meter {
-    /// The bytes of stack that a call on the plan took, beside those of the thread itself.
-    pub fn of(&mut self, call: Call, plan: &[u8]) -> usize {
-        self.used(Some(call), plan) - self.own
+    /// For calls that take so many bytes, and half as many again.
+    fn with_room(bytes: usize) -> Meter {
+        let words = (bytes + bytes / 2) / 16;
+        let mut meter = Meter { memory: vec![0; words], own: 0, worn: words };
+        meter.own = meter.used(&mut || {});
+        meter
     }
 
-    fn used(&mut self, call: Option<Call>, plan: &[u8]) -> usize {
-        let mut work = Box::new(Work { call, plan, out: [0; MOST_BLOCKS * BLOCK] });
-        let (mut attributes, mut thread) = (Attributes([0; 256]), 0);
-        self.memory[STACK - self.worn..].fill(PAINT);
+    /// For dry runs.
+    #[cfg(has_dry_run)]
+    pub fn for_dry_runs() -> Meter {
+        Meter::with_room(DRY_RUN_STACK)
+    }
+
+    /// The bytes of stack that a call on the plan took, beside those of the thread itself.
+    pub fn of(&mut self, call: Call, plan: &[u8]) -> usize {
+        let mut out = vec![0; MOST_BYTES];
+        let mut work = || {
+            call.run(plan, &mut out);
+        };
+        self.used(&mut work) - self.own
+    }
+
+    /// The same of a dry run.
+    #[cfg(has_dry_run)]
+    pub fn of_dry_run(&mut self, plan: &[u8], rows: &[u8], choices: &[u8]) -> usize {
+        let mut out = vec![0; DRY_RUN_BYTES];
+        let mut work = || {
+            dry_run(plan, rows, choices, &mut out);
+        };
+        self.used(&mut work) - self.own
+    }
+
+    fn used(&mut self, mut work: Work) -> usize {
+        let (mut attributes, mut thread, words) = (Attributes([0; 256]), 0, self.memory.len());
+        self.memory[words - self.worn..].fill(PAINT);
         // SAFETY: the memory is nobody else's until the thread has ended; so is the work
         unsafe {
             assert_eq!(pthread_attr_init(&mut attributes), 0);
-            assert_eq!(pthread_attr_setstack(&mut attributes, self.memory.as_mut_ptr().cast(), 16 * STACK), 0);
-            assert_eq!(pthread_create(&mut thread, &attributes, start, (&raw mut *work).cast()), 0);
+            assert_eq!(pthread_attr_setstack(&mut attributes, self.memory.as_mut_ptr().cast(), 16 * words), 0);
+            assert_eq!(pthread_create(&mut thread, &attributes, start, (&raw mut work).cast()), 0);
             assert_eq!(pthread_join(thread, std::ptr::null_mut()), 0);
             pthread_attr_destroy(&mut attributes);
         }
-        self.worn = STACK - self.memory.iter().take_while(|w| **w == PAINT).count();
+        self.worn = words - self.memory.iter().take_while(|w| **w == PAINT).count();
         16 * self.worn
     }
 }
@@ -84,9 +105,9 @@ impl Meter {
 mod tests {
     use super::*;
     use crate::exports::ALL;
-    use crate::plan::repair_sum;
+    use crate::plan::{BLOCK, repair_sum};
     use crate::random::Rng;
-    use crate::{MOST_STACK, STACK_TO_20_NODES, random_plans, text};
+    use crate::{STACK_TO_20_NODES, random_plans, text};
 
     /// Every call, with the settings on too.
     fn calls() -> impl Iterator<Item = Call> {
@@ -147,5 +168,21 @@ mod tests {
         }
         // the figures say no more than is so
         assert!(most[0] > STACK_TO_20_NODES * 9 / 10 && most[1] > MOST_STACK * 8 / 10, "{most:?}");
+    }
+
+    /// Dry runs of random plans and rows; `--nocapture` shows the most that was seen.
+    #[cfg(has_dry_run)]
+    #[test]
+    fn dry_runs_fit_their_stack() {
+        let (mut meter, mut most) = (Meter::for_dry_runs(), 0);
+        for i in 0..300 {
+            let mut rng = Rng::new(18, i);
+            let plan = random_plans::plan(&mut rng);
+            let (rows, choices) = (crate::random_rows::rows(&mut rng, &plan), [rng.next() as u8, rng.next() as u8]);
+            let used = meter.of_dry_run(&plan.write(), &rows.write(), &choices);
+            assert!(used <= DRY_RUN_STACK, "{used} bytes:\n{}", text::show(&plan));
+            most = used.max(most);
+        }
+        println!("a dry run took at most {most} bytes of the stack");
     }
 }

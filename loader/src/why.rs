@@ -1,11 +1,13 @@
-//! Why a file is refused: the number, the place and the rule in words. Messages only; the library's number is the answer.
+//! Why a file, or rows, are refused: the number, the place and the rule in words. Messages only; the number that counts is the
+//! library's.
 use crate::facts::of_tree;
 use crate::listing::keys_text;
 use crate::plan::kind::{self, PARTIAL_SORT, SORT};
+use crate::rows::{self, Stream};
 use crate::{Plan, Refusal};
 use std::fmt;
 
-/// Where a plan file breaks a rule, and how.
+/// Where a plan file, or the rows of its sources, break a rule, and how.
 ///
 /// ```
 /// let mut file = sort_placement::text::parse("filter\n  source streams=1 width=2").unwrap().write();
@@ -24,9 +26,14 @@ pub struct Why {
     pub block: Option<usize>,
     /// The node, counted from 0.
     pub node: Option<usize>,
+    /// The stream of that node, counted from 0, where rows are refused.
+    pub stream: Option<u32>,
+    /// The row of that stream, counted from 0.
+    pub row: Option<u32>,
     /// The field's name.
     pub field: Option<&'static str>,
-    kind: Option<&'static str>,
+    /// that node's; no kind has the number 0
+    kind: u8,
     words: String,
 }
 
@@ -50,7 +57,7 @@ pub(crate) fn counted(n: usize, one: &str, many: &str) -> String {
 impl Why {
     /// Of the file as a whole.
     pub(crate) fn of_file(refusal: Refusal, words: &str) -> Why {
-        Why { refusal, block: None, node: None, field: None, kind: None, words: words.into() }
+        Why { refusal, block: None, node: None, stream: None, row: None, field: None, kind: 0, words: words.into() }
     }
 
     pub(crate) fn of_block(refusal: Refusal, block: usize, fault: Fault) -> Why {
@@ -58,8 +65,27 @@ impl Why {
     }
 
     pub(crate) fn of_node(refusal: Refusal, node: usize, kind: u8, fault: Fault) -> Why {
-        let kind = kind::is_known(kind).then(|| kind::name(kind));
         Why { node: Some(node), field: Some(fault.field), kind, ..Why::of_file(refusal, &fault.words) }
+    }
+
+    /// Of rows, 26.
+    pub(crate) fn of_row(stream: &Stream, row: Option<usize>, fault: Fault) -> Why {
+        let row = row.map(|row| row as u32);
+        Why { stream: Some(stream.stream as u32), row, ..Why::of_node(Refusal::WrongRows, stream.node, stream.kind, fault) }
+    }
+
+    /// Of a dry run of an accepted plan, with the first place that the rule speaks of, where there is one.
+    ///
+    /// ```
+    /// use sort_placement::{Refusal, Why, text};
+    ///
+    /// let plan = text::parse("filter\n  aggregate width=1 keys=0\n    source streams=1 width=1").unwrap();
+    /// let why = Why::of_dry_run(Refusal::NotStepped(1), &plan, &[0; 4]);
+    /// assert_eq!(why.to_string(), "refusal 257: node 1 (aggregate): a plan with an aggregate is not stepped");
+    /// ```
+    pub fn of_dry_run(refusal: Refusal, plan: &Plan, rows: &[u8]) -> Why {
+        let found = rows::explain(plan, rows).filter(|why| why.refusal == refusal);
+        found.unwrap_or_else(|| Why::of_file(refusal, refusal.sentence()))
     }
 
     /// Of a rewrite of an accepted plan, 20 and above, with the first node that the rule speaks of, where there is one.
@@ -90,10 +116,15 @@ impl Why {
 
     /// The place and the rule, without the refusal's number.
     pub fn words(&self) -> String {
-        let kind = self.kind.map(|k| format!(" ({k})")).unwrap_or_default();
+        let kind = if kind::is_known(self.kind) { format!(" ({})", kind::name(self.kind)) } else { String::new() };
+        let row = match (self.stream, self.row) {
+            (Some(stream), Some(row)) => format!(" stream {stream}, row {row}:"),
+            (Some(stream), None) => format!(" stream {stream}:"),
+            _ => String::new(),
+        };
         match (self.block, self.node) {
             (Some(block), _) => format!("block {block}: {}", self.words),
-            (_, Some(node)) => format!("node {node}{kind}: {}", self.words),
+            (_, Some(node)) => format!("node {node}{kind}:{row} {}", self.words),
             _ => self.words.clone(),
         }
     }

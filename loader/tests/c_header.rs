@@ -1,5 +1,5 @@
 //! The header beside the package: compiled and run by a C program over the same library, and held to what the library is.
-use sort_placement::{MOST_BYTES, MOST_STACK, Refusal, STACK_TO_20_NODES};
+use sort_placement::{DRY_RUN_BYTES, DRY_RUN_STACK, MOST_BYTES, MOST_STACK, Refusal, STACK_TO_20_NODES};
 use std::collections::BTreeSet;
 use std::process::Command;
 
@@ -12,10 +12,12 @@ fn a_c_program_calls_every_export() {
     let mut compiler = Command::new("cc");
     compiler.args(["-std=c99", "-Wall", "-Wextra", "-Werror", "-I", &format!("{package}/include"), "-o", &program]);
     compiler.args([&format!("{package}/tests/c_program.c"), env!("SORT_PLACEMENT_ARCHIVE")]);
+    compiler.args(cfg!(has_dry_run).then_some("-DHAS_DRY_RUN"));
     assert!(compiler.status().expect("cc").success());
     let run = Command::new(&program).output().expect("the program");
     let rewrites: String = ["copy", "ensure", "parallelize", "preserve", "push"].map(|c| format!("{c} 0 512\n")).concat();
-    let wanted = format!("check 0 1\nshort 1\n{rewrites}partial 20\nrefusals 13\n");
+    let dry_run = if cfg!(has_dry_run) { "dry_run 0 28 1\nwrong rows 1\n" } else { "" };
+    let wanted = format!("check 0 1\nshort 1\n{rewrites}partial 20\n{dry_run}refusals 16\n");
     assert_eq!(String::from_utf8(run.stdout).expect("text"), wanted);
 }
 
@@ -34,7 +36,14 @@ fn the_header_has_every_refusal() {
         .filter_map(|(name, rest)| Some((name.to_string(), rest.split_whitespace().next()?.parse().ok()?)))
         .collect();
     let mut wanted: BTreeSet<(String, u32)> = Refusal::ALL.iter().map(|r| (constant(r), r.number())).collect();
-    let sizes = [("MOST_BYTES", MOST_BYTES), ("MOST_STACK", MOST_STACK), ("STACK_TO_20_NODES", STACK_TO_20_NODES)];
+    let sizes = [
+        ("NOT_STEPPED", Refusal::NOT_STEPPED as usize),
+        ("MOST_BYTES", MOST_BYTES),
+        ("DRY_RUN_BYTES", DRY_RUN_BYTES),
+        ("MOST_STACK", MOST_STACK),
+        ("STACK_TO_20_NODES", STACK_TO_20_NODES),
+        ("DRY_RUN_STACK", DRY_RUN_STACK),
+    ];
     wanted.extend(sizes.map(|(name, size)| (format!("SORT_PLACEMENT_{name}"), size as u32)));
     assert_eq!(defined, wanted);
 }

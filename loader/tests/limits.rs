@@ -89,6 +89,29 @@ fn small_threads_are_large_enough() {
     }
 }
 
+/// The same for dry runs, of those of the plans that are stepped: a row of ones on each stream, which any source may have.
+#[cfg(has_dry_run)]
+#[test]
+fn small_threads_are_large_enough_for_dry_runs() {
+    use sort_placement::*;
+    let mut stepped = 0;
+    for plan in include_str!("deep_plans.txt").split("\n\n") {
+        let plan = text::parse(plan).expect("a plan");
+        let mut rows = rows::Rows::default();
+        for (i, stream) in rows::source_streams(&plan).iter().enumerate() {
+            rows.streams.push(if i < rows::MOST_ROWS { vec![vec![Some(1); stream.width]] } else { vec![] });
+        }
+        let (file, rows, mut out) = (plan.write(), rows.write(), vec![0; DRY_RUN_BYTES]);
+        let call = move || dry_run(&file, &rows, &[1, 2], &mut out);
+        let thread = std::thread::Builder::new().stack_size(DRY_RUN_STACK + (16 << 10)).spawn(call).expect("a thread");
+        match thread.join().expect("it ends") {
+            Ok(_) => stepped += 1,
+            Err(refusal) => assert!(matches!(refusal, Refusal::NotStepped(_)), "{refusal}"),
+        }
+    }
+    assert!(stepped > 0);
+}
+
 /// A pipe that nobody reads.
 fn closed_pipe() -> std::io::PipeWriter {
     std::io::pipe().expect("a pipe").1

@@ -1,9 +1,10 @@
 //! The commands. Each makes its whole output first, so that a failure has written nothing.
 use crate::changes;
+use crate::dry_runs::DryRun;
 use crate::failure::{Failure, NOT_PASSED};
-use crate::files;
 use crate::request::{Call, Command, Request, Rewrite};
-use sort_placement::{MOST_BYTES, Plan, Refusal, Why, draw, listing, text, unmet};
+use crate::{files, settings};
+use sort_placement::{MOST_BYTES, Plan, Refusal, Why, draw, listing, rows, text, unmet};
 use std::process::ExitCode;
 
 impl Rewrite {
@@ -43,7 +44,7 @@ fn told(refusal: Refusal, file: &[u8], node: Option<u32>) -> Failure {
     if why.refusal == refusal { Failure::Refused(why) } else { Failure::Called(refusal) }
 }
 
-fn rewrite(call: Rewrite, file: &[u8]) -> Result<Vec<u8>, Failure> {
+pub fn rewrite(call: Rewrite, file: &[u8]) -> Result<Vec<u8>, Failure> {
     let mut out = vec![0; MOST_BYTES];
     let length = call.run(file, &mut out).map_err(|refusal| told(refusal, file, call.node()))?;
     out.truncate(length);
@@ -105,6 +106,11 @@ pub fn run(request: Request) -> Result<ExitCode, Failure> {
             let (words, passes) = tried_on(call, &files::text(&input)?)?;
             (words.into_bytes(), passes)
         }
+        Command::DryRun(stepping) => {
+            let run = DryRun::read(&stepping)?;
+            (rows::show_delivered(&run.of(&run.plan)?).into_bytes(), true)
+        }
+        Command::Settings(stepping) => (settings::told(&DryRun::read(&stepping)?)?.into_bytes(), true),
     };
     files::output(&output, &bytes)?;
     Ok(status(passes))

@@ -31,7 +31,15 @@ Off, the walk does either only over an unbounded input. A file named spr, spm or
 const ORDERS: &str = "It looks at orders alone: that each node's children come in the order that it wants. Whether a node has the
 distribution that it wants (one stream, or streams by key) is not looked at.";
 
-const TOPICS: [Topic; 12] = [
+const STEPPED: &str = "PLAN ROWS [--choices HEX]";
+
+const ROWS: &str =
+    "PLAN is a plan file, ROWS a text with the rows of its sources (docs/TEXT.md); one of them can be '-', standard input.
+HEX has two digits for each byte of the choices. Each step takes a byte where there is a choice, of operators that can
+move, of streams; a list that ends starts over, and without one each choice is the first. A plan with a join or an
+aggregate is not stepped.";
+
+const TOPICS: [Topic; 14] = [
     Topic {
         name: "check",
         words: "",
@@ -120,6 +128,33 @@ Where nothing changed it says 'unchanged'.
 {keys}",
         example: "sort_placement try ensure examples/extended_echo.txt",
     },
+    Topic {
+        name: "dry-run",
+        words: STEPPED,
+        short: "rows stepped through the plan: those that it delivers, by stream",
+        long: "{rows}
+
+Each stream of the root is printed, with a line for each row, in the form that ROWS has. From a plan that passes the
+order check no row comes out of order.",
+        example: "sort_placement make examples/two_drones.txt | sort_placement dry-run - examples/dry_run_rows.txt --choices 0102",
+    },
+    Topic {
+        name: "settings",
+        words: STEPPED,
+        short: "preserve with each of its eight settings, and dry runs of its answers side by side",
+        long: "{rows}
+
+The plan as it is given and the answers of the order-preserving walk have a column each, named by a letter; settings with
+the same answer have one together. 'none' is the walk without settings; the others stand as in `preserve`. A refused
+setting has no column, and its refusal is told. A column has the plan's nodes, whether it passes the order check, its
+streams, how many rows a dry run delivers and how many are out of order; then the rows of each stream that has some.
+
+A row is out of order, and marked with *, if it sorts before an earlier one of its stream. The order is that of the plan
+as it is given: the keys of its root, if that is a sort, a partial sort, a merge or an output requirement that has some;
+else the order that its root is known to have. Nothing asks for an order that is only known, so the walk may lose it: an
+answer that passes the check can then have such rows.",
+        example: "sort_placement make examples/two_drones.txt | sort_placement settings - examples/dry_run_rows.txt --choices 010100",
+    },
 ];
 
 /// The page of a command; that of `help` is the list.
@@ -129,9 +164,12 @@ pub fn of(name: &str) -> Option<String> {
     }
     let t = TOPICS.iter().find(|t| t.name == name)?;
     let space = if t.words.is_empty() { "" } else { " " };
-    let long = t.long.replace("{keys}", KEYS).replace("{settings}", SETTINGS).replace("{orders}", ORDERS);
+    // those that step name their files themselves
+    let file = if t.words == STEPPED { "" } else { " [FILE]" };
+    let filled = [("{keys}", KEYS), ("{settings}", SETTINGS), ("{orders}", ORDERS), ("{rows}", ROWS)];
+    let long = filled.iter().fold(t.long.to_string(), |long, (place, text)| long.replace(place, text));
     Some(format!(
-        "sort_placement {}{space}{} [FILE] [-o OUT]: {}\n\n{long}\n\nExample:\n\n  {}\n",
+        "sort_placement {}{space}{}{file} [-o OUT]: {}\n\n{long}\n\nExample:\n\n  {}\n",
         t.name, t.words, t.short, t.example
     ))
 }
@@ -142,6 +180,7 @@ pub fn all() -> String {
         "sort_placement COMMAND [FILE] [-o OUT]
 
 FILE is a plan file, for make and try a text; '-' or nothing for standard input. OUT is '-' or nothing for standard output.
+PLAN is a plan file, ROWS a text with the rows of its sources; one of them can be '-'.
 
 ",
     );
@@ -154,7 +193,7 @@ FILE is a plan file, for make and try a text; '-' or nothing for standard input.
     out += "  help [COMMAND]
                  this list, or a command's own page with an example
 
-Options: -o OUT, -h or --help, -V or --version; behind -- nothing is an option.
+Options: -o OUT, --choices HEX, -h or --help, -V or --version; behind -- nothing is an option.
 
 ";
     out += ORDERS.replace("It looks", "The order check looks").as_str();

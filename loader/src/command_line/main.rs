@@ -1,10 +1,14 @@
 //! The library's calls on plan files, and a few views of them.
 mod changes;
 mod commands;
+mod dry_runs;
 mod failure;
 mod files;
 mod help;
 mod request;
+mod settings;
+mod side_by_side;
+mod words;
 
 use std::io::Write;
 use std::process::ExitCode;

@@ -2,6 +2,7 @@
 use crate::failure::Failure;
 use crate::files::Place;
 use crate::help;
+use crate::words::{Rest, Words, usage, words};
 use sort_placement::Settings;
 use std::ffi::OsString;
 
@@ -23,6 +24,13 @@ pub enum Call {
     Rewrite(Rewrite),
 }
 
+/// A plan, the rows of its sources and the choices of the steps.
+pub struct Stepping {
+    pub plan: Place,
+    pub rows: Place,
+    pub choices: Vec<u8>,
+}
+
 pub enum Command {
     Call(Call),
     List,
@@ -30,6 +38,8 @@ pub enum Command {
     Make,
     Show,
     Try(Call),
+    DryRun(Stepping),
+    Settings(Stepping),
     /// a text for standard output
     Print(String),
 }
@@ -38,54 +48,6 @@ pub struct Request {
     pub command: Command,
     pub input: Place,
     pub output: Place,
-}
-
-fn usage<T>(what: String) -> Result<T, Failure> {
-    Err(Failure::Usage(what))
-}
-
-/// The words, the output and whether help or the version is asked for.
-#[derive(Default)]
-struct Words {
-    words: Vec<OsString>,
-    output: Option<OsString>,
-    help: bool,
-    version: bool,
-}
-
-fn words(args: Vec<OsString>) -> Result<Words, Failure> {
-    let mut out = Words::default();
-    let mut args = args.into_iter();
-    while let Some(arg) = args.next() {
-        match arg.to_str() {
-            Some("--") => out.words.extend(args.by_ref()),
-            Some("-h" | "--help") => out.help = true,
-            Some("-V" | "--version") => out.version = true,
-            Some("-o") if out.output.is_some() => return usage("-o stands twice".into()),
-            Some("-o") => match args.next() {
-                Some(path) => out.output = Some(path),
-                None => return usage("-o wants a path behind it, or - for standard output".into()),
-            },
-            Some(option) if option.len() > 1 && option.starts_with('-') => return usage(format!("there is no option {option}")),
-            _ => out.words.push(arg),
-        }
-    }
-    Ok(out)
-}
-
-/// Words, taken from the front.
-struct Rest<'a>(&'a [OsString]);
-
-impl Rest<'_> {
-    fn peek(&self) -> Option<&str> {
-        self.0.first().and_then(|w| w.to_str())
-    }
-
-    fn next(&mut self) -> Option<OsString> {
-        let (first, rest) = self.0.split_first()?;
-        self.0 = rest;
-        Some(first.clone())
-    }
 }
 
 fn settings(rest: &mut Rest) -> Result<Settings, Failure> {
@@ -136,8 +98,36 @@ fn tried(rest: &mut Rest) -> Result<Call, Failure> {
     found.ok_or_else(|| Failure::Usage(format!("try knows no call '{}'; there are {known}", word.display())))
 }
 
-fn command(name: &str, rest: &mut Rest) -> Result<Command, Failure> {
+/// Bytes of two hex digits each.
+fn hex(word: &OsString) -> Result<Vec<u8>, Failure> {
+    let digits = word.to_str().filter(|w| w.len().is_multiple_of(2) && w.bytes().all(|b| b.is_ascii_hexdigit()));
+    let Some(digits) = digits else {
+        return usage(format!("--choices wants two hex digits for each byte, as 0001ff, not '{}'", word.display()));
+    };
+    let nibble = |digit: u8| (digit as char).to_digit(16).unwrap_or_default() as u8;
+    Ok(digits.as_bytes().chunks(2).map(|pair| 16 * nibble(pair[0]) + nibble(pair[1])).collect())
+}
+
+/// The words of a command that steps.
+fn stepping(name: &str, rest: &mut Rest, choices: Option<&OsString>) -> Result<Stepping, Failure> {
+    let (Some(plan), Some(rows)) = (rest.next(), rest.next()) else {
+        return usage(format!("{name} wants a plan file and the rows of its sources, as {name} PLAN ROWS"));
+    };
+    if let Some(third) = rest.next() {
+        return usage(format!("{name} takes a plan file and rows: '{}' is a third", third.display()));
+    }
+    let (plan, rows) = (place(Some(plan)), place(Some(rows)));
+    if plan.is_none() && rows.is_none() {
+        return usage("the plan and the rows can't both come from standard input".into());
+    }
+    Ok(Stepping { plan, rows, choices: choices.map_or(Ok(vec![]), hex)? })
+}
+
+fn command(name: &str, rest: &mut Rest, choices: Option<&OsString>) -> Result<Command, Failure> {
     match name {
+        "dry-run" => return Ok(Command::DryRun(stepping(name, rest, choices)?)),
+        "settings" => return Ok(Command::Settings(stepping(name, rest, choices)?)),
+        _ if choices.is_some() => return usage("--choices goes with dry-run and settings alone".into()),
         "list" => return Ok(Command::List),
         "draw" => return Ok(Command::Draw),
         "make" => return Ok(Command::Make),
@@ -171,8 +161,10 @@ fn printed(words: &Words) -> Result<Option<Command>, Failure> {
         (true, false) => "--version",
         (false, true) => "help",
     };
-    if words.output.is_some() {
-        return usage(format!("-o does not go with {asked}"));
+    for (option, value) in [("-o", &words.output), ("--choices", &words.choices)] {
+        if value.is_some() {
+            return usage(format!("{option} does not go with {asked}"));
+        }
     }
     if rest.peek() == Some("help") {
         rest.next();
@@ -197,7 +189,7 @@ pub fn request(args: Vec<OsString>) -> Result<Request, Failure> {
     let mut rest = Rest(&words.words);
     let Some(name) = rest.next() else { return usage("a command is wanted".into()) };
     let command = match name.to_str() {
-        Some(name) => command(name, &mut rest)?,
+        Some(name) => command(name, &mut rest, words.choices.as_ref())?,
         None => return usage(format!("there is no command '{}'", name.display())),
     };
     let input = rest.next();

@@ -4,9 +4,14 @@ use super::{BLOCK, Node, Record, columns, fields, lists};
 use crate::Refusal;
 use crate::why::{Fault, Why, counted};
 
-/// The records of a file whose blocks are right.
+/// The records of a file whose blocks are right, one after another.
+pub(super) fn each_record(file: &[u8]) -> impl DoubleEndedIterator<Item = &[u8]> {
+    file.chunks(BLOCK).flat_map(|b| b[RECORDS_FROM..RECORDS_FROM + RECORD * b[4] as usize].chunks(RECORD))
+}
+
+/// The same, by number.
 fn records(file: &[u8]) -> Vec<&[u8]> {
-    file.chunks(BLOCK).flat_map(|b| b[RECORDS_FROM..RECORDS_FROM + RECORD * b[4] as usize].chunks(RECORD)).collect()
+    each_record(file).collect()
 }
 
 /// Refusal 5 where records are left over: the root's tree ends before the last of them.

@@ -10,12 +10,16 @@ pub mod kind;
 mod lists;
 mod node;
 mod record;
+#[cfg(has_dry_run)]
+mod root_streams;
 
 pub use file::{read, repair_sum, write};
 pub use node::Node;
 pub use record::{HASH, PRESERVE, Record, UNBOUNDED};
 
 pub(crate) use file::{explain, tree};
+#[cfg(has_dry_run)]
+pub(crate) use root_streams::root_streams;
 
 /// Bytes of a block.
 pub const BLOCK: usize = 512;
@@ -29,9 +33,11 @@ pub const NO_FETCH: u32 = u32::MAX;
 pub const MOST_COLUMNS: usize = 32;
 /// Keys of the longest list.
 pub const MOST_KEYS: usize = 8;
+/// Streams of a plan's sources together: at most 110 of 126 nodes are sources, and a source has up to 64. No node has more.
+pub const MOST_STREAMS: usize = 110 * 64;
 
 /// Four bytes as a number.
-fn number(bytes: &[u8]) -> u32 {
+pub(crate) fn number(bytes: &[u8]) -> u32 {
     u32::from_le_bytes([bytes[0], bytes[1], bytes[2], bytes[3]])
 }
 

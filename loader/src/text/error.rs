@@ -2,7 +2,7 @@
 use crate::Why;
 use std::fmt;
 
-/// Why a text has no plan. Lines and columns count from 1.
+/// Why a text has no plan, or no rows. Lines and columns count from 1.
 #[derive(Clone, Debug, PartialEq, Eq)]
 #[non_exhaustive]
 pub enum TextError {
@@ -19,9 +19,9 @@ pub enum TextError {
         /// What is wrong with it.
         words: String,
     },
-    /// The form is right, and the plan is one that the library refuses.
+    /// The form is right, and the plan, or the rows, are such as the library refuses.
     Refused {
-        /// The line of the node, where the refusal is one node's.
+        /// The line of the node, where the refusal is one node's; the line of the row, where it is one row's.
         line: Option<usize>,
         /// The refusal.
         why: Why,
@@ -29,7 +29,7 @@ pub enum TextError {
 }
 
 /// The beginning of a word, and none of its control characters: a message is read on a terminal.
-pub(super) fn quoted(word: &str) -> String {
+pub(crate) fn quoted(word: &str) -> String {
     const MOST: usize = 40;
     let seen: String = word.chars().take(MOST).map(|c| if c.is_control() { '\u{fffd}' } else { c }).collect();
     format!("'{seen}{}'", if word.chars().nth(MOST).is_some() { ".." } else { "" })

@@ -20,6 +20,7 @@
 //! ```
 mod error;
 mod fields;
+mod lines;
 mod parse;
 mod show;
 mod values;
@@ -28,7 +29,10 @@ pub use error::TextError;
 pub use parse::{MOST_TEXT_BYTES, parse, refused};
 pub use show::show;
 
+pub(crate) use error::quoted;
+pub(crate) use lines::{Wrong, lines_with_words, without_remark};
 pub(crate) use show::line;
+pub(crate) use values::number;
 
 #[cfg(test)]
 mod tests;

@@ -1,6 +1,7 @@
 //! The plan of a text. Every word of it is in the plan, or is an error with its line and column.
 use super::error::{TextError, quoted};
 use super::fields::{self, Field};
+use super::lines::{Wrong, lines_with_words};
 use super::values;
 use crate::plan::kind::{JOIN_TYPES, NAMES, is_join, name};
 use crate::plan::{self, HASH, MOST_NODES, NO_FETCH, Node, PRESERVE, Record, UNBOUNDED};
@@ -8,31 +9,6 @@ use crate::{Plan, Why};
 
 /// The length of the longest text: room for 126 nodes with every field, and for remarks.
 pub const MOST_TEXT_BYTES: usize = 1 << 20;
-
-/// What is wrong, and at which character of the line, counted from 0.
-struct Wrong {
-    at: usize,
-    words: String,
-}
-
-/// The words of a line without its remark, each with the character that it begins at.
-fn words(line: &str) -> Vec<(usize, &str)> {
-    let line = line.split('#').next().unwrap_or_default();
-    let (mut out, mut at, mut counted) = (vec![], 0, 0);
-    for word in line.split_ascii_whitespace() {
-        let from = word.as_ptr() as usize - line.as_ptr() as usize;
-        at += line[counted..from].chars().count();
-        counted = from;
-        out.push((at, word));
-    }
-    out
-}
-
-/// The lines that have words, with their numbers from 1 on; a byte order mark is no word.
-fn lines_with_words(text: &str) -> impl Iterator<Item = (usize, &str, Vec<(usize, &str)>)> {
-    let text = text.strip_prefix('\u{feff}').unwrap_or(text);
-    text.lines().zip(1..).map(|(line, number)| (number, line, words(line))).filter(|(_, _, words)| !words.is_empty())
-}
 
 /// A name with 'a' or 'an' before it.
 fn one(name: &str) -> String {
@@ -138,7 +114,7 @@ struct Line {
 fn lines(text: &str) -> Result<Vec<Line>, TextError> {
     let mut out = vec![];
     for (number, line, words) in lines_with_words(text) {
-        let wrong = |w: Wrong| TextError::Form { line: number, column: w.at + 1, words: w.words };
+        let wrong = |w: Wrong| w.on(number);
         let (indent, _) = words[0];
         if out.len() == MOST_NODES {
             return Err(wrong(Wrong { at: indent, words: "a plan has at most 126 nodes".into() }));

@@ -4,7 +4,7 @@ use crate::facts::Key;
 use crate::plan::{MOST_COLUMNS, MOST_KEYS};
 
 /// A number of decimal digits.
-pub(super) fn number(text: &str, most: u32) -> Result<u32, String> {
+pub(crate) fn number(text: &str, most: u32) -> Result<u32, String> {
     let digits = !text.is_empty() && text.bytes().all(|b| b.is_ascii_digit());
     let value = if digits { text.parse().ok().filter(|n| *n <= most) } else { None };
     value.ok_or_else(|| format!("{} is no number from 0 to {most}", quoted(text)))

@@ -6,6 +6,8 @@ use std::process::{Command, Output, Stdio};
 pub const ROOT: &str = concat!(env!("CARGO_MANIFEST_DIR"), "/..");
 pub const SAMPLE: &str = concat!(env!("CARGO_MANIFEST_DIR"), "/../examples/extended_echo.txt");
 pub const GROUPED: &str = concat!(env!("CARGO_MANIFEST_DIR"), "/../examples/grouped_stockpiles.txt");
+pub const DRONES: &str = concat!(env!("CARGO_MANIFEST_DIR"), "/../examples/two_drones.txt");
+pub const DRONES_ROWS: &str = concat!(env!("CARGO_MANIFEST_DIR"), "/../examples/dry_run_rows.txt");
 
 pub fn command() -> Command {
     Command::new(env!("CARGO_BIN_EXE_sort_placement"))
