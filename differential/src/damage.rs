@@ -65,7 +65,7 @@ fn damage_once(rng: &mut Rng, file: &mut [u8]) {
 }
 
 /// A copy with one to three faults; most have their sums put right again.
-fn damaged(rng: &mut Rng, file: &[u8]) -> Vec<u8> {
+pub fn damaged(rng: &mut Rng, file: &[u8]) -> Vec<u8> {
     let mut copy = file.to_vec();
     for _ in 0..1 + rng.below(3) {
         damage_once(rng, &mut copy);

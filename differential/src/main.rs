@@ -1,11 +1,13 @@
 //! The Rust's own steps beside the proved library.
 //!
-//!     differential vectors FOLDER                                     requests with their answers, replayed
+//!     differential vectors PATH                                       a folder's or a file's requests with answers, replayed
 //!     differential compare [--plans N] [--seconds M] [--seed S] [--threads T]
 //!                                                                     random plans through both sides
 //!     differential show CALL TEXT                                     both sides' answers on the plan of a text (see loader)
 //!     differential damage [--files N] [--seed S] [--heap]             damaged files through every export
 //!     differential threads [--plans N] [--seed S] [--threads T]       the same requests from several threads at once
+//!     differential dry [--plans N] [--seed S] [--heap]                random dry runs through the library and a second stepper
+//!     differential dry-times                                          dry runs through the library, timed
 //!     differential mutants [--plans N] [--seed S] [--from M] [--cases FILE] [--kept]
 //!                                                                     which small mutations of the Rust's text and which wrong
 //!                                                                     definitions such plans notice, and which replay's cases
@@ -27,6 +29,7 @@ mod cases;
 mod compare;
 mod damage;
 mod domain;
+mod dry_run;
 mod library;
 mod mutants;
 mod pinned;
@@ -102,6 +105,8 @@ fn run(options: &Options) -> Option<bool> {
         }
         "show" if words.len() > 2 => Some(compare::show(&words[1..words.len() - 1], &words[words.len() - 1])),
         "damage" => Some(damage::run(number("--files", 100_000), number("--seed", 1), options.is_given("--heap"))),
+        "dry" => Some(dry_run::run(number("--plans", 100_000), number("--seed", 1), options.is_given("--heap"))),
+        "dry-times" => Some(dry_run::run_times()),
         "threads" => Some(threads::run(number("--plans", 2_000), number("--seed", 1), number("--threads", 8))),
         "stack" => Some(stack::run(number("--plans", 20_000), number("--seed", 1))),
         "times" => {
@@ -140,6 +145,7 @@ mod tests {
         super::silence_the_rust();
         assert!(super::compare::run(3_000, u64::MAX, 11, 1));
         assert!(super::damage::run(3_000, 12, true));
+        assert!(super::dry_run::run(3_000, 15, true));
         assert!(super::threads::run(100, 13, 4));
         assert!(super::stack::run(300, 14));
     }

@@ -339,6 +339,46 @@ pub fn small_plan(rng: &mut Rng) -> Node {
     }
 }
 
+/// The kinds that dry runs step.
+const STEPPED: &[u8] = &[
+    FILTER,
+    PROJECTION,
+    UNION,
+    REPARTITION,
+    REPARTITION,
+    COALESCE,
+    SORT,
+    SORT,
+    MERGE,
+    MERGE,
+    GLOBAL_LIMIT,
+    LOCAL_LIMIT,
+    OUTPUT_REQUIREMENT,
+];
+
+/// A plan without joins and aggregates, of a few nodes mostly.
+pub fn stepped_plan(rng: &mut Rng) -> Node {
+    loop {
+        let s = Style { kinds: STEPPED, constants: rng.pick(&[2, 4, 1000]), ..style(rng, false) };
+        let size = match rng.below(16) {
+            0..=9 => 1 + rng.below(8),
+            10..=13 => 5 + rng.below(12),
+            14 => 10 + rng.below(40),
+            _ => MOST_NODES - rng.below(70),
+        };
+        let mut plan = plan_of(rng, &s, size);
+        if rng.one_in(8) {
+            plan = with_partial_sort(rng, &s, plan);
+        }
+        if rng.one_in(6) {
+            plan = with_equal_columns(rng, plan);
+        }
+        if plan.count() <= MOST_NODES {
+            return plan;
+        }
+    }
+}
+
 /// A plan of about that many nodes, without partial sorts.
 pub fn plan_of_size(rng: &mut Rng, nodes: usize, aggregates: bool) -> Node {
     let s = style(rng, aggregates);

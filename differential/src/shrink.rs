@@ -33,7 +33,7 @@ fn simpler(r: &Record) -> Vec<Record> {
 }
 
 /// All plans that are one step smaller.
-fn smaller(plan: &Node) -> Vec<Node> {
+pub fn smaller(plan: &Node) -> Vec<Node> {
     let mut out = vec![];
     out.extend(plan.children.iter().cloned());
     for at in 0..plan.count() {

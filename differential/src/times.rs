@@ -14,7 +14,7 @@ const CALLS: [Call; 7] =
     [Call::Check, Call::Copy, Call::Ensure, Call::Parallelize, Call::Preserve([1, 1, 0]), Call::Push, Call::Partial(0)];
 
 /// Microseconds of one run, the least of several rounds.
-fn time(mut run: impl FnMut()) -> f64 {
+pub fn time(mut run: impl FnMut()) -> f64 {
     let mut best = f64::MAX;
     let start = Instant::now();
     run();

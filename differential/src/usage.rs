@@ -56,12 +56,14 @@ const fn usage(
     Usage { name, words: words.0, least: words.1, most: words.2, numbers, files, flags }
 }
 
-const COMMANDS: [Usage; 12] = [
-    usage("vectors", (" FOLDER", 1, 1), NONE, NONE, NONE),
+const COMMANDS: [Usage; 14] = [
+    usage("vectors", (" PATH", 1, 1), NONE, NONE, NONE),
     usage("cases", (" FILE", 1, 1), NONE, NONE, NONE),
     usage("compare", ("", 0, 0), &["--plans", "--seconds", "--seed", "--threads"], NONE, NONE),
     usage("show", (" CALL .. TEXT", 2, MANY), NONE, NONE, NONE),
     usage("damage", ("", 0, 0), &["--files", "--seed"], NONE, &["--heap"]),
+    usage("dry", ("", 0, 0), &["--plans", "--seed"], NONE, &["--heap"]),
+    usage("dry-times", ("", 0, 0), NONE, NONE, NONE),
     usage("threads", ("", 0, 0), &["--plans", "--seed", "--threads"], NONE, NONE),
     usage("mutants", ("", 0, 0), &["--plans", "--seed", "--from"], &["--cases"], &["--kept"]),
     usage("sample", (" FILE", 1, 1), &["--small", "--plans", "--seed", "--most"], NONE, &["--kept"]),
@@ -157,6 +159,7 @@ mod tests {
             ("compare --threads 0", "no threads do nothing"),
             ("compare --seed 1 --seed 2", "--seed stands twice"),
             ("sample --small 5", "given 0 words"),
+            ("dry --threads 2", "no option --threads"),
             ("compute", "no command \"compute\""),
             ("", "no command"),
         ] {
@@ -171,6 +174,8 @@ mod tests {
             "compare --plans 5 --seed 2",
             "show preserve spr TEXT",
             "damage --heap",
+            "dry --plans 5 --seed 2 --heap",
+            "dry-times",
             "times --svg F --without-aggregates",
             "sample F --kept",
         ] {

@@ -1,17 +1,20 @@
-//! Replays requests with their answers, a folder of vectors or the cases of the program `replay`, through the Rust over the stand-ins
-//! and through the library.
+//! Replays requests with their answers, a folder or a file of vectors or the cases of the program `replay`, through the Rust over the
+//! stand-ins and through the library; dry runs through the second stepper in the Rust's place.
 use crate::cases::{self, Case, Request};
+use crate::dry_run;
 use crate::library;
 use crate::rust_side::Answer;
 use crate::usage::stop;
 use sort_placement::exports::Call;
 use std::collections::BTreeMap;
-use std::path::Path;
+use std::path::{Path, PathBuf};
 
-/// The files whose answers hold now: the base's, and those of the requests of document 02 that have landed.
-const HOLD: [&str; 9] = ["check", "ensure", "parallelize", "preserve", "push", "partial", "rare", "p1", "p2"];
+/// The files whose answers hold now: the base's and P1's, which say 22 where P2 has changed the answer, and those of the requests of
+/// document 02 that have landed since.
+const BEFORE_P2: [&str; 8] = ["check", "ensure", "parallelize", "preserve", "push", "partial", "rare", "p1"];
+const SINCE_P2: [&str; 2] = ["p2", "p3"];
 
-fn bytes_of(hex: &str) -> Vec<u8> {
+pub fn bytes_of(hex: &str) -> Vec<u8> {
     let digit = |c: u8| (c as char).to_digit(16).expect("a hex digit") as u8;
     if hex == "-" { vec![] } else { hex.as_bytes().chunks(2).map(|d| digit(d[0]) << 4 | digit(d[1])).collect() }
 }
@@ -87,6 +90,19 @@ fn hold(case: &Case, place: &str, figures: &mut BTreeMap<&str, Figures>) {
     }
 }
 
+/// Holds the second stepper and the library to a dry run's case.
+fn hold_dry(case: &dry_run::vectors::Case, place: &str, figures: &mut BTreeMap<&str, Figures>) {
+    let f = figures.entry("dry").or_default();
+    let (second, library) = (case.second_stepper(), case.library());
+    f.requests += 1;
+    f.library += library.is_some() as usize;
+    let sides = [("the second stepper", second, &mut f.rust_differs), ("the library", library.flatten(), &mut f.library_differs)];
+    for (who, why, differs) in sides.into_iter().filter_map(|(who, why, differs)| Some((who, why?, differs))) {
+        *differs += 1;
+        println!("{place}: {who} {why}");
+    }
+}
+
 fn agree(figures: &BTreeMap<&str, Figures>, path: &Path) -> bool {
     if figures.is_empty() {
         stop(&format!("{}: no requests there", path.display()));
@@ -101,27 +117,42 @@ fn hold_file(path: &Path, is_before_p2: bool, figures: &mut BTreeMap<&str, Figur
     let lines: Vec<&str> = text.lines().collect();
     let mut former_22s = 0;
     for (i, case) in lines.chunks(2).enumerate() {
+        let place = format!("{}:{}", path.display(), 2 * i + 1);
+        if let Some(dry) = dry_run::vectors::Case::of(case[0], case[1]) {
+            hold_dry(&dry, &place, figures);
+            continue;
+        }
         let request = request(case[0]);
         let (mut number, mut bytes) = expected(request.call, case[1]);
         if number == 22 && is_before_p2 {
             former_22s += 1;
             (number, bytes) = in_22s_place(&request);
         }
-        hold(&Case { request, number, bytes }, &format!("{}:{}", path.display(), 2 * i + 1), figures);
+        hold(&Case { request, number, bytes }, &place, figures);
     }
     former_22s
 }
 
-/// Whether both sides agree with all vectors of a folder.
-pub fn run(folder: &Path) -> bool {
+/// The files of vectors of a folder, or a file of them itself, by name.
+fn files(path: &Path) -> Vec<(&'static str, PathBuf)> {
+    let file = |name: &str| if path.is_dir() { path.join(name).with_extension("txt") } else { path.into() };
+    let all = BEFORE_P2.into_iter().chain(SINCE_P2).map(|name| (name, file(name)));
+    all.filter(|(name, file)| file.exists() && file.file_stem().is_some_and(|stem| stem == *name)).collect()
+}
+
+/// Whether both sides agree with all vectors of a folder, or of a file.
+pub fn run(path: &Path) -> bool {
     let mut figures: BTreeMap<&str, Figures> = BTreeMap::new();
-    let files = HOLD.map(|name| (name, folder.join(name).with_extension("txt")));
     let mut former_22s = vec![];
-    for (name, path) in files.iter().filter(|(_, path)| path.exists()) {
-        former_22s.push(format!("{name} {}", hold_file(path, *name != "p2", &mut figures)));
+    for (name, file) in files(path) {
+        let is_before_p2 = BEFORE_P2.contains(&name);
+        let found = hold_file(&file, is_before_p2, &mut figures);
+        former_22s.extend(is_before_p2.then(|| format!("{name} {found}")));
     }
-    let agree = agree(&figures, folder);
-    println!("22 before P2: {}", former_22s.join(", "));
+    let agree = agree(&figures, path);
+    if !former_22s.is_empty() {
+        println!("22 before P2: {}", former_22s.join(", "));
+    }
     agree
 }
 
