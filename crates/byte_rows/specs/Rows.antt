@@ -1,8 +1,7 @@
 -- Numbers as bytes. Assumes nothing.
-use mathlib.Core.Path.{_≡_, refl, sym, ap, ap₂, _∙_}
+use mathlib.Core.Path.{_≡_, refl, sym, ap, _∙_}
 use mathlib.Core.List.{List, [], _∷_, map}
-use Prim.Native.Nat.{ℕ, zero, suc, _%_, _<_}
-use native.Mathlib.Omega.{arith}
+use Prim.Native.Nat.{ℕ, zero, suc, _%_}
 use lib.ListN.{length, getD}
 use lib.Bits.{bitAnd, and-mask}
 
@@ -22,10 +21,3 @@ low-mask l i = and-mask (getD l i 0) 8 ∙ sym (low-at l i)
 pub length-low : (l : List ℕ) → length (lowBytes l) ≡ length l
 length-low [] = refl
 length-low (k ∷ l) = ap suc (length-low l)
-
--- numbers that are bytes
-pub low-same : (l : List ℕ) → ((i : ℕ) → i < length l → getD l i 0 < 256) → lowBytes l ≡ l
-low-same [] h = refl
-low-same (k ∷ l) h =
-    let b = h zero (omega arith) in
-    ap₂ _∷_ (let e : k % 256 ≡ k = omega arith in e) (low-same l (λ i m. h (suc i) (omega arith)))

@@ -47,7 +47,7 @@ pub fn load_row(b: &[u8]) -> Facts
     requires { ⌜ 48 ≤ length (now b) ⌝ }
     ensures { λ r. ⌜ r ≡ loaded (now (b .entry)) ⌝ }
 {
-    let low = byte_rows::read32(&b[CLASSES..ROW]);
+    let low = class_tables::from_bytes(&b[CLASSES..ROW]);
     let order = order_keys(b);
     Facts {
         width: byte_rows::wide(b[WIDTH]),
@@ -111,5 +111,5 @@ pub fn store(b: &mut [u8], f: Facts)
     let low = f.low;
     byte_rows::write_row(&mut b[WIDTH..ORDER], &head);
     byte_rows::write_row(&mut b[ORDER..CLASSES], &keys);
-    byte_rows::write_row(&mut b[CLASSES..ROW], &low);
+    class_tables::to_bytes(&mut b[CLASSES..ROW], &low);
 }

@@ -1,5 +1,6 @@
 // The facts of a node by value: width, streams, constants, classes of equal columns, known order (01, 'Facts of a node'). Each
 // function's contract is an equation with the semantics' own definition; a join's facts stand in the crate join_facts.
+use class_tables::Table;
 use class_tables::alone;
 use class_tables::carried;
 use class_tables::low;
@@ -29,7 +30,7 @@ pub struct Facts {
     pub width: usize,
     pub streams: usize,
     pub consts: u32,
-    pub low: [usize; 32],
+    pub low: Table,
     pub order: Keys,
 }
 
@@ -113,7 +114,7 @@ pub fn union_facts(a: Facts, b: Facts) -> Facts
 }
 
 // The order as far as a class member is projected, lowest output column first.
-fn projection_order(table: &[usize; 32], cols: &[usize], keys: Keys) -> Keys
+fn projection_order(table: &Table, cols: &[usize], keys: Keys) -> Keys
     requires { ⌜ Columns (now cols) ⌝ }
     requires { ⌜ (length (now cols) ≤ 32) × (keys .len ≤ 8) ⌝ }
     ensures { λ r. ⌜ ((F : sem.Facts) → Agrees F (now (table .entry)) → Keyed (sem.projOrder F (now (cols .entry)) (keysOf keys)) r) ⌝ }

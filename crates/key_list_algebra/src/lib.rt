@@ -1,4 +1,5 @@
 // Key lists compared and changed: prefix, normal form, repeats dropped, columns moved by an offset, the set of their columns.
+use class_tables::Table;
 use class_tables::low;
 use column_sets::has;
 use column_sets::with;
@@ -79,7 +80,7 @@ pub fn common_keys(p: Keys, q: Keys) -> Keys
 }
 
 // The normal form: each column replaced by its class's lowest, constants dropped, later repeats dropped.
-pub fn normal(table: &[usize; 32], consts: u32, k: Keys) -> Keys
+pub fn normal(table: &Table, consts: u32, k: Keys) -> Keys
     requires { ⌜ Small (now table) ⌝ }
     requires { ⌜ k .len ≤ 8 ⌝ }
     ensures { λ r. ⌜ Keyed (nfBy (bit consts) (at (now (table .entry))) [] (keysOf k)) r ⌝ }

@@ -2,7 +2,7 @@
 -- columns left. Assumes nothing.
 use borrow.Author.Needs.{needs}
 use native.Mathlib.Omega.{arith}
-use mathlib.Core.Path.{_≡_}
+use mathlib.Core.Path.{_≡_, _∙_}
 use Prim.Native.Nat.{_+_, _-_, _≤_}
 use lib.ListN.{length}
 use Rattle.class_tables.specs.Tables.{at, Filled, besideLow}
@@ -37,12 +37,13 @@ sub-low c = search needs
 low-requires : tie.Need-low-requires Inv-loop μ-loop
 low-requires c κs = search needs
 
-add-r : tie.Need-add-r Inv-loop μ-loop
-add-r c = let h = c .before .before .before .pre .1 (c .before .before .loop .c - c .before .before .before .args .w) in let e = c .low .ensures in
+add-entry : tie.Need-add-entry Inv-loop μ-loop
+add-entry c = let h = c .before .before .before .pre .1 (c .before .before .loop .c - c .before .before .before .args .w) in let e = c .low .ensures in
     let t = c .before .loop-test .taken in let f = c .before .before .before .pre .2 in omega arith
 
-mul-r : tie.Need-mul-r Inv-loop μ-loop
-mul-r c = search needs
+entry-requires : tie.Need-entry-requires Inv-loop μ-loop
+entry-requires c κs = let h = c .before .before .before .pre .1 (c .before .before .loop .c - c .before .before .before .args .w) in let e = c .low .ensures in
+    let t = c .before .loop-test .taken in let f = c .before .before .before .pre .2 in omega arith
 
 array-write-r : tie.Need-array-write-r Inv-loop μ-loop
 array-write-r c = search needs
@@ -54,11 +55,11 @@ loop-less : tie.Need-loop-less Inv-loop μ-loop
 loop-less c = search needs
 
 loop-again : tie.Need-loop-again Inv-loop μ-loop
-loop-again c = let s = c .before .before .before .args in let l = c .before .before .loop in (
+loop-again c = let s = c .before .before .before .before .args in let l = c .before .before .before .loop in (
   omega arith,
   omega arith,
-  filled-more (besideLow (s .left) (s .right .now) (s .w)) (l .r) (l .c) (s .w + c .low .result) (l .inv .2) (omega arith)
-      (rw (le-ltb (l .c) (s .w) (l .inv .0), c .low .ensures)),
+  filled-more (besideLow (s .left) (s .right .now) (s .w)) (l .r) (l .c) (c .entry .result) (l .inv .2) (omega arith)
+      (c .entry .ensures ∙ rw (le-ltb (l .c) (s .w) (l .inv .0), c .before .low .ensures)),
 )
 
 returns : tie.Need-returns Inv-loop μ-loop
@@ -74,8 +75,8 @@ beside-table-spec =
     add-loop
     sub-low
     low-requires
-    add-r
-    mul-r
+    add-entry
+    entry-requires
     array-write-r
     add-c
     loop-less

@@ -5,7 +5,7 @@ use native.Mathlib.Omega.{arith}
 use mathlib.Core.Path.{_≡_}
 use Prim.Native.Nat.{_-_, _≤_}
 use Rattle.class_tables.specs.Tables.{at, Filled, linkedLow}
-use Rattle.class_tables.specs.Filling.{filled-none, filled-more}
+use Rattle.class_tables.specs.Filling.{filled-none, filled-more, read}
 use Rattle.class_tables.proofs.linked_table.Statement.{statement}
 use Rattle.class_tables.proofs.linked_table.Tie as tie
 
@@ -21,14 +21,11 @@ alone-requires c κs = search needs
 loop-holds : tie.Need-loop-holds Inv-loop μ-loop
 loop-holds c = let s = c .before .args in (omega arith, filled-none (linkedLow (s .table .now) (s .x) (s .y)) (c .alone .result) (c .alone .ensures))
 
-low-requires : tie.Need-low-requires Inv-loop μ-loop
-low-requires c κs = search needs
+element-copy-out-joined : tie.Need-element-copy-out-joined Inv-loop μ-loop
+element-copy-out-joined c = search needs
 
 joined-requires : tie.Need-joined-requires Inv-loop μ-loop
 joined-requires c κs = search needs
-
-mul-r : tie.Need-mul-r Inv-loop μ-loop
-mul-r c = search needs
 
 array-write-r : tie.Need-array-write-r Inv-loop μ-loop
 array-write-r c = search needs
@@ -43,7 +40,7 @@ loop-again : tie.Need-loop-again Inv-loop μ-loop
 loop-again c = let s = c .before .before .before .before .before .args in let l = c .before .before .before .loop in (
   omega arith,
   filled-more (linkedLow (s .table .now) (s .x) (s .y)) (l .r) (l .c) (c .joined .result) (l .inv .1) (omega arith)
-      (rw (← c .before .low .ensures) (c .joined .ensures)),
+      (rw (← read (s .table .now) (l .c) (omega arith)) (c .joined .ensures)),
 )
 
 returns : tie.Need-returns Inv-loop μ-loop
@@ -57,9 +54,8 @@ linked-table-spec =
     μ-loop
     alone-requires
     loop-holds
-    low-requires
+    element-copy-out-joined
     joined-requires
-    mul-r
     array-write-r
     add-c
     loop-less

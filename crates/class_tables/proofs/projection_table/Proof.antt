@@ -2,10 +2,11 @@
 -- Assumes nothing.
 use borrow.Author.Needs.{needs}
 use native.Mathlib.Omega.{arith}
-use mathlib.Core.Path.{_≡_}
+use mathlib.Core.Path.{_≡_, _∙_}
 use Prim.Native.Nat.{_-_, _≤_}
 use lib.ListN.{length}
-use Rattle.class_tables.specs.Tables.{at, Filled, projectionLow}
+use Rattle.semantics.specs.theorems.common.Lowest.{lowest-le}
+use Rattle.class_tables.specs.Tables.{at, carries, Filled, projectionLow}
 use Rattle.class_tables.specs.Filling.{filled-none, filled-more}
 use Rattle.class_tables.proofs.projection_table.Statement.{statement}
 use Rattle.class_tables.proofs.projection_table.Tie as tie
@@ -35,8 +36,9 @@ low-requires c κs = c .before .before .before .before .before .pre .0 (c .befor
 carried-requires : tie.Need-carried-requires Inv-loop μ-loop
 carried-requires c κs = (c .before .before .before .before .before .before .pre .0, omega arith)
 
-mul-r : tie.Need-mul-r Inv-loop μ-loop
-mul-r c = search needs
+entry-requires : tie.Need-entry-requires Inv-loop μ-loop
+entry-requires c κs = let s = c .before .before .before .before .before .before .before .args in let l = c .before .before .before .before .loop in
+    let e = c .carried .ensures in let z = lowest-le (carries (s .table .now) (s .cols .now) (c .before .low .result)) (l .j) in omega arith
 
 array-write-r : tie.Need-array-write-r Inv-loop μ-loop
 array-write-r c = search needs
@@ -48,10 +50,10 @@ loop-less : tie.Need-loop-less Inv-loop μ-loop
 loop-less c = search needs
 
 loop-again : tie.Need-loop-again Inv-loop μ-loop
-loop-again c = let s = c .before .before .before .before .before .before .before .args in let l = c .before .before .before .before .loop in (
+loop-again c = let s = c .before .before .before .before .before .before .before .before .args in let l = c .before .before .before .before .before .loop in (
   omega arith,
-  filled-more (projectionLow (s .table .now) (s .cols .now)) (l .r) (l .j) (c .carried .result) (l .inv .1) (omega arith)
-      (rw (← c .before .low .ensures) (c .carried .ensures)),
+  filled-more (projectionLow (s .table .now) (s .cols .now)) (l .r) (l .j) (c .entry .result) (l .inv .1) (omega arith)
+      (c .entry .ensures ∙ rw (← c .before .before .low .ensures) (c .before .carried .ensures)),
 )
 
 returns : tie.Need-returns Inv-loop μ-loop
@@ -70,7 +72,7 @@ projection-table-spec =
     shared-slice-read-low
     low-requires
     carried-requires
-    mul-r
+    entry-requires
     array-write-r
     add-j
     loop-less

@@ -2,9 +2,10 @@
 -- Assumes nothing.
 use borrow.Author.Needs.{needs}
 use native.Mathlib.Omega.{arith}
-use mathlib.Core.Path.{_≡_}
+use mathlib.Core.Path.{_≡_, _∙_}
 use Prim.Native.Nat.{_-_, _≤_}
-use Rattle.class_tables.specs.Tables.{at, Filled, unionLow}
+use Rattle.semantics.specs.theorems.common.Lowest.{lowest-le}
+use Rattle.class_tables.specs.Tables.{at, alikeAt, Filled, unionLow}
 use Rattle.class_tables.specs.Filling.{filled-none, filled-more}
 use Rattle.class_tables.proofs.union_table.Statement.{statement}
 use Rattle.class_tables.proofs.union_table.Tie as tie
@@ -24,8 +25,9 @@ loop-holds c = let s = c .before .args in (omega arith, filled-none (unionLow (s
 union-low-requires : tie.Need-union-low-requires Inv-loop μ-loop
 union-low-requires c κs = search needs
 
-mul-r : tie.Need-mul-r Inv-loop μ-loop
-mul-r c = search needs
+entry-requires : tie.Need-entry-requires Inv-loop μ-loop
+entry-requires c κs = let s = c .before .before .before .before .args in let l = c .before .before .loop in let e = c .union-low .ensures in
+    let z = lowest-le (alikeAt (s .a .now) (s .b .now) (l .c)) (l .c) in omega arith
 
 array-write-r : tie.Need-array-write-r Inv-loop μ-loop
 array-write-r c = search needs
@@ -37,8 +39,11 @@ loop-less : tie.Need-loop-less Inv-loop μ-loop
 loop-less c = search needs
 
 loop-again : tie.Need-loop-again Inv-loop μ-loop
-loop-again c = let s = c .before .before .before .before .args in let l = c .before .before .loop in
-    (omega arith, filled-more (unionLow (s .a .now) (s .b .now)) (l .r) (l .c) (c .union-low .result) (l .inv .1) (omega arith) (c .union-low .ensures))
+loop-again c = let s = c .before .before .before .before .before .args in let l = c .before .before .before .loop in (
+  omega arith,
+  filled-more (unionLow (s .a .now) (s .b .now)) (l .r) (l .c) (c .entry .result) (l .inv .1) (omega arith)
+      (c .entry .ensures ∙ c .before .union-low .ensures),
+)
 
 returns : tie.Need-returns Inv-loop μ-loop
 returns c = let l = c .before .loop in let e : l .c ≡ c .before .before .before .args .width = omega arith in let h = l .inv .1 in rw e at h
@@ -52,7 +57,7 @@ union-table-spec =
     alone-requires
     loop-holds
     union-low-requires
-    mul-r
+    entry-requires
     array-write-r
     add-c
     loop-less

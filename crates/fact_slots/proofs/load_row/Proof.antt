@@ -3,17 +3,17 @@ use borrow.Author.Needs.{needs}
 use Rattle.fact_slots.proofs.load_row.Statement.{statement}
 use Rattle.fact_slots.proofs.load_row.Tie as tie
 
-sub-read32 : tie.Need-sub-read32
-sub-read32 c = search needs
+sub-from-bytes : tie.Need-sub-from-bytes
+sub-from-bytes c = search needs
 
-part-read32-start : tie.Need-part-read32-start
-part-read32-start c = search needs
+part-from-bytes-start : tie.Need-part-from-bytes-start
+part-from-bytes-start c = search needs
 
-part-read32-end : tie.Need-part-read32-end
-part-read32-end c = search needs
+part-from-bytes-end : tie.Need-part-from-bytes-end
+part-from-bytes-end c = search needs
 
-read32-requires : tie.Need-read32-requires
-read32-requires c κs = search needs
+from-bytes-requires : tie.Need-from-bytes-requires
+from-bytes-requires c κs = search needs
 
 order-keys-requires : tie.Need-order-keys-requires
 order-keys-requires c κs = search needs
@@ -39,7 +39,7 @@ returns c =
       width = c .before .before .wide .ensures i;
       streams = c .before .get16 .ensures i;
       consts = c .get32 .ensures i;
-      low = c .before .before .before .before .before .read32 .ensures i;
+      low = c .before .before .before .before .before .from-bytes .ensures i;
       order = c .before .before .before .before .order-keys .ensures i;
     }
 
@@ -47,10 +47,10 @@ pub load-row-spec : {M : Type 1} → statement M
 load-row-spec =
     tie.close
     (tie.spec
-    sub-read32
-    part-read32-start
-    part-read32-end
-    read32-requires
+    sub-from-bytes
+    part-from-bytes-start
+    part-from-bytes-end
+    from-bytes-requires
     order-keys-requires
     shared-slice-read-wide
     wide-requires
