@@ -1,3 +1,5 @@
 pub mod Begun
 pub mod Tables
-pub mod Laws
+pub mod Loading
+pub mod Refused
+pub mod Stepped

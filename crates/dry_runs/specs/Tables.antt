@@ -75,3 +75,16 @@ pub record AsLong (counts : List ℕ) (len other : ℕ) : Type 0 where
   pub none : Zeros counts
   pub same : length counts ≡ len
   pub flags : other ≡ len
+
+-- The tables by place, all of one length, nothing counted
+pub record Counters (gone : ℕ) (counts held : List ℕ) (len : ℕ) : Type 0 where
+  pub past : gone < len
+  pub few : len < 1000000000
+  pub counts-long : length counts ≡ len
+  pub held-long : length held ≡ len
+  pub counts-none : Zeros counts
+  pub held-none : Zeros held
+
+-- How many places a plan has
+abbrev pub placesOf : Plan → ℕ
+placesOf f = total (facts f) + inner f

@@ -18,9 +18,8 @@ ghost use Rattle.step_tables.specs.Rows.{rowIn, Room};
 ghost use Rattle.step_moves.specs.Running.{Running};
 ghost use Rattle.row_reader.specs.Plans.{NodesOf};
 ghost use Rattle.row_writer.specs.Streams.{putOut};
-ghost use Rattle.dry_runs.specs.Begun.{book};
-ghost use Rattle.dry_runs.specs.Tables.{rowsRefusal, lastAnswer, Given, Stands, Stored, ByRow, ByPlace, AsLong};
-ghost use Rattle.dry_runs.specs.Laws.{placesOf, Begins, Counters};
+ghost use Rattle.dry_runs.specs.Begun.{book, Begins};
+ghost use Rattle.dry_runs.specs.Tables.{rowsRefusal, lastAnswer, Given, Stands, Stored, ByRow, ByPlace, AsLong, Counters, placesOf};
 
 // "256 plus the first such node's number, ahead of 26 and 27"; 26 "checked first", 27 "checked after 26"; 0 where none of them comes.
 fn refusal_of_rows(plan: &[u8], n: usize, rows: &[u8]) -> u32

@@ -1,6 +1,6 @@
 use borrow.Author.Needs.{needs}
 use native.Mathlib.Omega.{arith}
-use Rattle.dry_runs.specs.Laws.{too-short, fits}
+use Rattle.dry_runs.specs.Stepped.{too-short, fits}
 use lib.ListN.{length}
 use Rattle.stepping.specs.RowBytes.{streamsBytes}
 use Rattle.step_tables.specs.Rows.{rowIn}

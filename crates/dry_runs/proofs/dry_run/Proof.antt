@@ -1,6 +1,6 @@
 use borrow.Author.Needs.{needs}
 use native.Mathlib.Omega.{arith}
-use Rattle.dry_runs.specs.Laws.{file-refused, blocks-inside, blocks-outside, accepted-is, rows-refused, rows-pass, passes-is, stored, given-here}
+use Rattle.dry_runs.specs.Refused.{file-refused, blocks-inside, blocks-outside, accepted-is, rows-refused, rows-pass, passes-is, stored, given-here}
 use mathlib.Core.Path.{_≡_, sym, ap, _∙_}
 use lib.ListN.{length, length-replicate}
 use Prim.Native.Nat.{ℕ}

@@ -1,6 +1,6 @@
 use borrow.Author.Needs.{needs}
 use native.Mathlib.Omega.{arith}
-use Rattle.dry_runs.specs.Laws.{counters}
+use Rattle.dry_runs.specs.Loading.{counters}
 use Rattle.dry_runs.proofs.in_258049.Statement.{statement}
 use Rattle.dry_runs.proofs.in_258049.Tie as tie
 use Rattle.dry_runs.proofs.in_258049.Reads as reads

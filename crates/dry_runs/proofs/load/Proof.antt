@@ -1,6 +1,6 @@
 use borrow.Author.Needs.{needs}
 use native.Mathlib.Omega.{arith}
-use Rattle.dry_runs.specs.Laws.{read-asks, hold-asks, queue-asks, begins}
+use Rattle.dry_runs.specs.Loading.{read-asks, hold-asks, queue-asks, begins}
 use mathlib.Core.Path.{refl}
 use Rattle.dry_runs.proofs.load.Statement.{statement}
 use Rattle.dry_runs.proofs.load.Tie as tie

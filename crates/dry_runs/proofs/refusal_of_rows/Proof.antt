@@ -1,6 +1,6 @@
 use borrow.Author.Needs.{needs}
 use native.Mathlib.Omega.{arith}
-use Rattle.dry_runs.specs.Laws.{file-few, not-stepped, no-form, not-kept, too-many, none-of-them}
+use Rattle.dry_runs.specs.Refused.{file-few, not-stepped, no-form, not-kept, too-many, none-of-them}
 use Rattle.row_bytes.specs.Streams.{flag-true}
 use Rattle.dry_runs.proofs.refusal_of_rows.Statement.{statement}
 use Rattle.dry_runs.proofs.refusal_of_rows.Tie as tie

@@ -1,6 +1,7 @@
 use borrow.Author.Needs.{needs}
 use native.Mathlib.Omega.{arith}
-use Rattle.dry_runs.specs.Laws.{begun, ended, root-inside, root-streams, few-streams, delivers, last-is}
+use Rattle.dry_runs.specs.Loading.{root-inside, root-streams, few-streams}
+use Rattle.dry_runs.specs.Stepped.{begun, ended, delivers, last-is}
 use mathlib.Core.Path.{_∙_}
 use lib.ListN.{length, getD}
 use Rattle.plan_codec.specs.Reading.{planOf}

@@ -1,6 +1,6 @@
 use borrow.Author.Needs.{needs}
 use native.Mathlib.Omega.{arith}
-use Rattle.dry_runs.specs.Laws.{taken-long, rows-lent}
+use Rattle.dry_runs.specs.Stepped.{taken-long, rows-lent}
 use lib.ListN.{length}
 use mathlib.Core.Path.{refl}
 use Rattle.dry_runs.proofs.step_with_rows.Statement.{statement}

@@ -1,6 +1,6 @@
 use borrow.Author.Needs.{needs}
 use native.Mathlib.Omega.{arith}
-use Rattle.dry_runs.specs.Laws.{settled-few, stands}
+use Rattle.dry_runs.specs.Stepped.{settled-few, stands}
 use Rattle.dry_runs.proofs.stepped_answer.Statement.{statement}
 use Rattle.dry_runs.proofs.stepped_answer.Tie as tie
 use Rattle.dry_runs.proofs.stepped_answer.Reads as reads
