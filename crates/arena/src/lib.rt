@@ -1,4 +1,6 @@
 // The arena: plan nodes in lent bytes, a slot for each. Nodes are only ever appended, children before their parent.
+#![tactic(auto)]
+
 ghost use Rattle.std.specs.Prelude.{◌≡◌, ◌+◌, ◌*◌, ◌≤◌, ◌<◌, length, get_or, take, drop};
 ghost use Rattle.plan_format.specs.Record.{children};
 ghost use Rattle.arena.specs.Arena.{slot_size, record_size, numbers_in, slot, kept_part, Below};
@@ -14,7 +16,7 @@ pub const KEPT_FROM: usize = 80;
 pub const KEPT_SIZE: usize = 112;
 
 // What a function that adds nodes answers: how many slots are used, and the handle of the tree that it made.
-#[derive(Drop)]
+#[derive(Clone, Copy)]
 pub struct At {
     pub used: usize,
     pub root: usize,

@@ -1,4 +1,6 @@
 // Plans out of the arena: a tree in node order, and its file, block after block.
+#![tactic(auto)]
+
 ghost use Rattle.std.specs.Prelude.{◌≡◌, ◌+◌, ◌*◌, ◌≤◌, ◌++◌, length, drop};
 ghost use Rattle.plan.specs.Forest.{nodes};
 ghost use Rattle.plan_format.specs.Record.{children};
@@ -27,7 +29,7 @@ fn push_children(m: &[u8], k: usize, w: &mut [usize], t: usize) -> usize
 }
 
 // How many records were taken, and where the stack starts then.
-#[derive(Drop)]
+#[derive(Clone, Copy)]
 struct Taken {
     count: usize,
     top: usize,

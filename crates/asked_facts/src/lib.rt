@@ -1,4 +1,6 @@
 // What the walks ask of a node's facts: of the row of bytes that holds them, and of nothing else.
+#![tactic(auto)]
+
 ghost use Rattle.std.specs.Prelude.{◌≡◌, not, ◌≤◌, ◌<◌, eqb, ltb, length};
 ghost use Rattle.semantics.specs.Facts as sem;
 ghost use Rattle.key_lists.specs.Keys.{Ordered};

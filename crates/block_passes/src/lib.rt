@@ -1,5 +1,7 @@
 // What is asked of a lent file's blocks: their count by the length, their sums, their headers with padding (refusals 1 to 3). And the count of records that
 // the headers give.
+#![tactic(auto)]
+
 ghost use Rattle.std.specs.Prelude.{◌≡◌, ◌≤◌, ◌<◌, length};
 ghost use Rattle.plan_format.specs.Blocks.{length_ok, block_count, record_count, sum_ok, count_ok, padding_ok, header_ok};
 ghost use Rattle.plan_format.specs.Reading.{sums_ok, headers_ok};

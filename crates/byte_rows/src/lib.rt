@@ -1,4 +1,6 @@
 // Rows of small numbers, a byte each, in lent bytes.
+#![tactic(auto)]
+
 ghost use Rattle.std.specs.Prelude.{◌≡◌, length};
 ghost use Rattle.byte_rows.specs.Rows.{low_bytes};
 

@@ -1,5 +1,7 @@
 // Working memory: two ladders of arenas under all calls, one for pushing, which takes a second arena. A call that finds its arena too small goes a rung up; of
 // the highest it is proved that this cannot be.
+#![tactic(auto)]
+
 ghost use Rattle.std.specs.Prelude.{◌*◌, ◌≤◌, ◌<◌};
 ghost use Rattle.plan_codec.specs.Reading.{reading};
 ghost use Rattle.plan_format.specs.Blocks.{block_count};

@@ -1,4 +1,6 @@
 // What the calls on a plan share: what is answered, 21's test, the plan written to the output; and the order check.
+#![tactic(auto)]
+
 ghost use Rattle.std.specs.Prelude.{◌≡◌, List, ℕ, ◌*◌, ◌≤◌, ◌<◌};
 ghost use Rattle.semantics.specs.Check.{check};
 ghost use Rattle.walks.specs.Marks.{size_t};
@@ -16,7 +18,7 @@ use settling::settle_all;
 use step_ends::Stop;
 
 // What a call answers: the number of its refusal or 0, and whether the plan passes, where that was asked; or that the arena is too small.
-#[derive(Drop)]
+#[derive(Clone, Copy)]
 pub enum Called {
     Done(u32, bool),
     NoRoom,

@@ -1,5 +1,7 @@
 // The rungs of the ladder: a call in arenas of so many slots. Each is a function of its own, so that a call has the arenas of its own rung on the stack and
 // no others.
+#![tactic(auto)]
+
 ghost use Rattle.std.specs.Prelude.{◌*◌, ◌≤◌};
 ghost use Rattle.plan_codec.specs.Reading.{reading};
 ghost use Rattle.plan_format.specs.Blocks.{block_count};
@@ -44,7 +46,7 @@ const SLOTS_382: usize = 382 * SLOT;
 const SLOTS_772: usize = 772 * SLOT;
 
 // What a call answers in the end: the number of its refusal or 0, and whether the plan passes.
-#[derive(Drop)]
+#[derive(Clone, Copy)]
 pub struct Reply {
     pub number: u32,
     pub passes: bool,

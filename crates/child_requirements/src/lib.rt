@@ -1,4 +1,6 @@
 // pushdown_requirement_to_children: how a required order goes past a node.
+#![tactic(auto)]
+
 ghost use Rattle.std.specs.Prelude.{◌≡◌, cond, not, ◌&&◌, ◌||◌, List, ℕ, ◌≤◌, get_or};
 ghost use Rattle.plan.specs.Op.{Op, projection};
 ghost use Rattle.plan.specs.Numbers.{kind_of};

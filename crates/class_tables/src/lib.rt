@@ -1,5 +1,7 @@
 // Class tables: of each column the lowest column that is equal to it. A table has 32 entries; above a node's width each column is
 // alone in its class.
+#![tactic(auto)]
+
 ghost use Rattle.std.specs.Prelude.{◌≡◌, cond, ◌&&◌, ◌||◌, ◌+◌, ◌-◌, min, ◌<◌, ◌≤◌, eqb, length, get_or};
 ghost use Rattle.row_order.specs.Packed.{bit};
 ghost use Rattle.semantics.specs.Facts.{lowest};

@@ -1,5 +1,7 @@
 // What refusal 7 asks of a record's columns: keys, constants and keyed columns, child columns and right key columns lie below a width, and key lists do not
 // repeat.
+#![tactic(auto)]
+
 ghost use Rattle.std.specs.Prelude.{◌≡◌, ◌≤◌, ◌<◌, cond, not, ◌||◌, length, get_or, take};
 ghost use Rattle.scan.specs.Bytes.{part, le32};
 ghost use Rattle.plan_format.specs.LastPass.{below_ok, fresh_ok, column_ok, columns_ok, set_below, key_columns, column_limit, columns_rule};

@@ -1,4 +1,6 @@
 // Sets of columns as 32 bits, read and written by masks and shifts (01: a column set by bits).
+#![tactic(auto)]
+
 ghost use Rattle.std.specs.Prelude.{◌≡◌, ◌&&◌, ◌||◌, ◌-◌, ◌<◌, eqb, leb, ltb};
 ghost use Rattle.row_order.specs.Packed.{bit};
 ghost use Rattle.column_sets.specs.Sets.{Holding};

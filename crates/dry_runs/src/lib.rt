@@ -1,4 +1,6 @@
 // Dry runs (02, P3): a plan file, rows and a caller's list of bytes, stepped to the end.
+#![tactic(auto)]
+
 ghost use Rattle.std.specs.Prelude.{◌≡◌, true, List, ℕ, ◌+◌, ◌*◌, ◌≤◌, ◌<◌, length};
 ghost use Rattle.plan.specs.Numbers.{number_of};
 ghost use Rattle.plan_format.specs.Blocks.{record_count};

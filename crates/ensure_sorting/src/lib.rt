@@ -1,4 +1,6 @@
 // enforce_sorting/mod.rs: the ensuring walk's step at one node.
+#![tactic(auto)]
+
 ghost use Rattle.std.specs.Prelude.{◌≡◌, true, false, [], suc, ◌+◌, ◌*◌, ◌≤◌, ◌<◌, length};
 ghost use Rattle.plan.specs.Forest.{size};
 ghost use Rattle.plan.specs.Numbers.{code};

@@ -1,4 +1,6 @@
 // The facts of a node in the first 48 of the 112 bytes that a slot of the arena keeps of it.
+#![tactic(auto)]
+
 ghost use Rattle.std.specs.Prelude.{◌≡◌, ◌+◌, ◌≤◌, ◌<◌, length};
 ghost use Rattle.facts.specs.Known.{Coherent};
 ghost use Rattle.fact_slots.specs.Slots.{le64, loaded, head, word_bytes, Stored};

@@ -1,5 +1,7 @@
 // The facts of a node by value: width, streams, constants, classes of equal columns, known order (01, 'Facts of a node'). Each
 // function's contract is an equation with the semantics' own definition; a join's facts stand in the crate join_facts.
+#![tactic(auto)]
+
 ghost use Rattle.std.specs.Prelude.{◌≡◌, true, [], ◌+◌, ◌<◌, ◌≤◌, ◌^◌, length};
 ghost use Rattle.plan.specs.WellFormed.{below, set_fits};
 ghost use Rattle.semantics.specs.Facts as sem;
@@ -13,7 +15,7 @@ use key_lists::{Keys, appended, no_keys, with_column};
 use row_order::column;
 
 // specs/Known.antt says which facts these are. An empty order is no order.
-#[derive(Drop)]
+#[derive(Clone, Copy)]
 pub struct Facts {
     pub width: usize,
     pub streams: usize,

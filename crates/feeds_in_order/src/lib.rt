@@ -1,4 +1,6 @@
 // The demand on the order check, tied to the code: a function over `check_order` whose contract is the theorem of crate demands.
+#![tactic(auto)]
+
 ghost use Rattle.std.specs.Prelude.{◌≡◌, true};
 ghost use Rattle.plan_codec.specs.Reading.{reading};
 ghost use Rattle.semantics.specs.Check.{check};

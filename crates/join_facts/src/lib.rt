@@ -1,5 +1,7 @@
 // A join's facts: constants and classes by its type, and the kept side's order (01, 'Facts of a node'). The key pairs are lent as two lists, the left keys
 // and the right columns.
+#![tactic(auto)]
+
 ghost use Rattle.std.specs.Prelude.{◌≡◌, cond, ◌+◌, ◌<◌, ◌≤◌, length};
 ghost use Rattle.row_order.specs.Lists.{All};
 ghost use Rattle.semantics.specs.Facts as sem;

@@ -1,4 +1,6 @@
 // The order that a join keeps: which side's, and that order moved to its place (01, 'Facts of a node').
+#![tactic(auto)]
+
 ghost use Rattle.std.specs.Prelude.{◌≡◌, map, ℕ, ◌+◌, ◌<◌, ◌≤◌, pos};
 ghost use Rattle.row_order.specs.Lists.{All};
 ghost use Rattle.plan.specs.WellFormed.{join_width};
@@ -11,7 +13,7 @@ use key_lists::{Keys, no_keys};
 use plan::JoinType;
 
 // The side whose order a join keeps.
-#[derive(Drop)]
+#[derive(Clone, Copy)]
 pub enum KeptSide {
     Left,
     Right,

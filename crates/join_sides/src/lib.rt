@@ -1,4 +1,6 @@
 // expr_source_side: on which side of a join the columns of an order stand (sort_pushdown.rs).
+#![tactic(auto)]
+
 ghost use Rattle.std.specs.Prelude.{◌≡◌, ◌+◌, ◌<◌, ◌≤◌};
 ghost use Rattle.semantics.specs.Facts as sem;
 ghost use Rattle.key_lists.specs.Keys.{keys_of};
@@ -12,7 +14,7 @@ use plan::JoinType;
 use row_order::column;
 
 // A column of the side, or that there is none.
-#[derive(Drop)]
+#[derive(Clone, Copy)]
 pub enum SideColumn {
     At(usize),
     Nowhere,
@@ -48,7 +50,7 @@ fn side_column(own: &[u8], lo: usize, n: usize, c: usize) -> SideColumn
 }
 
 // An order whose columns all have one on a side, with those columns; or not.
-#[derive(Drop)]
+#[derive(Clone, Copy)]
 pub enum SideOrder {
     Valid(Keys),
     Invalid,
@@ -74,7 +76,7 @@ fn on_side(own: &[u8], lo: usize, n: usize, keys: Keys) -> SideOrder
 }
 
 // The side on which an order stands, with its columns there.
-#[derive(Drop)]
+#[derive(Clone, Copy)]
 pub enum JoinSide {
     Left(Keys),
     Right(Keys),

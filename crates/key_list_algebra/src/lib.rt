@@ -1,4 +1,6 @@
 // Key lists compared and changed: prefix, normal form, repeats dropped, columns moved by an offset, the set of their columns.
+#![tactic(auto)]
+
 ghost use Rattle.std.specs.Prelude.{◌≡◌, ◌&&◌, [], map, ◌*◌, ◌<◌, ◌≤◌, ◌^◌, eqb, length, pos, ◌+ℤ◌};
 ghost use Rattle.std.specs.Int.Bits.{bit_or};
 ghost use Rattle.row_order.specs.Packed.{bit};

@@ -1,19 +1,21 @@
 // Key lists by value. A key is one number, column + 32 * options (row_order), and only its seven bits count. A list is one word of up to eight keys, a
 // byte for each, the first in the lowest byte.
+#![tactic(auto)]
+
 ghost use Rattle.std.specs.Prelude.{◌≡◌, [], map, ◌*◌, ◌%◌, ◌<◌, ◌≤◌, ◌^◌, length, take};
 ghost use Rattle.row_order.specs.Packed.{key_of};
 ghost use Rattle.semantics.specs.Facts.{with_column, eq_key};
 ghost use Rattle.key_lists.specs.Keys.{keys_of, Keyed, Ordered, Tight, Longer};
 
 // The first len keys of the word.
-#[derive(Drop)]
+#[derive(Clone, Copy)]
 pub struct Keys {
     pub word: usize,
     pub len: usize,
 }
 
 // An order of one key at least, or none.
-#[derive(Drop)]
+#[derive(Clone, Copy)]
 pub enum Order {
     Unordered,
     By(Keys),

@@ -1,4 +1,6 @@
 // Which of its children's orders a node maintains (semantics, Properties).
+#![tactic(auto)]
+
 ghost use Rattle.std.specs.Prelude.{◌≡◌, List};
 ghost use Rattle.semantics.specs.Facts as sem;
 ghost use Rattle.semantics.specs.Properties as node;

@@ -1,4 +1,6 @@
 // Key lists against a node's facts, kept as a row of bytes: their normal form, whether the known order meets a list, whether two are compatible.
+#![tactic(auto)]
+
 ghost use Rattle.std.specs.Prelude.{◌≡◌, [], ◌≤◌, ◌<◌};
 ghost use Rattle.semantics.specs.Facts as sem;
 ghost use Rattle.semantics.specs.Properties.{fresh_keys};

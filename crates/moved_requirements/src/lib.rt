@@ -1,5 +1,7 @@
 // A requirement in the columns of a join's right side or of a projection's or an aggregate's child, and two requirements compared key by key
 // (sort_pushdown.rs).
+#![tactic(auto)]
+
 ghost use Rattle.std.specs.Prelude.{◌≡◌, map, ◌<◌, ◌≤◌, leb, ltb, neg_ℤ, pos, get_or};
 ghost use Rattle.row_order.specs.Lists.{All};
 ghost use Rattle.plan.specs.WellFormed.{every};

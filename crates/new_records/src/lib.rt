@@ -1,5 +1,7 @@
 // The records of the nodes that the walks add: sorts, merges, coalesces, limits; and a record with another mark. A new node has one
 // child, and no streams, width or columns of its own.
+#![tactic(auto)]
+
 ghost use Rattle.std.specs.Prelude.{◌≡◌, ℕ, ◌≤◌, ◌<◌, length};
 ghost use Rattle.plan.specs.Op.{sort_op, merge_op, coalesce, global_limit, local_limit, partial_sort};
 ghost use Rattle.semantics.specs.Properties.{remark};

@@ -1,4 +1,6 @@
 // The facts of sources, projections, aggregates and joins from their records and their children's facts.
+#![tactic(auto)]
+
 ghost use Rattle.std.specs.Prelude.{◌≡◌, true, cond, map, ◌+◌, ◌-◌, ◌≤◌, length, get_or};
 ghost use Rattle.row_order.specs.Packed.{key_of};
 ghost use Rattle.scan.specs.Bytes.{le32};

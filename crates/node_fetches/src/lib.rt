@@ -1,4 +1,6 @@
 // What the walks ask of a node's fetch (semantics, Properties): what it cuts to, whether a limit goes past it.
+#![tactic(auto)]
+
 ghost use Rattle.std.specs.Prelude.{◌≡◌};
 ghost use Rattle.plan.specs.WellFormed.{some_fetch};
 ghost use Rattle.semantics.specs.Properties as node;

@@ -1,4 +1,6 @@
 // The line of one node in a listing, put into a lent buffer: number, depth, kind, streams, fetch, keys (01, 'Worked on paper').
+#![tactic(auto)]
+
 ghost use Rattle.std.specs.Prelude.{◌≡◌, cond, ◌++◌, ◌+◌, ◌≤◌, min, length};
 ghost use Rattle.arena.specs.Arena.{slot_size};
 ghost use Rattle.plan_codec.specs.Decode.{key_of_bytes, keys_of};

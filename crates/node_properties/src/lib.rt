@@ -1,5 +1,7 @@
 // What the walks ask of a node's record (semantics, Properties): its kind, its fields, its partitioning. Matches with an arm for each kind stand in
 // row_facts, row_wants, wanted_inputs, maintained_orders, node_fetches, child_requirements and node_lines.
+#![tactic(auto)]
+
 ghost use Rattle.std.specs.Prelude.{◌≡◌, eqb, get_or};
 ghost use Rattle.std.specs.Bool.{beq};
 ghost use Rattle.plan.specs.Op.{sort_merge_join, hash_join};

@@ -20,7 +20,7 @@ use plan_context::kept::row;
 use plan_updates::put_again;
 
 // How many slots are used, and the handles of the children.
-#[derive(Drop)]
+#[derive(Clone, Copy)]
 pub struct Children {
     pub used: usize,
     pub kids: [usize; 8],

@@ -1,5 +1,7 @@
 // enforce_sorting/mod.rs, parallelizing: coalesces below a sort are taken out, so that each stream is sorted by itself and a merge
 // gathers them.
+#![tactic(auto)]
+
 pub mod cascades;
 
 ghost use Rattle.std.specs.Prelude.{false, suc, ◌+◌, ◌<◌};
@@ -20,7 +22,7 @@ use plan_context::handles::set_mark;
 use plan_updates::put_again;
 
 // The keys and the fetch of a sort or a merge.
-#[derive(Drop)]
+#[derive(Clone, Copy)]
 pub struct SortExprs {
     pub keys: Keys,
     pub fetch: Fetch,

@@ -1,4 +1,6 @@
 // Partial sorting of one node of a tree, found by its number in node order; the path above it is put anew.
+#![tactic(auto)]
+
 ghost use Rattle.std.specs.Prelude.{◌≡◌, false, ◌+◌, ◌≤◌, ◌<◌, length, take, set};
 ghost use Rattle.plan.specs.Numbers.{code};
 ghost use Rattle.plan_codec.specs.Decode.{decode};
@@ -19,14 +21,14 @@ use plan_updates::{put_again, put_over};
 use replace_with_partial_sort::{Replaced, replace_with_partial_sort};
 
 // Refusal 20, or the tree that it becomes.
-#[derive(Drop)]
+#[derive(Clone, Copy)]
 pub enum Sorted {
     NoSuchNode,
     Becomes(At),
 }
 
 // A child of a node, and a number within its tree; behind the last child, how far.
-#[derive(Drop)]
+#[derive(Clone, Copy)]
 pub struct Place {
     pub child: usize,
     pub left: usize,

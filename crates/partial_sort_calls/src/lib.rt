@@ -1,4 +1,6 @@
 // Partial sorting as a call: on the plan that was read, and its answer to the output.
+#![tactic(auto)]
+
 ghost use Rattle.std.specs.Prelude.{◌≤◌, ◌<◌};
 ghost use Rattle.plan_context.specs.View.{tree_of};
 ghost use Rattle.plan_context.specs.Records.{plan_t};

@@ -1,8 +1,10 @@
 // The vocabulary of document 01: kinds, join types, distributions, fetches, and the refusals with their numbers.
+#![tactic(auto)]
+
 ghost use Rattle.std.specs.Prelude.{◌≡◌};
 ghost use Rattle.plan.specs.Numbers.{number_of};
 
-#[derive(Drop)]
+#[derive(Clone, Copy)]
 pub enum Kind {
     Source,
     Filter,
@@ -21,7 +23,7 @@ pub enum Kind {
     Aggregate,
 }
 
-#[derive(Drop)]
+#[derive(Clone, Copy)]
 pub enum JoinType {
     Inner,
     Left,
@@ -34,7 +36,7 @@ pub enum JoinType {
 }
 
 // What a node wants of its child's streams: nothing, one stream, or rows kept together by the columns of a 32-bit set.
-#[derive(Drop)]
+#[derive(Clone, Copy)]
 pub enum Distribution {
     Unspecified,
     Single,
@@ -42,7 +44,7 @@ pub enum Distribution {
 }
 
 // How many rows each output stream of a node has at most: 'Fetch and skip cut each output stream'.
-#[derive(Drop)]
+#[derive(Clone, Copy)]
 pub enum Fetch {
     Unlimited,
     AtMost(u32),
@@ -52,7 +54,7 @@ pub enum Fetch {
 pub const NO_FETCH: u32 = 4294967295;
 
 // Why a call is refused, or that it is not.
-#[derive(Drop)]
+#[derive(Clone, Copy)]
 pub enum Refusal {
     Accepted,
     Length,

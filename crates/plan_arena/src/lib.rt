@@ -1,4 +1,6 @@
 // Plan files into the arena.
+#![tactic(auto)]
+
 ghost use Rattle.std.specs.Prelude.{◌*◌, ◌≤◌, length};
 ghost use Rattle.plan_format.specs.Blocks.{block_count};
 ghost use Rattle.plan_arena.specs.ReadFile.{block_slots, ReadAs};
@@ -35,7 +37,7 @@ fn fill(s: &[u8], c: usize, m: &mut [u8]) -> At
 }
 
 // What reading answers: the refusal, or how many slots are used and the handle of the file's tree.
-#[derive(Drop)]
+#[derive(Clone, Copy)]
 pub struct PlanRead {
     pub refusal: Refusal,
     pub used: usize,

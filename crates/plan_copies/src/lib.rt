@@ -1,4 +1,6 @@
 // A tree copied from one arena into another, with its marks and all that is kept of it: what it does not reach stays behind.
+#![tactic(auto)]
+
 ghost use Rattle.std.specs.Prelude.{◌+◌};
 ghost use Rattle.walks.specs.Marks.{size_t};
 ghost use Rattle.plan_context.specs.View.{tree_of, Grown};

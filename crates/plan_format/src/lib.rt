@@ -1,10 +1,12 @@
 // Which fields a record of each kind has, and where a record starts in its file.
+#![tactic(auto)]
+
 ghost use Rattle.std.specs.Prelude.{◌≡◌, ◌<◌, ◌^◌};
 ghost use Rattle.plan_format.specs.Blocks.{record_start};
 ghost use Rattle.plan_format.specs.Fields.{fields_of};
 
 // The fields of a record of some kind, as document 01 lists them, and 02 for aggregates; a field that is not there is zero.
-#[derive(Drop)]
+#[derive(Clone, Copy)]
 pub struct Fields {
     // one of the joins, which have two children
     pub join: bool,

@@ -1,4 +1,6 @@
 // Ensures the plan on standard input, and lists the plan that comes of it (01, 'Worked on paper'). A refusal prints only its number.
+#![tactic(auto)]
+
 fn main() {
     let mut file = [0u8; 9728];
     let mut out = [0u8; 9216];

@@ -1,4 +1,6 @@
 // Lists a plan, a line for each node in node order (01, 'Worked on paper'). A refusal prints only its number.
+#![tactic(auto)]
+
 ghost use Rattle.std.specs.Prelude.{◌≡◌, [], ◌+◌, ◌-◌, ◌*◌, ◌≤◌, ◌<◌, length};
 ghost use Rattle.plan_format.specs.Blocks.{block_count};
 ghost use Rattle.arena.specs.Arena.{slot_size};

@@ -1,5 +1,7 @@
 // The passes of the reader over a lent file before the last one: refusals 1 to 6, each over all blocks (block_passes) or all records. Here are the pass over
 // the records and the order of the refusals.
+#![tactic(auto)]
+
 ghost use Rattle.std.specs.Prelude.{◌≡◌, ◌*◌, ◌-◌, ◌≤◌};
 ghost use Rattle.plan_format.specs.Blocks.{block_count, record_count};
 ghost use Rattle.plan_format.specs.Reading.{early_refusal};
@@ -9,7 +11,7 @@ use block_passes::{headers_ok, length_ok, record_count, sums_ok};
 use plan::Refusal;
 
 // What one pass over the records finds: known kinds and child counts, one tree, 6's single-record rules.
-#[derive(Drop)]
+#[derive(Clone, Copy)]
 pub struct Records {
     pub kinds: bool,
     pub tree: bool,

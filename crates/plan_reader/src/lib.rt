@@ -1,4 +1,6 @@
 // The last pass of the reader: from the last node to the first, unequal union, columns (column_rules), width. And the whole reader's refusal.
+#![tactic(auto)]
+
 ghost use Rattle.std.specs.Prelude.{◌≡◌, ◌*◌, ◌≤◌, ◌<◌, true, length, get_or};
 ghost use Rattle.plan_format.specs.Blocks.{record_count, block_count, records};
 ghost use Rattle.plan_format.specs.Record.{fields};
@@ -62,7 +64,7 @@ fn union_ok(r: &[u8], ws: &[u8]) -> bool
 }
 
 // What the last pass finds at a node: its refusal and its width. The width stands there for a refused node too, and may then be more than 32.
-#[derive(Drop)]
+#[derive(Clone, Copy)]
 pub struct Seen {
     pub refusal: Refusal,
     pub width: usize,

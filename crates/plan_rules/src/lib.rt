@@ -1,5 +1,7 @@
 // The rules of one record of 64 bytes: refusals 4 and 6. What refusal 6 asks stands for each kind apart, as the parts of its record (record_parts,
 // record_lists): so a record is tested for the few fields that its kind has, and for zeros, eight bytes at once.
+#![tactic(auto)]
+
 ghost use Rattle.std.specs.Prelude.{◌≡◌, length};
 ghost use Rattle.plan_format.specs.Fields.{fields_of};
 ghost use Rattle.plan_format.specs.Record.{children_ok, kind_ok, rules_ok, record_ok};

@@ -1,5 +1,7 @@
 // Marked trees that change, in the arena: a node put into a slot over its children, or rebuilt as the Rust does (update_plan_from_children). Older slots
 // stay, with all that they keep.
+#![tactic(auto)]
+
 ghost use Rattle.std.specs.Prelude.{◌≡◌, false, [], ◌∷◌, ◌+◌, ◌*◌, ◌≤◌, ◌<◌, length};
 ghost use Rattle.plan_codec.specs.Decode.{decode};
 ghost use Rattle.plan_codec.specs.Encode.{encode};

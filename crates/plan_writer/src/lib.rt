@@ -1,4 +1,6 @@
 // The blocks of a file: a header, at most seven records, zeros and the sum.
+#![tactic(auto)]
+
 ghost use Rattle.std.specs.Prelude.{◌≡◌, ◌≤◌, ◌<◌, length};
 ghost use Rattle.plan_format.specs.Writing.{header, four_bytes, block_of};
 

@@ -1,5 +1,7 @@
 // sort_pushdown.rs, first part: what is required of a node, and how a requirement goes past it to the node's children. A node is its record and the rows of
 // its facts.
+#![tactic(auto)]
+
 pub mod joins;
 pub mod requirements;
 
@@ -10,7 +12,7 @@ use key_lists::Order;
 use plan::{Distribution, Fetch};
 
 // What is required of a node by its parent.
-#[derive(Drop)]
+#[derive(Clone, Copy)]
 pub struct ParentRequirements {
     pub order: Order,
     pub fetch: Fetch,
@@ -34,7 +36,7 @@ impl ParentRequirements {
 }
 
 // What goes to the children: nothing, for the requirement cannot be pushed down; or an order for the first child and one for the others.
-#[derive(Drop)]
+#[derive(Clone, Copy)]
 pub enum Pushed {
     Stop,
     Goes(Order, Order),

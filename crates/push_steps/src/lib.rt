@@ -1,4 +1,6 @@
 // The step of pushing at a node: refusals 25 and 23, and the number of nodes after it.
+#![tactic(auto)]
+
 ghost use Rattle.std.specs.Prelude.{◌≡◌, ◌&&◌, ◌+◌, ◌≤◌, ◌<◌, length};
 ghost use Rattle.plan_codec.specs.Decode.{decode};
 ghost use Rattle.record_fields.specs.Proper.{Proper};
@@ -17,7 +19,7 @@ use plan::Refusal;
 use sort_pushdown::{Decision, NewNodes};
 
 // What a step answers: a refusal, or how many nodes the plan has after it.
-#[derive(Drop)]
+#[derive(Clone, Copy)]
 pub enum Step {
     Refused(Refusal),
     On(usize),

@@ -1,4 +1,6 @@
 // The fields of a record of 64 bytes, as the facts of a node ask for them.
+#![tactic(auto)]
+
 ghost use Rattle.std.specs.Prelude.{◌≡◌, length, get_or};
 ghost use Rattle.row_order.specs.Packed.{bit};
 ghost use Rattle.plan.specs.Numbers.{kind_of, join_type_of};

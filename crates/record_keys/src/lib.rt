@@ -1,4 +1,6 @@
 // The key lists of a record: the keys with their options, their columns alone, and a join's right columns with the same options.
+#![tactic(auto)]
+
 ghost use Rattle.std.specs.Prelude.{◌≡◌, map, ◌+◌, ◌*◌, ◌%◌, ◌≤◌, length, get_or, take};
 ghost use Rattle.row_order.specs.Packed.{key_of};
 ghost use Rattle.key_lists.specs.Keys.{Keyed};

@@ -1,5 +1,7 @@
 // replace_with_order_preserving_variants.rs: the step of the order-preserving walk. A sort over a path of nodes that could keep their
 // input's order is replaced by that path with nodes that keep it, where these give the sort's order.
+#![tactic(auto)]
+
 ghost use Rattle.std.specs.Prelude.{◌≡◌, false, [], ◌∷◌, suc, ◌+◌};
 ghost use Rattle.plan.specs.Forest.{size};
 ghost use Rattle.plan_codec.specs.Decode.{decode, from_bytes};

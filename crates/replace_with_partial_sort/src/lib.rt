@@ -1,4 +1,6 @@
 // enforce_sorting/mod.rs: replace_with_partial_sort, which works on one node.
+#![tactic(auto)]
+
 ghost use Rattle.std.specs.Prelude.{◌≡◌};
 ghost use Rattle.walks.specs.Marks.{op_t, strip};
 ghost use Rattle.walks.specs.PartialSort.{replace_with_partial_sort as replaced};
@@ -12,7 +14,7 @@ use node_properties::{is_sort, keys};
 use plan_context::kept::{row, summary};
 
 // What becomes of the node: itself, or a partial sort with this many keys met.
-#[derive(Drop)]
+#[derive(Clone, Copy)]
 pub enum Replaced {
     Same,
     Partial(usize),

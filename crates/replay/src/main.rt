@@ -1,5 +1,7 @@
 // Replays the cases of data/cases (made by tools/replay_cases.py) and compares each answer with the one that the case gives: the number, and every byte of
 // the output that was lent. A case is a header of 20 bytes, then the plan file, then the file that the call is to write.
+#![tactic(auto)]
+
 use libc::STDOUT_FILENO;
 
 // Longer than the longest file that a case holds, so that a file which is too long is read whole.
@@ -22,7 +24,7 @@ const NONE: u32 = 255;
 // What each byte of the output is before a call.
 const FRESH: u8 = 165;
 
-#[derive(Drop)]
+#[derive(Clone, Copy)]
 pub struct Tally {
     pub cases: u64,
     pub refused: u64,
@@ -32,7 +34,7 @@ pub struct Tally {
 }
 
 // The call with its settings and its node, the lengths of the plan file, of the output and of the file that is to be written, and what is to be answered.
-#[derive(Drop)]
+#[derive(Clone, Copy)]
 pub struct Case {
     pub call: u32,
     pub number: u32,
@@ -46,7 +48,7 @@ pub struct Case {
     pub node: u32,
 }
 
-#[derive(Drop)]
+#[derive(Clone, Copy)]
 pub enum Next {
     Found(Case),
     End,

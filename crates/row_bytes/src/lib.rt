@@ -1,4 +1,6 @@
 // The rows of a dry run as bytes: whether they have 02's form (refusal 26), and a cell's number.
+#![tactic(auto)]
+
 ghost use Rattle.std.specs.Prelude.{◌≡◌, true, not, ◌||◌, ℕ, ◌+◌, ◌*◌, ◌≤◌, ◌<◌, map, length, get_or, take};
 ghost use Rattle.row_order.specs.Iso.{equal};
 ghost use Rattle.row_order.specs.Lists.{concat};

@@ -1,5 +1,6 @@
 // The facts of a node from its record and its children's stored facts, over the bytes that its own slot keeps. Kinds that keep
 // constants and classes copy the child's bytes and change streams and order; no facts are taken apart for them.
+#![tactic(auto)]
 
 ghost use Rattle.std.specs.Prelude.{◌≡◌, true, cond, [], ◌++◌, map, ◌+◌, ◌-◌, ◌≤◌, ◌<◌, length, get_or, take, drop};
 ghost use Rattle.row_order.specs.Packed.{key_of};

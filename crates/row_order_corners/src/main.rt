@@ -1,5 +1,7 @@
 // Runs compare_rows on the corner cases of the ISO order, and writes for each group whether it holds. The answers that it wants
 // are written here from the rules of the standard; each case is also run with its two rows exchanged, and must then turn.
+#![tactic(auto)]
+
 use row_order::{Comparison, compare_rows};
 
 const LEAST: i64 = -9223372036854775808;

@@ -1,4 +1,6 @@
 // The rows of a dry run (02, P3), read into the stepper's tables: "bytes in .. per stream, in node and stream order".
+#![tactic(auto)]
+
 pub mod counts;
 
 ghost use Rattle.std.specs.Prelude.{◌≡◌, true, ◌++◌, map, ℕ, ◌+◌, ◌*◌, ◌<◌, ◌≤◌, length, take, set};

@@ -1,4 +1,6 @@
 // Whether the orders that a node wants are met, from its record and the stored facts of its children.
+#![tactic(auto)]
+
 ghost use Rattle.std.specs.Prelude.{◌≡◌, true, ◌≤◌, length};
 ghost use Rattle.fact_slots.specs.Slots.{loaded};
 ghost use Rattle.semantics.specs.Check.{wants_met};

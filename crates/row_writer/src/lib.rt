@@ -1,5 +1,7 @@
 // The rows of a dry run written as bytes (02, P3): "per stream, in node and stream order, a row count in four, then by row the null set in four
 // and each cell in eight, 0 for a null".
+#![tactic(auto)]
+
 ghost use Rattle.std.specs.Prelude.{◌≡◌, List, ◌++◌, ℕ, ◌+◌, ◌≤◌, ◌<◌, eqb, ℤ, length, get_or, drop};
 ghost use Rattle.row_order.specs.Packed.{bit, cell_of, row_of};
 ghost use Rattle.stepping.specs.RowBytes.{unsigned, little_endian, row_size, cell_bytes, null_set, row_bytes, stream_bytes, streams_bytes};

@@ -1,4 +1,6 @@
 // Lent slices of bytes: sums, zeros, little-endian numbers, copies.
+#![tactic(auto)]
+
 ghost use Rattle.std.specs.Prelude.{◌≡◌, ◌+◌, ◌≤◌, ◌<◌, length, get_or, replicate};
 ghost use Rattle.scan.specs.Bytes.{total, zeros, le16, le32, part};
 ghost use Rattle.scan.specs.Words.{value};

@@ -1,1 +1,2 @@
 // The facts of a node, the order check and runs, and their theorems: see specs/.
+#![tactic(auto)]

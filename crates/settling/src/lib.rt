@@ -1,4 +1,6 @@
 // What is kept of a node, from its record and from what is kept of its children: they stand in older slots.
+#![tactic(auto)]
+
 ghost use Rattle.std.specs.Prelude.{◌≡◌, ℕ, ◌<◌, length, get_or};
 ghost use Rattle.plan.specs.Numbers.{kind_of};
 ghost use Rattle.plan.specs.declared.Kind.TheVariants.{Source, Union};

@@ -1,5 +1,7 @@
 // The C exports, on numbers and byte slices. Each answers the number of its refusal, or 0; a refusal leaves what was lent alone, and bytes past the file
 // that is written stay.
+#![tactic(auto)]
+
 ghost use Rattle.std.specs.Prelude.{◌≡◌};
 ghost use Rattle.plan.specs.Numbers.{number_of};
 ghost use Rattle.plan_format.specs.Reading.{refusal_of};

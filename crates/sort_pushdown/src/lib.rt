@@ -1,4 +1,6 @@
 // sort_pushdown.rs, second part: what a visit of a node decides. pushdown_sorts carries it out.
+#![tactic(auto)]
+
 pub mod children;
 pub mod deciding;
 pub mod new_nodes;
@@ -14,7 +16,7 @@ use plan::Fetch;
 use push_requirements::ParentRequirements;
 
 // What a node is visited with. touch: it is rebuilt before it is looked at. root: its children have the requirements of assign_initial_requirements.
-#[derive(Drop)]
+#[derive(Clone, Copy)]
 pub struct Visit {
     pub req: ParentRequirements,
     pub touch: bool,
@@ -36,7 +38,7 @@ impl Visit {
 }
 
 // New nodes over a node: a merge over a sort; of no order, none.
-#[derive(Drop)]
+#[derive(Clone, Copy)]
 pub struct NewNodes {
     pub merge: Order,
     pub mfetch: Fetch,
@@ -46,7 +48,7 @@ pub struct NewNodes {
 }
 
 // What the children are visited with: the first, and the others alike. initial: each with its own fetch in that one's place.
-#[derive(Drop)]
+#[derive(Clone, Copy)]
 pub struct ChildRequirements {
     pub first: ParentRequirements,
     pub rest: ParentRequirements,
@@ -56,7 +58,7 @@ pub struct ChildRequirements {
 // tops: the new nodes. gone: the node, a sort, goes, and its child is rebuilt before it is looked at. rebuilt: the node, if it stays, is rebuilt over its
 // children as
 // they are. peak: the steps reach one node more on the way. quiet: no step ends here.
-#[derive(Drop)]
+#[derive(Clone, Copy)]
 pub struct Decision {
     pub tops: NewNodes,
     pub gone: bool,

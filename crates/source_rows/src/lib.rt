@@ -1,4 +1,6 @@
 // The refusals of a dry run (02, P3), from the plan file's records and the rows' bytes.
+#![tactic(auto)]
+
 ghost use Rattle.std.specs.Prelude.{◌≡◌, true, [], ℕ, ◌+◌, ◌≤◌, ◌<◌, length, get_or};
 ghost use Rattle.plan.specs.Numbers.{number_of};
 ghost use Rattle.plan_format.specs.Blocks.{record_count, record_start, record_at};

@@ -1,4 +1,6 @@
 // The end of a step: the nodes of the whole plan are counted (refusal 23), and what only steps needed is given back. And how a walk ends or stops.
+#![tactic(auto)]
+
 ghost use Rattle.std.specs.Prelude.{◌≡◌, ◌+◌};
 ghost use Rattle.plan_context.specs.View.{tree_of};
 ghost use Rattle.step_ends.specs.Tidying.{enough, Tidies, Tidied};
@@ -9,14 +11,14 @@ use plan_context::kept::nodes;
 use plan_copies::copy;
 
 // Why a walk stops: refusal 23, or the arena is too small for it.
-#[derive(Drop)]
+#[derive(Clone, Copy)]
 pub enum Stop {
     TooManyNodes,
     NoRoom,
 }
 
 // What the walk of a subtree answers: the slots used, the handle of the new tree, and the nodes of the whole plan.
-#[derive(Drop)]
+#[derive(Clone, Copy)]
 pub enum Walked {
     Done(usize, usize, usize),
     Stopped(Stop),

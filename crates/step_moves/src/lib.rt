@@ -1,4 +1,6 @@
 // One step of a dry run (02, P3): "Each step moves one row through one operator", in the tables.
+#![tactic(auto)]
+
 ghost use Rattle.std.specs.Prelude.{◌≡◌, ◌*◌, ◌≤◌, ◌<◌, length, get_or};
 ghost use Rattle.step_tables.specs.Passes.{node_in};
 ghost use Rattle.step_moves.specs.Running.{Book};
@@ -11,14 +13,14 @@ use step_choices::{has_waiter, next_operator, output_stream};
 use step_tables::requeue;
 
 // Whether a row moved, and how many bytes are taken then.
-#[derive(Drop)]
+#[derive(Clone, Copy)]
 pub struct Progress {
     pub moved: bool,
     pub next: usize,
 }
 
 // What the tables say of a node: its slot, and its seven numbers.
-#[derive(Drop)]
+#[derive(Clone, Copy)]
 struct Seat {
     slot: usize,
     kind: usize,

@@ -1,4 +1,6 @@
 // The nodes of a plan that stands in the arena, as the stepper takes them (02, P3). Node order: parent first, then each child's subtree in order.
+#![tactic(auto)]
+
 ghost use Rattle.std.specs.Prelude.{◌≡◌, true, ◌+◌, ◌*◌, ◌≤◌, ◌<◌, eqb, length};
 ghost use Rattle.plan.specs.Numbers.{code};
 ghost use Rattle.semantics.specs.Facts.{at0, facts_op, facts};
@@ -32,35 +34,35 @@ use record_keys::packed_keys;
 pub const ROW: usize = 7;
 
 // What the walk answers: the number of the next node, and the next free place.
-#[derive(Drop)]
+#[derive(Clone, Copy)]
 struct Next {
     pub node: usize,
     pub place: usize,
 }
 
 // How many nodes a plan has, and how many places.
-#[derive(Drop)]
+#[derive(Clone, Copy)]
 pub struct Layout {
     pub nodes: usize,
     pub places: usize,
 }
 
 // Keys as row_order::compare_rows takes them: the first len of the items.
-#[derive(Drop)]
+#[derive(Clone, Copy)]
 pub struct KeyRow {
     pub items: [usize; 8],
     pub len: usize,
 }
 
 // What a node cuts off each of its output streams.
-#[derive(Drop)]
+#[derive(Clone, Copy)]
 pub struct Cut {
     pub skip: usize,
     pub fetch: Fetch,
 }
 
 // The child columns of a projection: the first len of the items.
-#[derive(Drop)]
+#[derive(Clone, Copy)]
 pub struct ColumnRow {
     pub items: [usize; 32],
     pub len: usize,

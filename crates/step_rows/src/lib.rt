@@ -1,4 +1,6 @@
 // Rows of a dry run: which one a merge takes, and what a projection makes of one.
+#![tactic(auto)]
+
 ghost use Rattle.std.specs.Prelude.{◌&&◌, ◌||◌, map, ◌+◌, ◌<◌, ◌≤◌, ltb, leb, length};
 ghost use Rattle.row_order.specs.Packed.{bit, key_of};
 ghost use Rattle.column_sets.specs.Sets.{Holding};
@@ -8,7 +10,7 @@ ghost use Rattle.step_rows.specs.Heads.{Tells, Turned, Leading};
 ghost use Rattle.step_rows.specs.Projecting.{Columns, Picks, Projected};
 
 // An input stream, and its first row's number in the order of arrival.
-#[derive(Drop)]
+#[derive(Clone, Copy)]
 pub struct Head {
     pub stream: usize,
     pub at: usize,

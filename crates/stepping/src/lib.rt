@@ -1,1 +1,2 @@
 // Dry runs: see specs/.
+#![tactic(auto)]

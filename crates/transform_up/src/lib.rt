@@ -1,6 +1,8 @@
 // The walks that go children before parents: one frame for all of them. "Children before parents, each node once": a walk calls itself on each child's
 // subtree, left to
 // right; then one step; then the nodes of the whole plan are counted.
+#![tactic(auto)]
+
 ghost use Rattle.std.specs.Prelude.{false, suc, ◌+◌};
 ghost use Rattle.plan.specs.Forest.{size};
 ghost use Rattle.plan_codec.specs.Decode.{decode};
@@ -22,7 +24,7 @@ use step_ends::{Stop, Walked, end_step, has_room};
 use walk_settings::Settings;
 
 // Which walk it is.
-#[derive(Drop)]
+#[derive(Clone, Copy)]
 pub enum Walk {
     Ensure,
     Parallelize,

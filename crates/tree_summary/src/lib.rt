@@ -1,11 +1,13 @@
 // The summary of a tree: what a slot keeps of its node's tree beside the facts, from the node's record and from the summary of its children.
+#![tactic(auto)]
+
 ghost use Rattle.std.specs.Prelude.{◌≡◌, cond, ◌<◌, eqb, length, get_or};
 ghost use Rattle.tree_summary.specs.Own.{fetch_in, endless_in, own};
 
 use plan::NO_FETCH;
 
 // Whether the order check passes in the tree, whether it is unbounded, its nodes, and the plan's fetch, NO_FETCH for none.
-#[derive(Drop)]
+#[derive(Clone, Copy)]
 pub struct Summary {
     pub passes: bool,
     pub endless: bool,

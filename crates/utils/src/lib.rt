@@ -1,4 +1,6 @@
 // utils.rs: sorts put above a node. Its tests of kinds (is_sort and the others) are node_properties'.
+#![tactic(auto)]
+
 ghost use Rattle.std.specs.Prelude.{false, ◌+◌};
 ghost use Rattle.key_lists.specs.Keys.{keys_of};
 ghost use Rattle.walks.specs.Utils.{add_sort_above, add_sort_above_with_distribution, add_sort_above_with_check};

@@ -1,4 +1,6 @@
 // The walks from the leaves up as calls: on the plan that was read, and its answer to the output.
+#![tactic(auto)]
+
 ghost use Rattle.plan_context.specs.View.{tree_of};
 ghost use Rattle.plan_context.specs.Records.{plan_t};
 ghost use Rattle.call_parts.specs.Calls.{CalledAs, short_of, Loads};

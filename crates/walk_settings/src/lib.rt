@@ -1,10 +1,12 @@
 // The settings of the order-preserving walk, and the bytes that give them.
+#![tactic(auto)]
+
 ghost use Rattle.std.specs.Prelude.{◌≡◌};
 ghost use Rattle.call_answers.specs.Answers.{settings_in};
 ghost use Rattle.walk_settings.specs.Settings.{settings_of};
 
 // 01, 'The four walks': "settings: spr better, spm better, prefer existing".
-#[derive(Drop)]
+#[derive(Clone, Copy)]
 pub struct Settings {
     pub spr: bool,
     pub spm: bool,

@@ -1,1 +1,2 @@
 // The walks as definitions, and their theorems: see specs/.
+#![tactic(auto)]

@@ -1,4 +1,6 @@
 // What a node wants of its children (semantics, Properties): the order and the distribution, by its record.
+#![tactic(auto)]
+
 ghost use Rattle.std.specs.Prelude.{◌≡◌, [], ◌∷◌, ◌≤◌, get_or};
 ghost use Rattle.plan.specs.Op.{kind};
 ghost use Rattle.plan.specs.Numbers.{kind_of};

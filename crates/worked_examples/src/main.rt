@@ -1,10 +1,12 @@
 // Runs worked examples of document 01 ('Worked on paper'), one of docs/DECISIONS.md and one of document 02 (P1) on the plan files of data/, which
 // tools/worked_examples.py makes. Of a check it writes a line: a refusal's number or that the plan is accepted, and whether a wanted order is met; of a
 // rewrite the listing of the plan that comes of it, or the refusal's number.
+#![tactic(auto)]
+
 use libc::STDOUT_FILENO;
 
 // What the export answers, and what it leaves in the lent number.
-#[derive(Drop)]
+#[derive(Clone, Copy)]
 struct Checked {
     number: u32,
     passes: u32,
