@@ -84,6 +84,7 @@ module _ {A : Type 0} where
   tabulate (x ∷ l) f = all_cons (f x (here refl)) (tabulate l (λ y h. f y (there h)))
 
   pub lookup : {P : A → Type 0} {l : List A} → All P l → (x : A) → Mem x l → P x
+  lookup all_nil x h = elim h [ ]
   lookup {P} (all_cons {x = y} p ps) x (here e) = subst P (sym e) p
   lookup (all_cons p ps) x (there h) = lookup ps x h
 
