@@ -76,6 +76,7 @@ one_all : (c : ℕ) (x : Row) (l : List Row) → one_cell c (x ∷ l) ≡ true �
 one_all c x l e = all_cons refl (all_map (λ y h. cells_same (cell x c) (cell y c) h) (every_all (λ y. equal (cell x c) (cell y c)) l e))
 
 one_agree : (c : ℕ) (l : List Row) → one_cell c l ≡ true → (x y : Row) → Mem x l → Mem y l → cell x c ≡ cell y c
+one_agree c [] e x y p q = elim p [ ]
 one_agree c (z ∷ l) e x y p q = sym (lookup (one_all c z l e) x p) ∙ lookup (one_all c z l e) y q
 
 agree_one : (c : ℕ) (l : List Row) → ((x y : Row) → Mem x l → Mem y l → cell x c ≡ cell y c) → one_cell c l ≡ true

@@ -74,9 +74,9 @@ keep_mem {A} p {x} e (there {x = y} {xs = l} h) = go (p y) (keep_mem p e h)
 abbrev pub Begun : List Key → List Row → Row → Type 0
 Begun ks l y = (x : Row) × Mem x (begins ks l) × (one_group ks x y ≡ true)
 
-pub begins_all_groups : (ks : List Key) (l : List Row) (y : Row) → Mem y l → Begun ks l y
-begins_all_groups ks l y (here {x = x} {xs = m} e) = (x, here refl, cells_group ks x y (ap (proj (columns_of ks)) (sym e)))
-begins_all_groups ks l y (there {x = x} {xs = m} h) = go (begins_all_groups ks m y h)
+begun_at : (ks : List Key) (y : Row) (l : List Row) → Mem y l → Begun ks l y
+begun_at ks y l (here {x = x} {xs = m} e) = (x, here refl, cells_group ks x y (ap (proj (columns_of ks)) (sym e)))
+begun_at ks y l (there {x = x} {xs = m} h) = go (begun_at ks y m h)
   where
     pick : (z : Row) → Mem z (begins ks m) → one_group ks z y ≡ true → (b : Bool) → one_group ks x z ≡ b → Begun ks (x ∷ m) y
     pick z k e true f = (x, here refl, cells_group ks x y (group_cells ks x z f ∙ group_cells ks z y e))
@@ -84,6 +84,9 @@ begins_all_groups ks l y (there {x = x} {xs = m} h) = go (begins_all_groups ks m
 
     go : Begun ks m y → Begun ks (x ∷ m) y
     go (z, k, e) = pick z k e (one_group ks x z) refl
+
+pub begins_all_groups : (ks : List Key) (l : List Row) (y : Row) → Mem y l → Begun ks l y
+begins_all_groups ks l y h = begun_at ks y l h
 
 -- ---- in the order in which the groups begin: a further row begins a group exactly if no row before it is of that group, and comes last then
 abbrev pub has_group : List Key → List Row → Row → Bool

@@ -86,7 +86,8 @@ ensure_each-good w b s f (tree m c r) a h k =
     record {
       good = good_plant (ensure_child (w 0) (b 0) (s 0) f (at m c)) (ensure_each (λ i. w (suc i)) (λ i. b (suc i)) (λ i. s (suc i)) f r) here.good
           rest.good;
-      grants = λ i. elim i [ zero ↦ λ l. here.grants | suc j ↦ λ l. rest.grants j (omega arith) ];
+      grants = λ i. elim i as (λ (k : ℕ). k < count (tree m c r) → met (get_or (known (ensure_each w b s f (tree m c r))) k nothing) (w k) ≡ true)
+          [ zero ↦ λ l. here.grants | suc j ↦ λ l. rest.grants j (omega arith) ];
       size = ap suc rest.size;
     }
 
