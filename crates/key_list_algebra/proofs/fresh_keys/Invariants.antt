@@ -1,0 +1,10 @@
+use Rattle.row_order.specs.Packed.{bit}
+use Rattle.key_lists.specs.Keys.{keys_in}
+use Rattle.key_list_algebra.specs.Normalising.{Normalising}
+use Rattle.key_list_algebra.proofs.fresh_keys.Given as goal
+
+abbrev pub invariant-loop-left : goal.invariant-loop-left
+invariant-loop-left l = Normalising (bit l.consts) (λ c. c) (keys_in l.initial.left l.initial.rest) l.out l.gone l.rest l.left
+
+abbrev pub decreases-loop-left : goal.decreases-loop-left
+decreases-loop-left l = l.left

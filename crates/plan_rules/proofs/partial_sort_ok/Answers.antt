@@ -1,0 +1,6 @@
+use Rattle.plan_format.specs.Fields.{fields_of}
+use Rattle.plan_rules.specs.Rules.{rules}
+use Rattle.plan_rules.proofs.partial_sort_ok.Goals as goal
+
+pub returns : goal.returns
+returns c = rules (fields_of 14) c.args.r.now c.sort.ensures c.partial_sort.ensures (λ _. c.ok.ensures) c.none.ensures

@@ -1,0 +1,13 @@
+use native.Mathlib.Omega.{arith}
+use mathlib.Core.Bool.{false}
+use mathlib.Core.Path.{refl, ◌∙◌}
+use Rattle.plan_format.specs.Fields.{fields_of}
+use Rattle.plan_rules.specs.Rules.{rules, no_count}
+use Rattle.record_lists.specs.Slots.{no_keys}
+use Rattle.plan_rules.proofs.projection_ok.Goals as goal
+
+pub returns : goal.returns
+returns c = let r = c.args.r.now in
+    rules (fields_of 3) r c.none.ensures c.projection.ensures
+    (λ b. c.none-2.ensures ∙ no_keys false r (λ i. omega (arith, c.type_inv.r i)) c.requires
+    (no_count (fields_of 3) r refl refl b)) c.zero_from.ensures

@@ -1,0 +1,6 @@
+use Rattle.plan_format.specs.Fields.{fields_of}
+use Rattle.plan_rules.specs.Rules.{rules}
+use Rattle.plan_rules.proofs.sort_merge_join_ok.Goals as goal
+
+pub returns : goal.returns
+returns c = rules (fields_of 11) c.args.r.now c.none.ensures c.join.ensures (λ _. c.ok.ensures) c.zero_from.ensures

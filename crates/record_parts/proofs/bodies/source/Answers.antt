@@ -1,0 +1,11 @@
+use Prim.Native.Nat.{ℕ}
+use mathlib.Core.Path.{ap, ◌∙◌}
+use mathlib.Core.Bool.{◌&&◌}
+use lib.Dec.{eqb, leb}
+use lib.ListN.{get_or}
+use Rattle.record_parts.specs.Kinds.{body_source}
+use Rattle.record_parts.proofs.bodies.source.Goals as goal
+
+pub returns : goal.returns
+returns c = let r = c.args.r.now in ap (λ (a : ℕ). (leb (get_or r 12 0) 8 && (leb 1 (get_or r 13 0) && leb (get_or r 13 0) 32)) && eqb a 0) c.get16.ensures
+    ∙ body_source r

@@ -1,0 +1,13 @@
+use mathlib.Core.Path.{◌≡◌}
+use mathlib.Core.Bool.{true}
+use Rattle.plan.specs.WellFormed.{every}
+use Rattle.stepping.specs.RowBytes.{row_at, streams_at}
+use Rattle.row_bytes.specs.Streams.{alike, streams_fit}
+use Rattle.row_bytes.specs.Constants.{agrees}
+use Rattle.row_bytes.proofs.source_agrees.Given as goal
+
+abbrev pub invariant-loop-left : goal.invariant-loop-left
+invariant-loop-left l = (streams_fit l.s l.a (alike l.left l.w) ≡ true) × (every (every (agrees (row_at l.s l.first l.w) l.c)) (streams_at l.s l.a (alike l.left l.w)) ≡ every (every (agrees (row_at l.s l.first l.w) l.c)) (streams_at l.s l.at (alike l.k l.w)))
+
+abbrev pub decreases-loop-left : goal.decreases-loop-left
+decreases-loop-left l = l.left

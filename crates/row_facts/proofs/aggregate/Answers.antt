@@ -1,0 +1,26 @@
+use Prim.Native.Nat.{◌-◌}
+use lib.ListN.{get_or}
+use Rattle.semantics.specs.Facts as sem
+use Rattle.facts.specs.Known.{known}
+use Rattle.fact_slots.specs.Slots.{loaded}
+use Rattle.node_facts.specs.Ready.{count, groups_in}
+use Rattle.row_facts.specs.Over.{stored_says, streams_less}
+use Rattle.row_facts.proofs.aggregate.Goals as goal
+
+pub aggregated-g-requires : goal.aggregated-g-requires
+aggregated-g-requires c = rw c.load_row-f.ensures (c.requires.1, c.requires.2, c.requires.4, c.requires.5, c.requires.6)
+
+pub store-requires : goal.store-requires
+store-requires c = let f = c.load_row-f.result in
+    let e = c.load_row-f.ensures in let g = c.aggregated-g.result in let r = c.args.r.now in (
+      c.requires.0,
+      c.aggregated-g.ensures.fine,
+      streams_less (sem.placed (sem.proj_facts (known f) (groups_in r)) (get_or r 13 0 - count r)) g c.aggregated-g.ensures (rw e c.requires.7),
+    )
+
+pub returns : goal.returns
+returns c = let r = c.args.r.now in
+    stored_says (sem.placed (sem.proj_facts (known (loaded c.args.b.now)) (groups_in r)) (get_or r 13 0 - count r))
+    c.aggregated-g.result c.args.own.now c.store.new.b
+    (rw c.load_row-f.ensures at c.aggregated-g.ensures)
+    c.store.ensures

@@ -1,0 +1,12 @@
+use Prim.Native.Nat.{◌≤◌, ◌+◌, ◌-◌}
+use mathlib.Core.Path.{◌≡◌}
+use mathlib.Core.List.{◌++◌}
+use lib.ListN.{length, take}
+use Rattle.stepping.specs.RowBytes.{numbers_at}
+use Rattle.row_reader.proofs.read_cells.Given as goal
+
+abbrev pub invariant-loop-c : goal.invariant-loop-c
+invariant-loop-c l = (l.c ≤ l.w) × (length l.cells ≡ length l.initial.cells) × (take (l.b + l.c) l.cells ≡ take l.b l.initial.cells ++ numbers_at l.rows l.at l.c)
+
+abbrev pub decreases-loop-c : goal.decreases-loop-c
+decreases-loop-c l = l.w - l.c

@@ -1,0 +1,150 @@
+use borrow.Author.Rules.{rules}
+use native.Mathlib.Omega.{arith}
+use mathlib.Core.Path.{refl, sym, ap, ◌∙◌}
+use Rattle.scan.specs.Below.{and_left}
+use Rattle.plan.specs.WellFormed.{keys_fit}
+use Rattle.plan.specs.declared.Kind.TheVariants.{Source, Filter, Projection, Union, Repartition, Coalesce, Sort, Merge, GlobalLimit, LocalLimit, HashJoin, OutputRequirement, PartialSort, Aggregate}
+use lib.ListN.{length, take}
+use Rattle.semantics.specs.Facts as sem
+use Rattle.plan_codec.specs.Decode.{from_bytes}
+use Rattle.key_lists.specs.Lists.{length_keys}
+use Rattle.key_lists.specs.Keys.{keys_of}
+use Rattle.facts.specs.Known.{known}
+use Rattle.fact_slots.specs.Slots.{loaded}
+use Rattle.node_facts.specs.Rules.{few, unary_keys}
+use Rattle.node_facts.specs.Wants.{no_want, one_want, both_want, prefix_inside, prefix_want}
+use Rattle.row_wants.proofs.wants_met.Goals as goal
+
+pub key_list-requires : goal.key_list-requires
+key_list-requires c = let r = c.args.r.now in let h = c.requires.2 in
+    (h.long, few r h.rules)
+
+pub meets-requires : goal.meets-requires
+meets-requires c = let h = c.requires.2 in
+    record { long = c.requires.0; fine = h.first }
+
+pub key_list-requires-in-SortMergeJoin : goal.key_list-requires-in-SortMergeJoin
+key_list-requires-in-SortMergeJoin c = let r = c.args.r.now in let h = c.requires.2 in
+    (h.long, few r h.rules)
+
+pub meets-requires-in-SortMergeJoin : goal.meets-requires-in-SortMergeJoin
+meets-requires-in-SortMergeJoin c = let h = c.requires.2 in
+    record { long = c.requires.0; fine = h.first }
+
+pub right_key_list-requires : goal.right_key_list-requires
+right_key_list-requires c = let r = c.args.r.now in
+    let h = c.requires.2 in (h.long, few r h.rules)
+
+pub meets-requires-in-SortMergeJoin-2 : goal.meets-requires-in-SortMergeJoin-2
+meets-requires-in-SortMergeJoin-2 c = let h = c.requires.2 in
+    record { long = c.requires.1; fine = h.second }
+
+pub key_list-requires-in-OutputRequirement : goal.key_list-requires-in-OutputRequirement
+key_list-requires-in-OutputRequirement c = let r = c.args.r.now in let h = c.requires.2 in
+    (h.long, few r h.rules)
+
+pub meets-requires-in-OutputRequirement : goal.meets-requires-in-OutputRequirement
+meets-requires-in-OutputRequirement c = let h = c.requires.2 in
+    record { long = c.requires.0; fine = h.first }
+
+pub key_list-requires-in-PartialSort : goal.key_list-requires-in-PartialSort
+key_list-requires-in-PartialSort c = let r = c.args.r.now in let h = c.requires.2 in
+    (h.long, few r h.rules)
+
+pub front-requires : goal.front-requires
+front-requires c = let r = c.args.r.now in
+    let f = loaded c.args.first.now in let g = loaded c.args.second.now in let h = c.requires.2 in
+    let e = sym c.kind_of-kind.ensures ∙ c.in-PartialSort.is in
+    let k = c.key_list-in-PartialSort.result in
+    let n = sym (length_keys k.len k.word) ∙ ap length (c.key_list-in-PartialSort.ensures.is ∙ unary_keys r f g h PartialSort e (λ n. refl)
+    (λ z. z)) in (omega (arith, prefix_inside r f g h e, c.wide.ensures), c.key_list-in-PartialSort.ensures.few)
+
+pub meets-requires-in-PartialSort : goal.meets-requires-in-PartialSort
+meets-requires-in-PartialSort c = record { long = c.requires.0; fine = c.requires.2.first }
+
+pub returns-in-Source : goal.returns-in-Source
+returns-in-Source c = let r = c.args.r.now in let f = loaded c.args.first.now in
+    let g = loaded c.args.second.now in let h = c.requires.2 in let e = sym c.kind_of-kind.ensures ∙ c.in-Source.is in
+    no_want r f g h Source e refl
+
+pub returns-in-Filter : goal.returns-in-Filter
+returns-in-Filter c = let r = c.args.r.now in let f = loaded c.args.first.now in
+    let g = loaded c.args.second.now in let h = c.requires.2 in let e = sym c.kind_of-kind.ensures ∙ c.in-Filter.is in
+    no_want r f g h Filter e refl
+
+pub returns-in-Projection : goal.returns-in-Projection
+returns-in-Projection c = let r = c.args.r.now in let f = loaded c.args.first.now in
+    let g = loaded c.args.second.now in let h = c.requires.2 in let e = sym c.kind_of-kind.ensures ∙ c.in-Projection.is in
+    no_want r f g h Projection e refl
+
+pub returns-in-Union : goal.returns-in-Union
+returns-in-Union c = let r = c.args.r.now in let f = loaded c.args.first.now in
+    let g = loaded c.args.second.now in let h = c.requires.2 in let e = sym c.kind_of-kind.ensures ∙ c.in-Union.is in
+    no_want r f g h Union e refl
+
+pub returns-in-Repartition : goal.returns-in-Repartition
+returns-in-Repartition c = let r = c.args.r.now in let f = loaded c.args.first.now in
+    let g = loaded c.args.second.now in let h = c.requires.2 in let e = sym c.kind_of-kind.ensures ∙ c.in-Repartition.is in
+    no_want r f g h Repartition e refl
+
+pub returns-in-Coalesce : goal.returns-in-Coalesce
+returns-in-Coalesce c = let r = c.args.r.now in let f = loaded c.args.first.now in
+    let g = loaded c.args.second.now in let h = c.requires.2 in let e = sym c.kind_of-kind.ensures ∙ c.in-Coalesce.is in
+    no_want r f g h Coalesce e refl
+
+pub returns-in-Sort : goal.returns-in-Sort
+returns-in-Sort c = let r = c.args.r.now in let f = loaded c.args.first.now in
+    let g = loaded c.args.second.now in let h = c.requires.2 in let e = sym c.kind_of-kind.ensures ∙ c.in-Sort.is in
+    no_want r f g h Sort e refl
+
+pub returns-in-Merge : goal.returns-in-Merge
+returns-in-Merge c = let r = c.args.r.now in
+    let f = loaded c.args.first.now in let g = loaded c.args.second.now in let h = c.requires.2 in
+    let e = sym c.kind_of-kind.ensures ∙ c.in-Merge.is in
+    one_want r f g h Merge e (λ n. refl) (keys_of c.key_list.result) (from_bytes r).keys refl
+    (c.key_list.ensures.is ∙ unary_keys r f g h Merge e (λ n. refl) (λ z. z)) c.meets.result c.meets.ensures
+
+pub returns-in-GlobalLimit : goal.returns-in-GlobalLimit
+returns-in-GlobalLimit c = let r = c.args.r.now in let f = loaded c.args.first.now in
+    let g = loaded c.args.second.now in let h = c.requires.2 in let e = sym c.kind_of-kind.ensures ∙ c.in-GlobalLimit.is in
+    no_want r f g h GlobalLimit e refl
+
+pub returns-in-LocalLimit : goal.returns-in-LocalLimit
+returns-in-LocalLimit c = let r = c.args.r.now in let f = loaded c.args.first.now in
+    let g = loaded c.args.second.now in let h = c.requires.2 in let e = sym c.kind_of-kind.ensures ∙ c.in-LocalLimit.is in
+    no_want r f g h LocalLimit e refl
+
+pub returns-in-SortMergeJoin : goal.returns-in-SortMergeJoin
+returns-in-SortMergeJoin c = let r = c.args.r.now in
+    let f = loaded c.args.first.now in let g = loaded c.args.second.now in let h = c.requires.2 in
+    let e = sym c.kind_of-kind.ensures ∙ c.in-SortMergeJoin.is in
+    both_want r f g h e c.meets-in-SortMergeJoin.result c.meets-in-SortMergeJoin-2.result
+    (c.meets-in-SortMergeJoin.ensures ∙ ap (sem.met (known f)) c.key_list-in-SortMergeJoin.ensures.is)
+    (c.meets-in-SortMergeJoin-2.ensures ∙ ap (sem.met (known g)) c.right_key_list.ensures.is)
+
+pub returns-in-HashJoin : goal.returns-in-HashJoin
+returns-in-HashJoin c = let r = c.args.r.now in let f = loaded c.args.first.now in
+    let g = loaded c.args.second.now in let h = c.requires.2 in let e = sym c.kind_of-kind.ensures ∙ c.in-HashJoin.is in
+    no_want r f g h HashJoin e refl
+
+pub returns-in-OutputRequirement : goal.returns-in-OutputRequirement
+returns-in-OutputRequirement c = let r = c.args.r.now in
+    let f = loaded c.args.first.now in let g = loaded c.args.second.now in let h = c.requires.2 in
+    let e = sym c.kind_of-kind.ensures ∙ c.in-OutputRequirement.is in
+    one_want r f g h OutputRequirement e (λ n. refl) (keys_of c.key_list-in-OutputRequirement.result) (from_bytes r).keys refl
+    (c.key_list-in-OutputRequirement.ensures.is ∙ unary_keys r f g h OutputRequirement e (λ n. refl) (λ z. and_left (keys_fit f.width (from_bytes r).keys) _ z))
+    c.meets-in-OutputRequirement.result c.meets-in-OutputRequirement.ensures
+
+pub returns-in-PartialSort : goal.returns-in-PartialSort
+returns-in-PartialSort c = let r = c.args.r.now in
+    let f = loaded c.args.first.now in let g = loaded c.args.second.now in let h = c.requires.2 in
+    let e = sym c.kind_of-kind.ensures
+    ∙ c.in-PartialSort.is in let k = keys_of c.key_list-in-PartialSort.result in
+    prefix_want r f g h e k c.key_list-in-PartialSort.ensures.is c.meets-in-PartialSort.result
+    (c.meets-in-PartialSort.ensures ∙ ap (sem.met (known f)) c.front.ensures.is ∙ ap (λ n. sem.met (known f) (take n k))
+    c.wide.ensures)
+
+pub returns-in-Aggregate : goal.returns-in-Aggregate
+returns-in-Aggregate c = let r = c.args.r.now in let f = loaded c.args.first.now in
+    let g = loaded c.args.second.now in let h = c.requires.2 in let e = sym c.kind_of-kind.ensures ∙ c.in-Aggregate.is in
+    no_want r f g h Aggregate e refl

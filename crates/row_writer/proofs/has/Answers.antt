@@ -1,0 +1,5 @@
+use Rattle.row_order.specs.Comparing.{masked}
+use Rattle.row_writer.proofs.has.Goals as goal
+
+pub returns : goal.returns
+returns c = masked c.args.set c.args.c
