@@ -20,9 +20,10 @@ use Rattle.arena.specs.Arena.{slot_size, index, slot, Below}
 use Rattle.arena.specs.Laws.{below_at, below_more, below_set}
 use Rattle.arena.specs.declared.At.{At}
 use Rattle.walks.specs.Marks.{Marked, Tree, strip, known, node, op_t, fact, set_mark, kid0, rebuild, shape}
-use Rattle.walks.specs.Theorems.Common.Trees.{OkT, ok_fit, arity, children_fit, FitsA}
-use Rattle.walks.specs.Theorems.Common.Keeps.{kept_node, like_refl, KeepsAll, all_kept_refl, shape_ind}
-use Rattle.walks.specs.Theorems.Parallelize.Kept.{first_removed_kept}
+use Rattle.walks.specs.Trees.{OkT, arity, FitsA}
+use Rattle.walks.proofs.Theorems.Common.Trees.{ok_fit, children_fit}
+use Rattle.walks.proofs.Theorems.Common.Keeps.{kept_node, like_refl, KeepsAll, all_kept_refl, shape_ind}
+use Rattle.walks.proofs.Theorems.Parallelize.Kept.{first_removed_kept}
 use Rattle.walks.specs.ParallelizeSorts.{bottleneck, first_is, idle, lift_first, same_partitioning, without_idle, skip_same}
 use Rattle.plan_context.specs.View.{tree_of, forest, most_nodes, most_slots, Arena, Grown, Here, Over, Puts}
 use Rattle.plan_context.specs.Facts.{Tells}

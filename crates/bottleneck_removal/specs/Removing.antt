@@ -12,9 +12,10 @@ use Rattle.arena.specs.Arena.{slot_size, index, marked, slot}
 use Rattle.arena.specs.declared.At.{At}
 use Rattle.walks.specs.Marks.{Marked, Tree, strip, node, plant, over, op_t, size_t, kid0}
 use Rattle.walks.specs.Terms.{◌⊕◌}
-use Rattle.walks.specs.Theorems.Common.Trees.{OkT, ok_fit}
-use Rattle.walks.specs.Theorems.Common.Keeps.{kept_node, like_refl, KeepsAll}
-use Rattle.walks.specs.Theorems.Parallelize.Kept.{remove_bottleneck_in_subplan_impl_kept}
+use Rattle.walks.specs.Trees.{OkT}
+use Rattle.walks.proofs.Theorems.Common.Trees.{ok_fit}
+use Rattle.walks.proofs.Theorems.Common.Keeps.{kept_node, like_refl, KeepsAll}
+use Rattle.walks.proofs.Theorems.Parallelize.Kept.{remove_bottleneck_in_subplan_impl_kept}
 use Rattle.walks.specs.ParallelizeSorts.{bottleneck, first_is, without_self, lift_first, remove_bottleneck_in_subplan_impl, first_bottleneck_removed, remove_bottleneck_in_subplan, without_idle, skip_same}
 use Rattle.plan_context.specs.View.{tree_of, forest, most_slots, Arena, Grown, Puts}
 use Rattle.plan_updates.specs.Kids.{Kids, kids_none, kids_more, kids_forest}

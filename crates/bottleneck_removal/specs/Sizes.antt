@@ -6,7 +6,7 @@ use Rattle.plan.specs.Op.{Op}
 use Rattle.semantics.specs.Properties.{singles}
 use Rattle.walks.specs.Marks.{Marked, Tree, at, size_t, kid0, rebuild, shape}
 use Rattle.walks.specs.ParallelizeSorts.{bottleneck, first_is, idle, lift_first, remove_bottleneck_in_subplan_impl, first_bottleneck_removed, same_partitioning, without_idle, skip_same}
-use Rattle.walks.specs.Theorems.Calls.Counts.{cond_le}
+use Rattle.walks.proofs.Theorems.Calls.Counts.{cond_le}
 
 pub skip_size : (o : Op) (d : Tree) (c : Forest Marked) → size c ≤ size d.kids → size_t (skip_same o d c) ≤ size_t d
 skip_size o d none h = omega arith

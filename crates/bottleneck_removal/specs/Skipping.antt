@@ -7,9 +7,10 @@ use Rattle.plan_codec.specs.Decode.{decode}
 use Rattle.arena.specs.Arena.{slot_size, index, slot}
 use Rattle.walks.specs.Marks.{Tree, op_t}
 use Rattle.walks.specs.Terms.{passing}
-use Rattle.walks.specs.Theorems.Common.Trees.{children_fit, FitsA}
-use Rattle.walks.specs.Theorems.Common.Keeps.{pass_one}
-use Rattle.walks.specs.Theorems.Parallelize.Kept.{bottleneck-pass, part_pass}
+use Rattle.walks.specs.Trees.{FitsA}
+use Rattle.walks.proofs.Theorems.Common.Trees.{children_fit}
+use Rattle.walks.proofs.Theorems.Common.Keeps.{pass_one}
+use Rattle.walks.proofs.Theorems.Parallelize.Kept.{bottleneck-pass, part_pass}
 use Rattle.walks.specs.ParallelizeSorts.{bottleneck, same_partitioning, skip_same}
 use Rattle.plan_context.specs.View.{tree_of, forest, Arena}
 use Rattle.plan_updates.specs.ChildLoop.{up_to}

@@ -20,7 +20,8 @@ use Rattle.plan_codec.specs.Trees.{recorded, nodes-recorded}
 use Rattle.plan_codec.specs.Writing.{file_of_plan, records_of}
 use Rattle.semantics.specs.Facts.{facts}
 use Rattle.walks.specs.Marks.{Tree, strip, op_t, size_t}
-use Rattle.walks.specs.Theorems.Common.Trees.{Ok, strip-size}
+use Rattle.walks.specs.Trees.{Ok}
+use Rattle.walks.proofs.Theorems.Common.Trees.{strip-size}
 use Rattle.arena.specs.Arena as records
 use Rattle.arena.specs.Arena.{index, slot, held, at, tree_at, Below, Good}
 use Rattle.arena.specs.Laws.{at_new, at_old, length-trees}

@@ -17,7 +17,7 @@ use Rattle.record_fields.specs.Encoded.{code_byte}
 use Rattle.plan.specs.Forest.{size}
 use Rattle.plan_context.specs.Records.{plan_t}
 use Rattle.scan.specs.Below.{or_false}
-use Rattle.walks.specs.Theorems.Common.Trees.{strip-size}
+use Rattle.walks.proofs.Theorems.Common.Trees.{strip-size}
 
 abbrev pub partial_t : Tree → Bool
 partial_t t = eqb (code (op_t t)) 14 || has_partial_sort (strip t.kids)

@@ -28,7 +28,7 @@ use Rattle.key_lists.specs.Keys.{keys_of, Ordered}
 use Rattle.record_fields.specs.Kinds.{op_of}
 use Rattle.maintained_orders.specs.Nodes.{Among}
 use Rattle.walks.specs.SortPushdown as walk
-use Rattle.walks.specs.Theorems.Common.Keeps.{remark-same}
+use Rattle.walks.proofs.Theorems.Common.Keeps.{remark-same}
 use Rattle.push_requirements.specs.declared.Pushed.{Pushed}
 use Rattle.push_requirements.specs.Pushing.{HandsOn, SeenNode}
 use Rattle.push_requirements.specs.Answers.{none_in, by_is, by_some}

@@ -1,7 +1,7 @@
 -- Classes made one: their number stays a byte's, and where one holds a constant they are all constant (the two ways of a test). Assumes nothing.
 use Rattle.std.specs.Prelude.{◌≡◌, refl, Bool, true, false, ◌&&◌, ◌||◌, ℕ, min, ◌<◌, eqb}
 use Rattle.std.proofs.Common.{⊎_elim, arith, eqb-true}
-use Rattle.semantics.specs.Theorems.Common.Bools.{or_cases}
+use Rattle.semantics.proofs.Theorems.Common.Bools.{or_cases}
 
 pub spread : (a x t : Bool) → t ≡ true → a || x ≡ a || (x && t)
 spread a true t e = rw e

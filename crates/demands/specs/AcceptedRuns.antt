@@ -8,7 +8,7 @@ use Rattle.scan.specs.Bytes.{AllBytes}
 use Rattle.plan_codec.specs.Reading.{plan, reading}
 use Rattle.plan_codec.specs.RoundTrip.{read_well_formed}
 use Rattle.semantics.specs.Runs.{Streams, Env, Run}
-use Rattle.semantics.specs.Theorems.Runs.Exists.{run_exists}
+use Rattle.semantics.proofs.Theorems.Runs.Exists.{run_exists}
 
 pub accepted_runs : (s : List ℕ) (f : Plan) → AllBytes s → reading s ≡ plan f → (E : Env) → (out : Forest Streams) × Run E 0 0 f out
 accepted_runs s f b e E = run_exists E f (read_well_formed s f b e)

@@ -17,7 +17,7 @@ use Rattle.scan.specs.Bytes.{AllBytes, one_if}
 use Rattle.plan_codec.specs.Reading.{plan, plan_of, reading, refused}
 use Rattle.plan_codec.specs.RoundTrip.{read_well_formed}
 use Rattle.semantics.specs.Check.{check, EachMet}
-use Rattle.semantics.specs.Theorems.Check.CheckIsMet.{check-met, met-check}
+use Rattle.semantics.proofs.Theorems.Check.CheckIsMet.{check-met, met-check}
 use Rattle.semantics.specs.Runs.{Env, Run, Sources, Streams}
 use Rattle.call_answers.specs.Answers.{after_reading, check_answer, checks, passes_in}
 use Rattle.demands.specs.OrderKept.{AllFed, order_kept}

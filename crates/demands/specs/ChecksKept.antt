@@ -8,9 +8,9 @@ use Rattle.semantics.specs.Check.{check}
 use Rattle.walks.specs.ParallelizeSorts.{parallelize_sorts}
 use Rattle.walks.specs.Counted.{answered, parallelized, partially_sorted}
 use Rattle.walks.specs.Terms.{answer_up}
-use Rattle.walks.specs.Theorems.Parallelize.Passes.{parallelize-passes as parallelize-check}
-use Rattle.walks.specs.Theorems.Calls.Answers.{parallelized_is, up_answers, up_whole, well_ok}
-use Rattle.walks.specs.Theorems.PartialSort.Kept.{partial_passes}
+use Rattle.walks.proofs.Theorems.Parallelize.Passes.{parallelize-passes as parallelize-check}
+use Rattle.walks.proofs.Theorems.Calls.Answers.{parallelized_is, up_answers, up_whole, well_ok}
+use Rattle.walks.proofs.Theorems.PartialSort.Kept.{partial_passes}
 
 pub parallelize-passes : (f g : Plan) → well_formed f ≡ true → check f ≡ true → parallelized f ≡ answered g → check g ≡ true
 parallelize-passes f g e c h =

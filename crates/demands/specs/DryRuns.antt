@@ -22,16 +22,16 @@ use Rattle.semantics.specs.Facts.{at0, facts}
 use Rattle.semantics.specs.Check.{check}
 use Rattle.semantics.specs.Runs.{Streams, Run, Sources}
 use Rattle.semantics.specs.Holds.{Holds}
-use Rattle.semantics.specs.Theorems.Common.Streams.{all_at}
-use Rattle.semantics.specs.Theorems.Runs.RunStreams.{everywhere_map}
+use Rattle.semantics.proofs.Theorems.Common.Streams.{all_at}
+use Rattle.semantics.proofs.Theorems.Runs.RunStreams.{everywhere_map}
 use Rattle.stepping.specs.Moves.{moves}
 use Rattle.stepping.specs.Stepping.{unfiltered, stepping, finished, delivered, waits}
 use Rattle.stepping.specs.RowBytes.{rows_in, streams_bytes}
-use Rattle.stepping.specs.Theorems.Delivered.{delivers as run-of-steps, delivered_holds, stops}
-use Rattle.stepping.specs.Theorems.EveryState.{never_out_of_order}
+use Rattle.stepping.proofs.Theorems.Delivered.{delivers as run-of-steps, delivered_holds, stops}
+use Rattle.stepping.proofs.Theorems.EveryState.{never_out_of_order}
 use Rattle.step_answers.specs.Answers.{returned, output_after}
-use Rattle.stepping.specs.Theorems.FirstJoin.{NoJoin, none_steps}
-use Rattle.stepping.specs.Theorems.OrderOfAnswers.{RowsKeep, row_count, delivered_bytes}
+use Rattle.stepping.proofs.Theorems.FirstJoin.{NoJoin, none_steps}
+use Rattle.stepping.proofs.Theorems.OrderOfAnswers.{RowsKeep, row_count, delivered_bytes}
 use Rattle.step_answers.specs.FileAnswers.{returns_plan, returns_0}
 use Rattle.step_answers.specs.Outputs.{writes_delivered, delivered_fits}
 use Rattle.call_answers.specs.Answers.{check_answer}

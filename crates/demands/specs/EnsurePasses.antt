@@ -10,9 +10,9 @@ use Rattle.semantics.specs.Check.{check}
 use Rattle.semantics.specs.Runs.{Env, Run, Sources, Streams}
 use Rattle.walks.specs.EnsureSorting.{ensure_sorting}
 use Rattle.walks.specs.Counted.{answered, ensured}
-use Rattle.walks.specs.Theorems.Ensure.Passes.{ensure_passes as ensure-check}
-use Rattle.walks.specs.Theorems.Ensure.Sound.{sources_kept}
-use Rattle.walks.specs.Theorems.Calls.Answers.{ensured_is, up_answers, well_fit}
+use Rattle.walks.proofs.Theorems.Ensure.Passes.{ensure_passes as ensure-check}
+use Rattle.walks.proofs.Theorems.Ensure.Sound.{sources_kept}
+use Rattle.walks.proofs.Theorems.Calls.Answers.{ensured_is, up_answers, well_fit}
 use Rattle.demands.specs.OrderKept.{AllFed, order_kept}
 use Rattle.demands.specs.Walks.{ensuring}
 use Rattle.demands.specs.PlanKept.{answer_plan}

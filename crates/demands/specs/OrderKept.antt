@@ -14,12 +14,12 @@ use Rattle.semantics.specs.Check.{check, EachMet}
 use Rattle.semantics.specs.Runs.{Streams, Env, Run, EachSource, Sources}
 use Rattle.semantics.specs.SourceRows.{rows_for, Filled}
 use Rattle.semantics.specs.Holds.{Wanted, Everywhere}
-use Rattle.semantics.specs.Theorems.Check.CheckIsMet.{met-check}
-use Rattle.semantics.specs.Theorems.Common.Streams.{all_at}
-use Rattle.semantics.specs.Theorems.Runs.RunStreams.{everywhere_map}
-use Rattle.semantics.specs.Theorems.Sound.Sound.{sound}
-use Rattle.semantics.specs.Theorems.Runs.Exists.{run_exists}
-use Rattle.semantics.specs.Theorems.Sound.DeclaredKept.{declared_kept}
+use Rattle.semantics.proofs.Theorems.Check.CheckIsMet.{met-check}
+use Rattle.semantics.proofs.Theorems.Common.Streams.{all_at}
+use Rattle.semantics.proofs.Theorems.Runs.RunStreams.{everywhere_map}
+use Rattle.semantics.proofs.Theorems.Sound.Sound.{sound}
+use Rattle.semantics.proofs.Theorems.Runs.Exists.{run_exists}
+use Rattle.semantics.proofs.Theorems.Sound.DeclaredKept.{declared_kept}
 
 -- An operator and the streams of each of its children: no row stands on stream s of child i after a row that it sorts before, by the
 -- order that the operator wants of child i

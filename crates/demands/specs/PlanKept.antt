@@ -11,13 +11,13 @@ use Rattle.walks.specs.ParallelizeSorts.{parallelize_sorts}
 use Rattle.walks.specs.OrderPreserving.{replace_with_order_preserving_variants}
 use Rattle.walks.specs.Counted.{answered, ensured, pushed, refused}
 use Rattle.walks.specs.Terms.{Added, blank, easing, Live, prune, skel}
-use Rattle.walks.specs.Theorems.Common.Skeleton.{added_none, eased}
-use Rattle.walks.specs.Theorems.Common.Rows.{ensure_plan, SamePlan}
-use Rattle.walks.specs.Theorems.Preserve.Kept.{preserve_plan}
-use Rattle.walks.specs.Theorems.Parallelize.Kept.{parallelize_plan}
-use Rattle.walks.specs.Theorems.Push.WellFormed.{push_plan}
-use Rattle.walks.specs.Theorems.Ensure.Live.{ensure_live as ensured-live}
-use Rattle.walks.specs.Theorems.Calls.Answers.{down_answers, ensured_is, ensured_well, live_pushed, parallelized_is, parallelized_well, preserved_is, preserved_well, pushed_is, pushed_well, up_answers, well_fit}
+use Rattle.walks.proofs.Theorems.Common.Skeleton.{added_none, eased}
+use Rattle.walks.proofs.Theorems.Common.Rows.{ensure_plan, SamePlan}
+use Rattle.walks.proofs.Theorems.Preserve.Kept.{preserve_plan}
+use Rattle.walks.proofs.Theorems.Parallelize.Kept.{parallelize_plan}
+use Rattle.walks.proofs.Theorems.Push.WellFormed.{push_plan}
+use Rattle.walks.proofs.Theorems.Ensure.Live.{ensure_live as ensured-live}
+use Rattle.walks.proofs.Theorems.Calls.Answers.{down_answers, ensured_is, ensured_well, live_pushed, parallelized_is, parallelized_well, preserved_is, preserved_well, pushed_is, pushed_well, up_answers, well_fit}
 use Rattle.demands.specs.Walks.{answer, ensuring, parallelizing, preserving, pushing, Walk}
 
 -- Ensuring alone may add limits

@@ -30,8 +30,8 @@ use Rattle.walks.specs.PushdownSorts.{at_root, push}
 use Rattle.walks.specs.PartialSort.{from_node}
 use Rattle.walks.specs.Counted.{Answer, answered, has_partial_sort, partial_at, partially_sorted, refused}
 use Rattle.walks.specs.Terms.{answer_down, answer_up, clear, has_constant_sort, sizes_down, sizes_up, small}
-use Rattle.walks.specs.Theorems.Calls.Answers.{ensured_is, parallelized_is, preserved_is, pushed_is, well_fit}
-use Rattle.walks.specs.Theorems.PartialSort.Kept.{partial_sources, partial_well}
+use Rattle.walks.proofs.Theorems.Calls.Answers.{ensured_is, parallelized_is, preserved_is, pushed_is, well_fit}
+use Rattle.walks.proofs.Theorems.PartialSort.Kept.{partial_sources, partial_well}
 use Rattle.call_answers.specs.Answers.{after_reading, output_in, refusal_in, rewrites, rewritten, too_short}
 use Rattle.demands.specs.OrderKept.{AllFed, order_kept}
 use Rattle.demands.specs.Walks.{answer, ensuring, parallelizing, preserving, pushing, Walk}

@@ -11,11 +11,11 @@ use Rattle.plan.specs.Forest.{Forest, roots}
 use Rattle.plan.specs.Op.{Plan}
 use Rattle.plan.specs.WellFormed.{well_formed}
 use Rattle.semantics.specs.Runs.{Env, Run, SameInputs, Streams}
-use Rattle.semantics.specs.Theorems.Common.Streams.{each_at}
+use Rattle.semantics.proofs.Theorems.Common.Streams.{each_at}
 use Rattle.walks.specs.Counted.{answered}
 use Rattle.walks.specs.Terms.{clear}
-use Rattle.walks.specs.Theorems.Common.Rows.{same_plan_rows}
-use Rattle.walks.specs.Theorems.Calls.Answers.{well_fit}
+use Rattle.walks.proofs.Theorems.Common.Rows.{same_plan_rows}
+use Rattle.walks.proofs.Theorems.Calls.Answers.{well_fit}
 use Rattle.demands.specs.Walks.{answer, Walk}
 use Rattle.demands.specs.PlanKept.{answer_plan}
 

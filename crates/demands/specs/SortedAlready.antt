@@ -11,7 +11,7 @@ use Rattle.plan_codec.specs.Writing.{file_of_plan}
 use Rattle.plan_codec.specs.RoundTrip.{written_read}
 use Rattle.walks.specs.Counted.{partially_sorted}
 use Rattle.walks.specs.Terms.{SortedAlready}
-use Rattle.walks.specs.Theorems.PartialSort.Earlier.{already_unchanged}
+use Rattle.walks.proofs.Theorems.PartialSort.Earlier.{already_unchanged}
 use Rattle.call_answers.specs.Answers.{after_reading, gives, output_in, refusal_in, rewrites, rewritten}
 use Rattle.call_answers.specs.Laws.{fit_accepted, fit_written, refusal_leaves_output, short_refused}
 

@@ -15,12 +15,13 @@ use Rattle.plan_codec.specs.Reading.{plan_of}
 use Rattle.arena.specs.Arena.{held}
 use Rattle.semantics.specs.Facts.{facts_op, facts}
 use Rattle.semantics.specs.Runs.{next_s, past}
-use Rattle.semantics.specs.Theorems.Common.Bools.{and_left, and_right}
+use Rattle.semantics.proofs.Theorems.Common.Bools.{and_left, and_right}
 use Rattle.stepping.specs.Outlets.{Outlet, by_stream}
 use Rattle.stepping.specs.RowBytes.{rows_in, form_ok}
 use Rattle.stepping.specs.Stepping.{given, start, root_streams}
-use Rattle.stepping.specs.Theorems.Delivered.{formed}
-use Rattle.stepping.specs.Theorems.StepCount.{waiting, few_steps}
+use Rattle.stepping.proofs.Theorems.Delivered.{formed}
+use Rattle.stepping.specs.StepCount.{waiting}
+use Rattle.stepping.proofs.Theorems.StepCount.{few_steps}
 use Rattle.step_tables.specs.Places.{on_place, total, inner, Tables, Shows, shows_none, shows_tree, Node}
 use Rattle.step_tables.specs.Shown.{inputs_are, tab_ext}
 use Rattle.step_tables.specs.Found.{Known}

@@ -13,7 +13,7 @@ use Rattle.plan_arena.specs.Fill.{HoldsTree}
 use Rattle.plan_codec.specs.RoundTrip.{read_well_formed}
 use Rattle.scan.specs.Bytes.{AllBytes}
 use Rattle.source_rows.specs.Nodes.{file_steps}
-use Rattle.semantics.specs.Theorems.Common.Bools.{and_left}
+use Rattle.semantics.proofs.Theorems.Common.Bools.{and_left}
 use Rattle.stepping.specs.Answers.{Answer, refused, fitted, answer, number, output, first_unstepped, sources_ok, many_rows}
 use Rattle.stepping.specs.RowBytes.{rows_in, form_ok, streams_bytes}
 use Rattle.stepping.specs.Stepping.{delivered, can_step}

@@ -17,7 +17,7 @@ use Rattle.semantics.specs.Runs.{Streams}
 use Rattle.stepping.specs.Answers.{fitted, number, output}
 use Rattle.stepping.specs.RowBytes.{rows_in, streams_bytes}
 use Rattle.stepping.specs.Stepping.{start, delivered, finished}
-use Rattle.stepping.specs.Theorems.Delivered.{formed}
+use Rattle.stepping.proofs.Theorems.Delivered.{formed}
 use Rattle.step_tables.specs.Rows.{row_in}
 use Rattle.source_rows.specs.Files.{size_is}
 use Rattle.row_writer.specs.Streams.{put_out}

@@ -19,11 +19,12 @@ use Rattle.arena.specs.declared.At.{At}
 use Rattle.walks.specs.Marks.{Tree, strip, plant, cover, op_t, fact, size_t, set_mark}
 use Rattle.walks.specs.Terms.{blank}
 use Rattle.walks.specs.Utils.{new_sort, add_sort_above}
-use Rattle.walks.specs.Theorems.Common.Trees.{OkT, ok_fit}
-use Rattle.walks.specs.Theorems.Common.Keeps.{KeepsAll}
-use Rattle.walks.specs.Theorems.Common.OrderMet.{fresh_same}
-use Rattle.walks.specs.Theorems.Common.ConstantSorts.{fact-canon}
-use Rattle.walks.specs.Theorems.Ensure.Kept.{remove_kids_kept}
+use Rattle.walks.specs.Trees.{OkT}
+use Rattle.walks.proofs.Theorems.Common.Trees.{ok_fit}
+use Rattle.walks.proofs.Theorems.Common.Keeps.{KeepsAll}
+use Rattle.walks.proofs.Theorems.Common.OrderMet.{fresh_same}
+use Rattle.walks.proofs.Theorems.Common.ConstantSorts.{fact-canon}
+use Rattle.walks.proofs.Theorems.Ensure.Kept.{remove_kids_kept}
 use Rattle.walks.specs.EnsureSorting.{connected, update_sort_ctx_children_data, update_child_to_remove_unnecessary_sort, remove_kids, ensure_child}
 use Rattle.plan_context.specs.View.{tree_of, most_nodes, most_slots, Arena, Grown}
 use Rattle.plan_context.specs.Facts.{Tells}

@@ -23,8 +23,8 @@ use Rattle.arena.specs.Arena.{slot_size, index, slot, Below}
 use Rattle.arena.specs.declared.At.{At}
 use Rattle.arena.specs.Laws.{below_at}
 use Rattle.walks.specs.Marks.{Tree, strip, known, node, kid0, shape, rebuild}
-use Rattle.walks.specs.Theorems.Common.Trees.{Ok, OkT}
-use Rattle.walks.specs.Theorems.Ensure.Kept.{strip_connected}
+use Rattle.walks.specs.Trees.{Ok, OkT}
+use Rattle.walks.proofs.Theorems.Ensure.Kept.{strip_connected}
 use Rattle.walks.specs.EnsureSorting.{update_sort_ctx_children_data, limit_note, unmerged, finish}
 use Rattle.plan_context.specs.View.{tree_of, forest, most_nodes, most_slots, Arena, Grown, Here, Puts}
 use Rattle.plan_context.specs.Laws.{here, facts_at}

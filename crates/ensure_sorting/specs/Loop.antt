@@ -18,14 +18,15 @@ use Rattle.arena.specs.Arena.{slot_size, index, slot}
 use Rattle.arena.specs.declared.At.{At}
 use Rattle.walks.specs.Marks.{Marked, Tree, strip, known, at, node, plant, cover, op_t, fact, size_t, shape, rebuild}
 use Rattle.walks.specs.Terms.{◌⊕◌}
-use Rattle.walks.specs.Theorems.Common.Base.{blank_widths}
-use Rattle.walks.specs.Theorems.Common.Trees.{OkT, ok_fit}
+use Rattle.walks.proofs.Theorems.Common.Base.{blank_widths}
+use Rattle.walks.specs.Trees.{OkT}
+use Rattle.walks.proofs.Theorems.Common.Trees.{ok_fit}
 use Rattle.walks.specs.Utils.{new_sort, add_sort_above}
-use Rattle.walks.specs.Theorems.Common.Keys.{keys_ok, keys_of_lem}
-use Rattle.walks.specs.Theorems.Common.NewNodes.{wanted-fits, wants_fit}
+use Rattle.walks.proofs.Theorems.Common.Keys.{keys_ok, keys_of_lem}
+use Rattle.walks.proofs.Theorems.Common.NewNodes.{wanted-fits, wants_fit}
 use Rattle.walks.specs.OutputRequirements.{output_fetch}
 use Rattle.walks.specs.EnsureSorting.{update_sort_ctx_children_data, update_child_to_remove_unnecessary_sort, ensure_child, ensure_each, ensured_kids, after_loop, finish}
-use Rattle.walks.specs.Theorems.Ensure.Kept.{ensure_each_kept, output_ok}
+use Rattle.walks.proofs.Theorems.Ensure.Kept.{ensure_each_kept, output_ok}
 use Rattle.plan_context.specs.View.{tree_of, forest, most_nodes, most_slots, Arena, Grown}
 use Rattle.plan_context.specs.Laws.{facts_at, length_facts, same_trans}
 use Rattle.plan_context.specs.Nodes.{Seen}
@@ -39,7 +40,7 @@ use Rattle.sort_connection.specs.Connection.{count-roots}
 use Rattle.sort_removal.specs.Sizes.{connected_size}
 use Rattle.ensure_sorting.specs.Child.{Ensures, update_size}
 use Rattle.ensure_sorting.specs.Finishing.{Finishes}
-use Rattle.walks.specs.Theorems.Calls.Counts.{cond_le}
+use Rattle.walks.proofs.Theorems.Calls.Counts.{cond_le}
 
 -- What the loop and the end after it ask
 pub record Loops (b : List ℕ) (u h : ℕ) : Type 0 where

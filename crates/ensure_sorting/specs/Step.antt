@@ -16,8 +16,9 @@ use Rattle.asked_facts.specs.Asked.{told}
 use Rattle.arena.specs.Arena.{slot_size, index, slot}
 use Rattle.arena.specs.declared.At.{At}
 use Rattle.walks.specs.Marks.{Tree, strip, known, node, op_t, fact, shape}
-use Rattle.walks.specs.Theorems.Common.Trees.{Ok, OkT, ok_fit}
-use Rattle.walks.specs.Theorems.Ensure.Kept.{strip_connected, ensure_sorting_kept}
+use Rattle.walks.specs.Trees.{Ok, OkT}
+use Rattle.walks.proofs.Theorems.Common.Trees.{ok_fit}
+use Rattle.walks.proofs.Theorems.Ensure.Kept.{strip_connected, ensure_sorting_kept}
 use Rattle.walks.specs.EnsureSorting.{after_loop, finish, ensure_by, ensure_marked, ensure_sorting}
 use Rattle.plan_context.specs.View.{tree_of, forest, most_nodes, most_slots, Arena, Grown, Puts}
 use Rattle.plan_context.specs.Laws.{facts_at}

@@ -8,7 +8,7 @@ ghost use Rattle.plan.specs.declared.Fetch.TheVariants.{Unlimited};
 ghost use Rattle.plan_codec.specs.Decode.{from_bytes, decode};
 ghost use Rattle.key_lists.specs.Keys.{keys_of, order_of, Real};
 ghost use Rattle.walks.specs.Marks.{node, op_t, size_t, shape, rebuild};
-ghost use Rattle.walks.specs.Theorems.Common.Trees.{OkT};
+ghost use Rattle.walks.specs.Trees.{OkT};
 ghost use Rattle.walks.specs.Utils.{add_sort_above};
 ghost use Rattle.walks.specs.EnsureSorting.{update_sort_ctx_children_data, ensure_child, after_loop, unmerged, finish as finished, ensure_marked, ensure_sorting};
 ghost use Rattle.plan_context.specs.View.{tree_of, forest, Grown};

@@ -5,9 +5,9 @@ use Rattle.std.proofs.Math.Path.{fun_ext}
 use Rattle.row_order.specs.Iso.{Key}
 use Rattle.row_order.specs.Packed.{bit, key_of}
 use Rattle.plan.specs.WellFormed.{below as within}
-use Rattle.semantics.specs.Theorems.Common.Bools.{and_left, and_right}
+use Rattle.semantics.proofs.Theorems.Common.Bools.{and_left, and_right}
 use Rattle.semantics.specs.Facts.{Facts, cl, with_column, lowest, carried, proj_order, proj_facts}
-use Rattle.semantics.specs.Theorems.Common.Lowest.{lowest_le}
+use Rattle.semantics.proofs.Theorems.Common.Lowest.{lowest_le}
 use Rattle.column_sets.specs.Sets.{Holding, below}
 use Rattle.class_tables.specs.Tables.{at, Filled, Columns, carries, projection_low}
 use Rattle.key_lists.specs.declared.Keys.{Keys}

@@ -7,7 +7,7 @@ use Rattle.row_order.specs.Packed.{bit, key_of}
 use Rattle.row_order.specs.Lists.{tab}
 use Rattle.plan.specs.WellFormed.{set_fits}
 use Rattle.semantics.specs.Facts.{cl, ordered, unknown, source_facts, lowest, both, common}
-use Rattle.semantics.specs.Theorems.Common.Lowest.{lowest_le}
+use Rattle.semantics.proofs.Theorems.Common.Lowest.{lowest_le}
 use Rattle.column_sets.specs.Sets.{Holding, below}
 use Rattle.column_sets.specs.Bits.{bit_none}
 use Rattle.class_tables.specs.Tables.{Filled, union_low}

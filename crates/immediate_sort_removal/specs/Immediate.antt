@@ -19,8 +19,8 @@ use Rattle.asked_facts.specs.Asked.{told}
 use Rattle.arena.specs.Arena.{slot_size, index, slot, Below}
 use Rattle.arena.specs.declared.At.{At}
 use Rattle.walks.specs.Marks.{Marked, Tree, strip, known, node, plant, over, op_t, fact, size_t, set_mark, kid0, unmark}
-use Rattle.walks.specs.Theorems.Common.Trees.{Ok, OkT}
-use Rattle.walks.specs.Theorems.Ensure.Kept.{strip-unmark}
+use Rattle.walks.specs.Trees.{Ok, OkT}
+use Rattle.walks.proofs.Theorems.Ensure.Kept.{strip-unmark}
 use Rattle.walks.specs.EnsureSorting.{limit_note, limited, analyze_immediate_sort_removal}
 use Rattle.plan_context.specs.View.{tree_of, forest, most_slots, Arena, Grown, Puts}
 use Rattle.plan_context.specs.Laws.{facts_at}

@@ -4,7 +4,7 @@ use Rattle.row_order.specs.Packed.{key_of}
 use Rattle.plan.specs.Op.{On}
 use Rattle.plan.specs.WellFormed.{join_width, on_fit}
 use Rattle.plan.specs.declared.JoinType.{JoinType}
-use Rattle.semantics.specs.Theorems.Facts.Fits.{Fits}
+use Rattle.semantics.proofs.Theorems.Facts.Fits.{Fits}
 use Rattle.facts.specs.declared.Facts.{Facts as Coded}
 use Rattle.facts.specs.Known.{known, Coherent}
 

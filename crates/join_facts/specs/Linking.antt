@@ -8,8 +8,8 @@ use Rattle.plan.specs.Op.{On}
 use Rattle.plan.specs.declared.JoinType.{JoinType}
 use Rattle.plan.specs.WellFormed.{on_fit, below as columnsBelow, distinct}
 use Rattle.semantics.specs.Facts.{cl, is_c, in_class, linked, link_all}
-use Rattle.semantics.specs.Theorems.Facts.Fits.{link_all-fits}
-use Rattle.semantics.specs.Theorems.Common.Bools.{and_left, and_right}
+use Rattle.semantics.proofs.Theorems.Facts.Fits.{link_all-fits}
+use Rattle.semantics.proofs.Theorems.Common.Bools.{and_left, and_right}
 use Rattle.column_sets.specs.Sets.{Holding, below}
 use Rattle.class_tables.specs.Tables.{at, Filled, in_classes, linked_low}
 use Rattle.facts.specs.declared.Facts.{Facts as Coded}

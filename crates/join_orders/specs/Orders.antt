@@ -8,7 +8,7 @@ use Rattle.plan.specs.WellFormed.{join_width}
 use Rattle.plan.specs.declared.JoinType.{JoinType}
 use Rattle.plan.specs.declared.JoinType.TheVariants.{Inner, Left, Right, Full, LeftSemi, LeftAnti, RightSemi, RightAnti}
 use Rattle.semantics.specs.Facts.{with_column, moved, within}
-use Rattle.semantics.specs.Theorems.Facts.Fits.{within-fits}
+use Rattle.semantics.proofs.Theorems.Facts.Fits.{within-fits}
 use Rattle.key_lists.specs.declared.Keys.{Keys}
 use Rattle.key_lists.specs.Keys.{keys_of, Keyed, Movable, moved_by}
 use Rattle.join_orders.specs.KeptSides.{Placeable}

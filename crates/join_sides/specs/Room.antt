@@ -7,7 +7,7 @@ use Rattle.row_order.specs.ListLaws.{all_map}
 use Rattle.plan.specs.WellFormed.{join_width}
 use Rattle.plan.specs.declared.JoinType.{JoinType}
 use Rattle.plan.specs.declared.JoinType.TheVariants.{Inner, Left, Right, Full, LeftSemi, LeftAnti, RightSemi, RightAnti}
-use Rattle.semantics.specs.Theorems.Common.Bools.{and_left, and_right}
+use Rattle.semantics.proofs.Theorems.Common.Bools.{and_left, and_right}
 use Rattle.semantics.specs.Facts.{Facts, cl, with_column, lowest}
 use Rattle.walks.specs.SortPushdown.{JoinSide, no_side, left_side, right_side, left_first, either_side, expr_source_side, Valid, invalid, valid, and_key, on_side}
 use Rattle.join_sides.specs.Sides.{Roomy}

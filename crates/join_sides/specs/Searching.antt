@@ -4,9 +4,9 @@ use Rattle.std.proofs.Common.{sym, ap, ap₂, ◌∙◌, subst, arith, lt-ltb, l
 use Rattle.std.proofs.lemmas.Bool.{lt-leb}
 use Rattle.row_order.specs.Iso.{Key}
 use Rattle.row_order.specs.Packed.{key_of}
-use Rattle.semantics.specs.Theorems.Common.Bools.{and_right}
+use Rattle.semantics.proofs.Theorems.Common.Bools.{and_right}
 use Rattle.semantics.specs.Facts.{Facts, cl, with_column, lowest}
-use Rattle.semantics.specs.Theorems.Common.Lowest.{lowest_none}
+use Rattle.semantics.proofs.Theorems.Common.Lowest.{lowest_none}
 use Rattle.class_tables.specs.Lowest.{Nowhere as None, lowest_at}
 use Rattle.key_lists.specs.declared.Keys.{Keys}
 use Rattle.key_lists.specs.Keys.{keys_in, keys_of, Keyed, Tight, Longer}

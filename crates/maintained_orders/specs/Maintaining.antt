@@ -6,7 +6,7 @@ use Rattle.plan.specs.WellFormed.{children_ok}
 use Rattle.plan.specs.declared.Kind.TheVariants.{Union, Repartition, Aggregate}
 use Rattle.semantics.specs.Facts.{Facts, facts_op, is_nil, keeps_order, known_order, nothing}
 use Rattle.semantics.specs.Properties.{maintains}
-use Rattle.semantics.specs.Theorems.Facts.GroupOrders.{maintains_known}
+use Rattle.semantics.proofs.Theorems.Facts.GroupOrders.{maintains_known}
 use Rattle.plan_codec.specs.Decode.{decode, from_bytes, operator_of}
 use Rattle.maintained_orders.specs.Nodes.{Among}
 use Rattle.record_fields.specs.Kinds.{op_of, asked_of}

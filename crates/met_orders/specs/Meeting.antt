@@ -6,7 +6,7 @@ use Rattle.row_order.specs.Iso.{Key}
 use Rattle.row_order.specs.Order.{no_bool}
 use Rattle.row_order.specs.Packed.{bit, key_of}
 use Rattle.plan.specs.WellFormed.{member}
-use Rattle.semantics.specs.Theorems.Common.Bools.{and_left, and_right}
+use Rattle.semantics.proofs.Theorems.Common.Bools.{and_left, and_right}
 use Rattle.semantics.specs.Facts.{Facts, is_c, cl, nf_by, nf, with_column, eq_key, prefixb, met}
 use Rattle.column_sets.specs.Sets.{Holding}
 use Rattle.key_lists.specs.declared.Keys.{Keys}

@@ -17,12 +17,13 @@ use Rattle.key_lists.specs.declared.Order.TheVariants.{Unordered, By}
 use Rattle.arena.specs.Arena.{index, marked, slot}
 use Rattle.arena.specs.declared.At.{At}
 use Rattle.walks.specs.Marks.{Marked, Tree, strip, known, at, node, plant, size_t, set_mark, Shape, a_sort, a_merge, a_repartition, a_coalesce, another, shape, rebuild}
-use Rattle.walks.specs.Theorems.Common.Trees.{OkT, ok_fit}
-use Rattle.walks.specs.Theorems.Common.NewNodes.{coalesce_ok, node_fetch, over_of}
-use Rattle.walks.specs.Theorems.Common.Keeps.{kept_node, like_refl}
+use Rattle.walks.specs.Trees.{OkT}
+use Rattle.walks.proofs.Theorems.Common.Trees.{ok_fit}
+use Rattle.walks.proofs.Theorems.Common.NewNodes.{coalesce_ok, node_fetch, over_of}
+use Rattle.walks.proofs.Theorems.Common.Keeps.{kept_node, like_refl}
 use Rattle.walks.specs.Utils.{is_sort_preserving_merge}
 use Rattle.walks.specs.OrderPreserving.{mark_first, enters, break_by, break_each, plan_with_order_breaking_variants}
-use Rattle.walks.specs.Theorems.Preserve.Kept.{strip_first, break_each_kept}
+use Rattle.walks.proofs.Theorems.Preserve.Kept.{strip_first, break_each_kept}
 use Rattle.plan_context.specs.View.{tree_of, forest, Grown, Puts}
 use Rattle.plan_context.specs.Handles.{Marks}
 use Rattle.order_preservation_marks.specs.Kinds.{op_ind, treated_5, treated_8}
@@ -31,7 +32,7 @@ use Rattle.plan_updates.specs.From.{from, from_first, from_next}
 use Rattle.plan_updates.specs.ChildLoop.{view, same_slot, same_kids, split}
 use Rattle.order_preservation_marks.specs.Entering.{Enters, Going, going_more, news, going_puts, going_end}
 use Rattle.order_preservation_marks.specs.Replacing.{grown_as, first_size, single, remark_ok, replaced_puts, replaced_grown}
-use Rattle.walks.specs.Theorems.Calls.Counts.{cond_le}
+use Rattle.walks.proofs.Theorems.Calls.Counts.{cond_le}
 
 -- ---- which children are entered
 

@@ -10,7 +10,7 @@ use Rattle.arena.specs.Arena.{slot_size, index, slot}
 use Rattle.arena.specs.declared.At.{At}
 use Rattle.walks.specs.Marks.{Marked, Tree, node, plant, size_t}
 use Rattle.walks.specs.Terms.{◌⊕◌}
-use Rattle.walks.specs.Theorems.Common.Trees.{OkT}
+use Rattle.walks.specs.Trees.{OkT}
 use Rattle.plan_context.specs.View.{tree_of, forest, most_slots, Arena, Grown, Puts}
 use Rattle.plan_updates.specs.Kids.{Kids, kids_none, kids_more, kids_forest}
 use Rattle.plan_updates.specs.ChildLoop.{half, view, whole, same_slot, kid_below, split, counted, new_below, new_kids}

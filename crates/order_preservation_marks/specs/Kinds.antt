@@ -8,7 +8,7 @@ use Rattle.plan.specs.Numbers.{code}
 use Rattle.plan.specs.WellFormed.{children_ok}
 use Rattle.plan.specs.declared.Fetch.{Fetch}
 use Rattle.walks.specs.Marks.{another, shape}
-use Rattle.semantics.specs.Theorems.Common.Bools.{or_right}
+use Rattle.semantics.proofs.Theorems.Common.Bools.{or_right}
 
 -- None of the four that are treated apart
 abbrev Apart : Op → Type 0

@@ -19,10 +19,10 @@ use Rattle.arena.specs.declared.At.{At}
 use Rattle.arena.specs.Laws.{below_at, below_more}
 use Rattle.walks.specs.Marks.{Marked, Tree, strip, known, node, plant, op_t, set_mark, unmark, any_mark}
 use Rattle.walks.specs.Terms.{◌⊕◌}
-use Rattle.walks.specs.Theorems.Common.Trees.{Ok, OkT}
+use Rattle.walks.specs.Trees.{Ok, OkT}
 use Rattle.walks.specs.Utils.{is_coalesce_partitions}
 use Rattle.walks.specs.OrderPreserving.{inspect_child, masked, inspected, initiates, carries, carry_each}
-use Rattle.walks.specs.Theorems.Preserve.Kept.{strip-masked}
+use Rattle.walks.proofs.Theorems.Preserve.Kept.{strip-masked}
 use Rattle.plan_context.specs.View.{tree_of, forest, most_slots, Arena, Grown, Puts}
 use Rattle.plan_context.specs.Laws.{fewer, tree_same}
 use Rattle.plan_context.specs.Handles.{Marks}

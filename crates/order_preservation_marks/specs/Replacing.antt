@@ -15,10 +15,10 @@ use Rattle.arena.specs.Arena.{slot}
 use Rattle.arena.specs.declared.At.{At}
 use Rattle.arena.specs.Laws.{below_at}
 use Rattle.walks.specs.Marks.{Marked, Tree, known, node, plant, set_mark, rebuild}
-use Rattle.walks.specs.Theorems.Common.Trees.{OkT}
-use Rattle.walks.specs.Theorems.Common.Keeps.{remark_like}
+use Rattle.walks.specs.Trees.{OkT}
+use Rattle.walks.proofs.Theorems.Common.Keeps.{remark_like}
 use Rattle.walks.specs.OrderPreserving.{mark_first}
-use Rattle.walks.specs.Theorems.Preserve.Kept.{strip_first}
+use Rattle.walks.proofs.Theorems.Preserve.Kept.{strip_first}
 use Rattle.plan_context.specs.View.{tree_of, forest, Arena, Grown, Puts}
 use Rattle.plan_context.specs.Laws.{fewer, same_trans, length_facts}
 use Rattle.plan_updates.specs.Kids.{Kids}

@@ -21,10 +21,11 @@ use Rattle.asked_facts.specs.Asked.{told}
 use Rattle.arena.specs.Arena.{index, marked, slot}
 use Rattle.arena.specs.declared.At.{At}
 use Rattle.walks.specs.Marks.{Marked, Tree, strip, known, at, node, op_t, fact, size_t, set_mark, Shape, a_sort, a_merge, a_repartition, a_coalesce, another, shape, rebuild}
-use Rattle.walks.specs.Theorems.Common.Trees.{OkT, Fit, FitsA, arity, count, ok_fit}
-use Rattle.walks.specs.Theorems.Common.Keeps.{KeepsAll, kept_node, like_refl}
+use Rattle.walks.specs.Trees.{OkT, Fit, FitsA, arity, count}
+use Rattle.walks.proofs.Theorems.Common.Trees.{ok_fit}
+use Rattle.walks.proofs.Theorems.Common.Keeps.{KeepsAll, kept_node, like_refl}
 use Rattle.walks.specs.OrderPreserving.{mark_first, merge_over, preserve_by, preserve_each, plan_with_order_preserving_variants}
-use Rattle.walks.specs.Theorems.Preserve.Kept.{preserve_by_kept, preserve_each_kept}
+use Rattle.walks.proofs.Theorems.Preserve.Kept.{preserve_by_kept, preserve_each_kept}
 use Rattle.plan_context.specs.View.{tree_of, forest, Grown, Puts}
 use Rattle.plan_context.specs.Laws.{facts_at}
 use Rattle.plan_context.specs.Facts.{Tells}
@@ -34,7 +35,7 @@ use Rattle.order_preservation_marks.specs.Marking.{is_fetched_coalesce, nothing_
 use Rattle.plan_updates.specs.ChildLoop.{view, same_slot, same_kids, split}
 use Rattle.order_preservation_marks.specs.Entering.{Enters, Going, going_next, going_more, news, going_puts, going_end}
 use Rattle.order_preservation_marks.specs.Replacing.{grown_as, first_size, single, remark_ok, replaced_puts, replaced_grown, rebuilt_grown, one_child}
-use Rattle.walks.specs.Theorems.Calls.Counts.{cond_le}
+use Rattle.walks.proofs.Theorems.Calls.Counts.{cond_le}
 
 -- ---- kinds
 

@@ -4,7 +4,7 @@ ghost use Rattle.std.specs.Prelude.{◌≡◌, true, false, ◌+◌, ◌<◌, eq
 ghost use Rattle.plan.specs.Numbers.{code};
 ghost use Rattle.plan_codec.specs.Decode.{decode};
 ghost use Rattle.walks.specs.Marks.{size_t};
-ghost use Rattle.walks.specs.Theorems.Common.Trees.{OkT};
+ghost use Rattle.walks.specs.Trees.{OkT};
 ghost use Rattle.walks.specs.OrderPreserving.{merge_over, plan_with_order_preserving_variants};
 ghost use Rattle.arena.specs.Arena.{slot};
 ghost use Rattle.plan_context.specs.View.{tree_of, forest, Grown, Puts};

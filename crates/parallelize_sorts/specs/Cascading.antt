@@ -19,12 +19,13 @@ use Rattle.arena.specs.declared.At.{At}
 use Rattle.walks.specs.Marks.{Marked, Tree, strip, node, plant, over, cover, fact, size_t, head_mark, shape}
 use Rattle.walks.specs.Utils.{is_coalesce_partitions, new_sort, add_sort_above_with_check}
 use Rattle.walks.specs.Terms.{passing}
-use Rattle.walks.specs.Theorems.Common.Trees.{OkT, FitT, ok_fit, children_fit, FitsA}
-use Rattle.walks.specs.Theorems.Common.NewNodes.{coalesce_ok, narrow_t, node_fetch}
-use Rattle.walks.specs.Theorems.Common.Keeps.{Keeps, pass_one}
-use Rattle.walks.specs.Theorems.Common.Base.{ease_blank}
-use Rattle.walks.specs.Theorems.Common.Skeleton.{pass_ease}
-use Rattle.walks.specs.Theorems.Parallelize.Kept.{without_self_kept}
+use Rattle.walks.specs.Trees.{OkT, FitT, FitsA}
+use Rattle.walks.proofs.Theorems.Common.Trees.{ok_fit, children_fit}
+use Rattle.walks.proofs.Theorems.Common.NewNodes.{coalesce_ok, narrow_t, node_fetch}
+use Rattle.walks.proofs.Theorems.Common.Keeps.{Keeps, pass_one}
+use Rattle.walks.proofs.Theorems.Common.Base.{ease_blank}
+use Rattle.walks.proofs.Theorems.Common.Skeleton.{pass_ease}
+use Rattle.walks.proofs.Theorems.Parallelize.Kept.{without_self_kept}
 use Rattle.walks.specs.ParallelizeSorts.{without_self, parallel_by, parallelize_sorts, update_coalesce_ctx_children}
 use Rattle.plan_context.specs.View.{tree_of, forest, most_slots, Arena, Grown, Here, Puts}
 use Rattle.plan_updates.specs.Covering.{Under, cover_puts, cover_grown, ok_of}

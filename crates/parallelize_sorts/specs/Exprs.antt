@@ -14,13 +14,13 @@ use Rattle.plan.specs.declared.Kind.TheVariants.{Source, Filter, Projection, Uni
 use Rattle.plan_codec.specs.Decode.{decode, from_bytes, operator_of}
 use Rattle.semantics.specs.Facts.{Facts, facts_op, sort_streams}
 use Rattle.semantics.specs.Properties.{cuts}
-use Rattle.semantics.specs.Theorems.Common.Bools.{and_left, and_right}
+use Rattle.semantics.proofs.Theorems.Common.Bools.{and_left, and_right}
 use Rattle.key_lists.specs.Keys.{keys_of, Keyed}
 use Rattle.record_fields.specs.Kinds.{op_of, code-kind}
 use Rattle.walks.specs.Marks.{Marked, Tree, fact, node, over, plant, Shape, a_sort, a_merge, a_repartition, a_coalesce, another, shape}
 use Rattle.walks.specs.Utils.{is_sort, is_sort_preserving_merge, is_coalesce_partitions, add_sort_above_with_check}
 use Rattle.walks.specs.Terms.{passing}
-use Rattle.walks.specs.Theorems.Common.Keys.{KeysFit, keys_of_lem}
+use Rattle.walks.proofs.Theorems.Common.Keys.{KeysFit, keys_of_lem}
 use Rattle.walks.specs.ParallelizeSorts.{cascade, without_self, parallel_by}
 use Rattle.parallelize_sorts.specs.declared.SortExprs.{SortExprs}
 use Rattle.bottleneck_removal.specs.Removing.{without_self_by}

@@ -18,7 +18,7 @@ use Rattle.plan_context.specs.Records.{plan_t}
 use Rattle.partial_sort_by_number.specs.declared.Sorted.{Sorted}
 use Rattle.partial_sort_by_number.specs.declared.Sorted.TheVariants.{NoSuchNode, Becomes}
 use Rattle.partial_sort_by_number.specs.declared.Place.{Place}
-use Rattle.walks.specs.Theorems.Common.Trees.{strip-size}
+use Rattle.walks.proofs.Theorems.Common.Trees.{strip-size}
 
 -- ---- what is found at a number
 

@@ -17,9 +17,10 @@ use Rattle.arena.specs.Arena.{slot_size, index, slot, Below}
 use Rattle.arena.specs.declared.At.{At}
 use Rattle.arena.specs.Laws.{below_at, below_more, below_set}
 use Rattle.walks.specs.Marks.{Tree, strip, node, op_t, size_t}
-use Rattle.walks.specs.Theorems.Common.Trees.{Ok, OkT, strip-size}
+use Rattle.walks.specs.Trees.{Ok, OkT}
+use Rattle.walks.proofs.Theorems.Common.Trees.{strip-size}
 use Rattle.walks.specs.PartialSort.{replace_with_partial_sort, from_node, set_node}
-use Rattle.walks.specs.Theorems.PartialSort.Kept.{SetKept, partial_kept}
+use Rattle.walks.proofs.Theorems.PartialSort.Kept.{SetKept, partial_kept}
 use Rattle.plan_context.specs.View.{tree_of, forest, most_slots, Arena, Grown, Puts}
 use Rattle.plan_context.specs.Laws.{slot_same, tree_same, forest_same, same_trans}
 use Rattle.plan_context.specs.Nodes.{counts_of}

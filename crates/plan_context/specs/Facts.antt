@@ -7,10 +7,11 @@ use Rattle.plan.specs.Forest.{none, tree}
 use Rattle.plan.specs.Op.{Plan}
 use Rattle.plan.specs.WellFormed.{nodes_ok}
 use Rattle.semantics.specs.Facts.{Facts, nothing, both, union_facts}
-use Rattle.semantics.specs.Theorems.Facts.Fits.{Fits, fits}
-use Rattle.semantics.specs.Theorems.Facts.StreamCounts.{streams_few}
+use Rattle.semantics.proofs.Theorems.Facts.Fits.{Fits, fits}
+use Rattle.semantics.proofs.Theorems.Facts.StreamCounts.{streams_few}
 use Rattle.walks.specs.Marks.{Tree, strip, known, op_t, fact, size_t}
-use Rattle.walks.specs.Theorems.Common.Trees.{OkT, ok_to, strip-size}
+use Rattle.walks.specs.Trees.{OkT}
+use Rattle.walks.proofs.Theorems.Common.Trees.{ok_to, strip-size}
 use Rattle.class_tables.specs.Filling.{alone_filled}
 use Rattle.facts.specs.Saying.{says-unknown}
 use Rattle.facts.specs.declared.Facts.{Facts as Coded}

@@ -16,7 +16,7 @@ use Rattle.semantics.specs.Facts.{Facts, union_facts, facts_op}
 use Rattle.facts.specs.declared.Facts.{Facts as Coded}
 use Rattle.facts.specs.Known.{Says}
 use Rattle.walks.specs.Marks.{known, node, size_t}
-use Rattle.walks.specs.Theorems.Common.Trees.{OkT}
+use Rattle.walks.specs.Trees.{OkT}
 use Rattle.plan.specs.Forest.{size}
 use Rattle.arena.specs.Arena.{slot, Below}
 use Rattle.plan_context.specs.View.{tree_in, forest, most_nodes, ProperSlot, Over}

@@ -9,7 +9,7 @@ use Rattle.plan_codec.specs.Encode.{encode}
 use Rattle.semantics.specs.Properties.{endless as endlessEach, endless_op}
 use Rattle.semantics.specs.Check.{check, wants_met}
 use Rattle.walks.specs.Marks.{Marked, Tree, strip, known, node, plant, op_t, fact, fetch_t, size_t, set_mark}
-use Rattle.walks.specs.Theorems.Common.Trees.{OkT}
+use Rattle.walks.specs.Trees.{OkT}
 use Rattle.facts.specs.Known.{Says}
 use Rattle.fact_slots.specs.Slots.{loaded}
 use Rattle.arena.specs.Arena.{slot_size, Node, slot, held, at as numbered, index, marked, kept_part, Below}

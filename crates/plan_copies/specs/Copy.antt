@@ -10,7 +10,7 @@ use Rattle.semantics.specs.Facts.{facts_op}
 use Rattle.facts.specs.Known.{Says}
 use Rattle.fact_slots.specs.Slots.{loaded}
 use Rattle.walks.specs.Marks.{Tree, node, known, fact, size_t, set_mark, plant}
-use Rattle.walks.specs.Theorems.Common.Trees.{OkT}
+use Rattle.walks.specs.Trees.{OkT}
 use Rattle.walks.specs.Terms.{◌⊕◌}
 use Rattle.arena.specs.Arena.{slot_size, index, marked, slot, kept_part, Below}
 use Rattle.arena.specs.declared.At.{At}

@@ -8,7 +8,7 @@ use Rattle.plan_codec.specs.Decode.{decode}
 use Rattle.plan_codec.specs.Encode.{encode}
 use Rattle.plan_codec.specs.OneRecord.{decode-encode}
 use Rattle.walks.specs.Marks.{node, plant, over, known, fact, size_t}
-use Rattle.walks.specs.Theorems.Common.Trees.{OkT}
+use Rattle.walks.specs.Trees.{OkT}
 use Rattle.arena.specs.Arena.{slot_size, index}
 use Rattle.arena.specs.declared.At.{At}
 use Rattle.plan_context.specs.View.{tree_of, forest, most_nodes, most_slots, Arena, Grown, Puts}

@@ -4,7 +4,7 @@ use Rattle.plan.specs.Forest.{size}
 use Rattle.plan_codec.specs.Decode.{decode}
 use Rattle.plan_codec.specs.Encode.{encode}
 use Rattle.walks.specs.Marks.{node}
-use Rattle.walks.specs.Theorems.Common.Trees.{OkT}
+use Rattle.walks.specs.Trees.{OkT}
 use Rattle.arena.specs.Arena.{slot_size, Below}
 use Rattle.plan_context.specs.View.{forest, most_slots, Arena}
 

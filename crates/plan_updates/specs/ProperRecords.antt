@@ -11,8 +11,8 @@ use Rattle.semantics.specs.Facts.{facts}
 use Rattle.record_fields.specs.Proper.{Proper}
 use Rattle.record_fields.specs.Encoded.{proper}
 use Rattle.walks.specs.Marks.{Marked, known, strip, node}
-use Rattle.walks.specs.Theorems.Common.Trees.{Ok, OkT}
-use Rattle.walks.specs.Theorems.Common.NewNodes.{narrow}
+use Rattle.walks.specs.Trees.{Ok, OkT}
+use Rattle.walks.proofs.Theorems.Common.NewNodes.{narrow}
 use Rattle.plan_context.specs.View.{forest, Over}
 use Rattle.plan_context.specs.Nodes.{counts_of}
 

@@ -8,7 +8,7 @@ use Rattle.semantics.specs.Facts.{facts_op}
 use Rattle.facts.specs.Known.{Says}
 use Rattle.fact_slots.specs.Slots.{loaded}
 use Rattle.walks.specs.Marks.{node, known, fact, size_t, set_mark}
-use Rattle.walks.specs.Theorems.Common.Trees.{OkT}
+use Rattle.walks.specs.Trees.{OkT}
 use Rattle.arena.specs.Arena.{slot_size, kept_from, kept_size, slot, Below}
 use Rattle.arena.specs.Laws.{index_even, below_more}
 use Rattle.arena.specs.Held.{Appends, Appended}

@@ -8,8 +8,8 @@ use Rattle.plan_codec.specs.OneRecord.{decode-encode}
 use Rattle.semantics.specs.Facts.{counts, at0}
 use Rattle.semantics.specs.Properties.{rebuilt}
 use Rattle.walks.specs.Marks.{node, known, rebuild}
-use Rattle.walks.specs.Theorems.Common.Trees.{OkT}
-use Rattle.walks.specs.Theorems.Common.Keeps.{remark_like}
+use Rattle.walks.specs.Trees.{OkT}
+use Rattle.walks.proofs.Theorems.Common.Keeps.{remark_like}
 use Rattle.arena.specs.declared.At.{At}
 use Rattle.plan_context.specs.View.{forest, Over, Puts, Grown}
 use Rattle.plan_context.specs.Nodes.{counts_of}

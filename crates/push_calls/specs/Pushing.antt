@@ -11,8 +11,8 @@ use Rattle.plan.specs.declared.Refusal.TheVariants.{ConstantSort, HasPartialSort
 use Rattle.key_lists.specs.Keys.{Real}
 use Rattle.walks.specs.Marks.{Marked, Tree, fact, op_t, plant, size_t, strip}
 use Rattle.walks.specs.PushdownSorts.{at_root, carry_out, Decision}
-use Rattle.walks.specs.Theorems.Push.WellFormed.{root_fits, VisitFits}
-use Rattle.walks.specs.Theorems.Calls.Answers.{pushed_well}
+use Rattle.walks.proofs.Theorems.Push.WellFormed.{root_fits, VisitFits}
+use Rattle.walks.proofs.Theorems.Calls.Answers.{pushed_well}
 use Rattle.walks.specs.Counted.{afterwards, answered, answer_of, bind, constant_sort, count_down, Counted, counted, overflows, pushed, refused, stopped}
 use Rattle.arena.specs.Arena.{slot_size, index, held}
 use Rattle.plan_context.specs.View.{tree_in, tree_of, Arena}

@@ -14,7 +14,7 @@ use Rattle.walks.specs.SortPushdown.{ParentRequirements}
 use Rattle.walks.specs.PushdownSorts.{asked, carry_out, Decision, Visit}
 use Rattle.walks.specs.Counted.{afterwards, bind, Counted, counted, stopped}
 use Rattle.push_literal.specs.PushdownSortsLiteral.{after_call, and_then, Call, done, failed, helper, map_children, Outcome, panicked, Required, returns, SortPushDown, spent, transform_down}
-use Rattle.walks.specs.Theorems.Calls.Counts.{carried, count_by}
+use Rattle.walks.proofs.Theorems.Calls.Counts.{carried, count_by}
 use Rattle.push_literal.specs.Contexts.{holding, BelowRoot, contexts, contexts-asked, size-holding}
 
 -- The structural walk at a node that decides D, over the children c

@@ -14,7 +14,7 @@ use Rattle.walks.specs.Marks.{cover_with, node, strip}
 use Rattle.walks.specs.Utils.{is_sort, merge_above, needs_merge, new_merge, new_sort, sort_above, sort_above_with_distribution}
 use Rattle.walks.specs.SortPushdown.{default_requirements, goes, min_fetch, ParentRequirements, pushdown_requirement_to_children, Pushed, stop, stronger_distribution, child_count, effective_dist}
 use Rattle.push_literal.specs.PushdownSortsLiteral.{assign_initial, calls_itself, first_child_data, helper, helper_on, internal_error, node_pushes, Required, returns, SortPushDown}
-use Rattle.walks.specs.Theorems.Parallelize.Bottlenecks.{rebuilt_facts}
+use Rattle.walks.proofs.Theorems.Parallelize.Bottlenecks.{rebuilt_facts}
 use Rattle.push_literal.specs.Contexts.{each_holding, holding, plan_holding}
 
 -- ---- tests

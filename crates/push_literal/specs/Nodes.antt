@@ -12,17 +12,17 @@ use Rattle.plan.specs.declared.Refusal.TheVariants.{TooManyNodes}
 use Rattle.semantics.specs.Facts.{Facts, facts, facts_op, is_nil, met, nf, prefixb}
 use Rattle.semantics.specs.Properties.{dist_of, fetches, fetch_op, fresh_keys, rebuilt, sort_dist, wanted}
 use Rattle.semantics.specs.Canonical.{Canon}
-use Rattle.semantics.specs.Theorems.Canonical.EveryNode.{canon, op_canon}
+use Rattle.semantics.proofs.Theorems.Canonical.EveryNode.{canon, op_canon}
 use Rattle.walks.specs.Marks.{cover_with, Marked, node, over, plant, rebuild, strip, Tree}
 use Rattle.walks.specs.Utils.{is_sort, merge_above, needs_merge, sort_above_with_distribution}
 use Rattle.walks.specs.SortPushdown.{default_requirements, goes, min_fetch, ParentRequirements, Pushed, stop, stronger_distribution, effective_dist}
 use Rattle.walks.specs.PushdownSorts.{after_merge, after_try, asked, assign_initial_requirements, covered, Decision, decide_node, hand_down, merge_added, new_ordering, node_asked, push_down, satisfied, sort_added, stays, unasked, unsatisfied, Visit, with_own_distribution}
 use Rattle.walks.specs.Counted.{bind, Counted, counted, stopped}
 use Rattle.push_literal.specs.PushdownSortsLiteral.{after_call, assign_initial, calls_itself, helper, Outcome, returns, SortPushDown, transform_down}
-use Rattle.walks.specs.Theorems.Common.Keeps.{remark-same}
-use Rattle.walks.specs.Theorems.Common.OrderMet.{fresh_same, fresh_some, met-nf, nf_twice, prefix_refl, prefix_some}
-use Rattle.walks.specs.Theorems.Parallelize.Bottlenecks.{rebuilt_facts}
-use Rattle.walks.specs.Theorems.Calls.Counts.{count_by}
+use Rattle.walks.proofs.Theorems.Common.Keeps.{remark-same}
+use Rattle.walks.proofs.Theorems.Common.OrderMet.{fresh_same, fresh_some, met-nf, nf_twice, prefix_refl, prefix_some}
+use Rattle.walks.proofs.Theorems.Parallelize.Bottlenecks.{rebuilt_facts}
+use Rattle.walks.proofs.Theorems.Calls.Counts.{count_by}
 use Rattle.push_literal.specs.Contexts.{BelowRoot, holding, kids_hold, plan_resting, resting, size-holding, size-resting}
 use Rattle.push_literal.specs.Agrees.{AgreesT, Below, by_bool, by_call, carried_at, decided_at, over-returned, returned, returned_full, twice}
 use Rattle.push_literal.specs.HelperCalls.{above_merge, above_sort, cond_yes, new_merge_over, new_sort_over, node-goes, node_satisfies_lem, node_stops, node_unrequired_lem, one_merge, unnecessary_call}

@@ -6,7 +6,7 @@ use Rattle.plan.specs.declared.Fetch.TheVariants.{AtMost, Unlimited}
 use Rattle.plan.specs.declared.Refusal.TheVariants.{TooManyNodes}
 use Rattle.walks.specs.Counted.{answered, refused}
 use Rattle.push_literal.specs.PushdownSortsLiteral.{Given, gives, literal_pushed}
-use Rattle.walks.specs.Examples.Samples.{besides, by_two, falling, filtered, output, pair, single, sort, src, stack, turned}
+use Rattle.walks.proofs.Examples.Samples.{besides, by_two, falling, filtered, output, pair, single, sort, src, stack, turned}
 
 abbrev literal : Plan → Given
 literal f = literal_pushed 504 f

@@ -7,13 +7,13 @@ use Rattle.plan.specs.Forest.{Forest, size}
 use Rattle.plan.specs.Op.{Plan}
 use Rattle.plan.specs.WellFormed.{well_formed}
 use Rattle.plan.specs.declared.Refusal.TheVariants.{HasPartialSort}
-use Rattle.semantics.specs.Theorems.Common.Bools.{and_left, and_right}
+use Rattle.semantics.proofs.Theorems.Common.Bools.{and_left, and_right}
 use Rattle.walks.specs.Marks.{Marked}
 use Rattle.walks.specs.PushdownSorts.{at_root}
 use Rattle.walks.specs.Counted.{answer_of, count_down, Counted, has_partial_sort, pushed, refused, too_many}
 use Rattle.push_literal.specs.PushdownSortsLiteral.{OneChild, given_by, gives, literal_pushed, pushdown_sorts_by}
-use Rattle.walks.specs.Theorems.Calls.Counts.{count_by_lem}
-use Rattle.walks.specs.Theorems.Calls.Answers.{well_fit}
+use Rattle.walks.proofs.Theorems.Calls.Counts.{count_by_lem}
+use Rattle.walks.proofs.Theorems.Calls.Answers.{well_fit}
 use Rattle.push_literal.specs.WholePlans.{fit_one, literal_agrees}
 
 many_mono : (m n : ℕ) → m ≤ n → too_many n ≡ false → too_many m ≡ false

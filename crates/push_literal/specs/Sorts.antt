@@ -8,18 +8,18 @@ use Rattle.plan.specs.declared.Distribution.TheVariants.{Unspecified}
 use Rattle.plan.specs.declared.Fetch.{Fetch}
 use Rattle.semantics.specs.Facts.{compatible, Facts, facts, facts_op, is_nil, met, nf, prefixb}
 use Rattle.semantics.specs.Properties.{fresh_keys, rebuilt, sort_dist}
-use Rattle.semantics.specs.Theorems.Common.Bools.{or_false}
+use Rattle.semantics.proofs.Theorems.Common.Bools.{or_false}
 use Rattle.semantics.specs.Canonical.{Canon}
-use Rattle.semantics.specs.Theorems.Canonical.EveryNode.{canon, op_canon}
+use Rattle.semantics.proofs.Theorems.Canonical.EveryNode.{canon, op_canon}
 use Rattle.walks.specs.Marks.{kid0, Marked, node, over, plant, strip, Tree}
 use Rattle.walks.specs.Utils.{needs_merge, sort_above_with_distribution}
 use Rattle.walks.specs.SortPushdown.{default_requirements, min_fetch, ParentRequirements}
 use Rattle.walks.specs.PushdownSorts.{below_sort, Decision, decide_sort, removed, replaced, sort_asked, sort_differs, sort_replaced, sort_replaced_twice, sort_unasked, sort_unnecessary, Visit}
 use Rattle.walks.specs.Counted.{bind, Counted, counted}
 use Rattle.push_literal.specs.PushdownSortsLiteral.{after_call, calls_itself, helper, Outcome, Required, returns, SortPushDown, transform_down}
-use Rattle.walks.specs.Theorems.Common.OrderMet.{fresh_same, fresh_some, nf_twice, prefix_some}
-use Rattle.walks.specs.Theorems.Parallelize.Bottlenecks.{rebuilt_facts, rebuilt_twice}
-use Rattle.walks.specs.Theorems.Calls.Counts.{count_by}
+use Rattle.walks.proofs.Theorems.Common.OrderMet.{fresh_same, fresh_some, nf_twice, prefix_some}
+use Rattle.walks.proofs.Theorems.Parallelize.Bottlenecks.{rebuilt_facts, rebuilt_twice}
+use Rattle.walks.proofs.Theorems.Calls.Counts.{count_by}
 use Rattle.push_literal.specs.Contexts.{kids_hold, plan_resting, resting, size-resting}
 use Rattle.push_literal.specs.Agrees.{agree_stop, AgreesT, Below, by_bool, by_call, carried_at, decided_at, over-returned, returned_full, twice, unwrap}
 use Rattle.push_literal.specs.HelperCalls.{above_merge, above_sort, constant_call, different_call, new_merge_over, new_sort_over, one_merge, unnecessary_call, unrequired_call}

@@ -17,11 +17,11 @@ use Rattle.walks.specs.PushdownSorts.{at_root, Decision, decide_by, decide_node,
 use Rattle.walks.specs.Counted.{answered, answer_of, bind, constant_sort, Counted, counted, refused}
 use Rattle.push_literal.specs.PushdownSortsLiteral.{OneChild, and_then, done, given_by, gives, literal_push, map_children, Outcome, pushdown_sorts_by, Required, SortPushDown, transform_down}
 use Rattle.walks.specs.Terms.{has_constant_sort, sizes_down}
-use Rattle.walks.specs.Theorems.Common.ConstantSorts.{no_sort}
-use Rattle.walks.specs.Theorems.Common.Trees.{Arity, count, Fit, FitsA}
-use Rattle.walks.specs.Theorems.Common.Keeps.{pass_one, remark-same, shape_ind}
-use Rattle.walks.specs.Theorems.Ensure.Removal.{is_other, other_code}
-use Rattle.walks.specs.Theorems.Calls.Counts.{count_down_lem, count_by, decided}
+use Rattle.walks.proofs.Theorems.Common.ConstantSorts.{no_sort}
+use Rattle.walks.specs.Trees.{Arity, count, Fit, FitsA}
+use Rattle.walks.proofs.Theorems.Common.Keeps.{pass_one, remark-same, shape_ind}
+use Rattle.walks.proofs.Theorems.Ensure.Removal.{is_other, other_code}
+use Rattle.walks.proofs.Theorems.Calls.Counts.{count_down_lem, count_by, decided}
 use Rattle.push_literal.specs.Contexts.{BelowRoot, contexts, holding, initial-contexts, kids_hold, size-contexts, touched, visited}
 use Rattle.push_literal.specs.Agrees.{agree_bind, agree_done, agree_stop, AgreesF, AgreesT, Below, carried_at, SameF, SameT}
 use Rattle.push_literal.specs.Nodes.{node_step}

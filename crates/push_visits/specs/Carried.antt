@@ -11,8 +11,8 @@ use Rattle.fact_slots.specs.Slots.{loaded}
 use Rattle.asked_facts.specs.Asked.{told, FactRow}
 use Rattle.arena.specs.Arena.{slot_size, index, slot, Below}
 use Rattle.walks.specs.Marks.{Marked, Tree, strip, known, fact, node, kid0, rebuild, cover}
-use Rattle.walks.specs.Theorems.Common.Trees.{OkT}
-use Rattle.walks.specs.Theorems.Push.WellFormed.{VisitFits}
+use Rattle.walks.specs.Trees.{OkT}
+use Rattle.walks.proofs.Theorems.Push.WellFormed.{VisitFits}
 use Rattle.plan_context.specs.View.{tree_of, forest, most_slots, Arena}
 use Rattle.plan_context.specs.Facts.{Usable}
 use Rattle.plan_updates.specs.Covering.{Under}

@@ -26,8 +26,8 @@ use Rattle.arena.specs.Laws.{below_at}
 use Rattle.arena.specs.declared.At.{At}
 use Rattle.walks.specs.Marks.{Marked, Tree, strip, known, fact, size_t, node, plant, over, kid0, rebuild, cover}
 use Rattle.walks.specs.Utils.{new_sort, new_merge}
-use Rattle.walks.specs.Theorems.Common.Keeps.{remark-same}
-use Rattle.walks.specs.Theorems.Common.Trees.{Ok, OkT}
+use Rattle.walks.proofs.Theorems.Common.Keeps.{remark-same}
+use Rattle.walks.specs.Trees.{Ok, OkT}
 use Rattle.plan_context.specs.View.{tree_of, forest, Arena, Grown, Over, Puts}
 use Rattle.plan_context.specs.Laws.{length_facts}
 use Rattle.plan_context.specs.Nodes.{counts_of}

@@ -11,7 +11,7 @@ use Rattle.plan_codec.specs.Decode.{decode}
 use Rattle.record_fields.specs.Proper.{Proper, pairs_of}
 use Rattle.record_fields.specs.Encoded.{proper}
 use Rattle.semantics.specs.Facts.{Facts, at0, at1, facts, facts_op, nothing}
-use Rattle.semantics.specs.Theorems.Facts.Fits.{join_width_lem}
+use Rattle.semantics.proofs.Theorems.Facts.Fits.{join_width_lem}
 use Rattle.semantics.specs.Properties.{remark, fetches, fetch_op}
 use Rattle.key_lists.specs.Keys.{order_of}
 use Rattle.asked_facts.specs.Asked.{told, FactRow}

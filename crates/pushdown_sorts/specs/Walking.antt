@@ -20,12 +20,13 @@ use Rattle.arena.specs.Laws.{below_at}
 use Rattle.arena.specs.declared.At.{At}
 use Rattle.walks.specs.Marks.{Marked, Tree, strip, known, fact, fetch_t, size_t, node, plant, kid0, rebuild, cover}
 use Rattle.walks.specs.Utils.{is_sort, new_merge, new_sort}
-use Rattle.walks.specs.Theorems.Common.Trees.{OkT, ok_fit, strip-size}
+use Rattle.walks.specs.Trees.{OkT}
+use Rattle.walks.proofs.Theorems.Common.Trees.{ok_fit, strip-size}
 use Rattle.walks.specs.PushdownSorts as walk
-use Rattle.walks.specs.Theorems.Push.WellFormed.{VisitFits, EachFits, helper_fitted, push_ok}
-use Rattle.walks.specs.Theorems.Common.Keys.{no_keys}
+use Rattle.walks.proofs.Theorems.Push.WellFormed.{VisitFits, EachFits, helper_fitted, push_ok}
+use Rattle.walks.proofs.Theorems.Common.Keys.{no_keys}
 use Rattle.walks.specs.Counted.{answered, answer_of, stopped, counted, bind, constant_sort, overflows, afterwards, count_down}
-use Rattle.walks.specs.Theorems.Calls.Counts.{one_le, one_visited, cover-size}
+use Rattle.walks.proofs.Theorems.Calls.Counts.{one_le, one_visited, cover-size}
 use Rattle.plan_context.specs.View.{tree_in, tree_of, forest, Grown}
 use Rattle.plan_context.specs.Laws.{facts_at, length_facts, same_trans}
 use Rattle.plan_context.specs.Records.{plan_t}

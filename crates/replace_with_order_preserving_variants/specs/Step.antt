@@ -21,11 +21,11 @@ use Rattle.asked_facts.specs.Asked.{told}
 use Rattle.arena.specs.Arena.{slot_size, marked}
 use Rattle.arena.specs.declared.At.{At}
 use Rattle.walks.specs.Marks.{Marked, Tree, strip, known, node, op_t, fact, size_t, unmark, kid0, head_mark, shape}
-use Rattle.walks.specs.Theorems.Common.Trees.{OkT}
-use Rattle.walks.specs.Theorems.Common.NewNodes.{node_fetch}
+use Rattle.walks.specs.Trees.{OkT}
+use Rattle.walks.proofs.Theorems.Common.NewNodes.{node_fetch}
 use Rattle.walks.specs.OrderPreserving as walk
 use Rattle.walks.specs.OrderPreserving.{alternate_plan, accepted, replace_by, use_order_preserving_variant, plan_with_order_preserving_variants, replace_with_order_preserving_variants}
-use Rattle.walks.specs.Theorems.Preserve.Kept.{strip_carry}
+use Rattle.walks.proofs.Theorems.Preserve.Kept.{strip_carry}
 use Rattle.tree_summary.specs.declared.Summary.{Summary}
 use Rattle.plan_context.specs.View.{tree_of, forest, most_slots, Sums, Grown, Here, Puts}
 use Rattle.plan_context.specs.Laws.{here, fewer, same_trans, forest_same, length_facts}

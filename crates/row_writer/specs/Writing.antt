@@ -10,7 +10,7 @@ use Rattle.row_order.specs.Iso.{Cell, null, Row}
 use Rattle.row_order.specs.ListLaws.{length-tab, get_or-tab}
 use Rattle.row_order.specs.Packed.{bit, cell_of, row_of}
 use Rattle.stepping.specs.RowBytes.{little_endian, null_set}
-use Rattle.stepping.specs.Theorems.NumberBytes.{null_small}
+use Rattle.stepping.proofs.Theorems.NumberBytes.{null_small}
 
 -- ---- a number: i bytes are written, and y is left of it
 abbrev pub Put : ℕ → ℕ → ℕ → List ℕ → ℕ → Type 0

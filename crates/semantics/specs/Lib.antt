@@ -8,5 +8,3 @@ pub mod SourceRows
 pub mod Holds
 pub mod Canonical
 pub mod Bags
-pub mod Theorems
-pub mod Examples

@@ -27,7 +27,7 @@ use Rattle.arena.specs.Arena as records
 use Rattle.arena.specs.Arena.{slot_size, slot, held}
 use Rattle.arena.specs.Held.{view}
 use Rattle.arena.specs.Laws.{index_even}
-use Rattle.walks.specs.Theorems.Common.Trees.{ok_of, strip-size}
+use Rattle.walks.proofs.Theorems.Common.Trees.{ok_of, strip-size}
 use Rattle.plan_context.specs.View.{tree_in, tree_of, most_slots, ProperSlot, Arena, Settles, Settled}
 use Rattle.plan_context.specs.Laws.{fewer, slot_held, moved_proper}
 use Rattle.settling.specs.Settling.{in_held, settled_arena, settled_nodes}

@@ -19,7 +19,7 @@ use Rattle.push_requirements.specs.declared.ParentRequirements.{ParentRequiremen
 use Rattle.push_requirements.specs.Answers.{some-keys}
 use Rattle.push_requirements.specs.Pushing.{required, order_by, Handed, SeenNode}
 use Rattle.walks.specs.Utils.{needs_merge, new_merge, sort_above_with_distribution}
-use Rattle.walks.specs.Theorems.Common.Keeps.{remark-same}
+use Rattle.walks.proofs.Theorems.Common.Keeps.{remark-same}
 use Rattle.walks.specs.SortPushdown.{child_count, ParentRequirements, stronger_distribution}
 use Rattle.walks.specs.PushdownSorts as walk
 use Rattle.walks.specs.Counted.{one}

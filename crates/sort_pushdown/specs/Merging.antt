@@ -11,7 +11,7 @@ use Rattle.plan.specs.WellFormed.{children_ok, member}
 use Rattle.plan.specs.declared.Distribution.TheVariants.{Unspecified}
 use Rattle.plan.specs.declared.Fetch.{Fetch}
 use Rattle.semantics.specs.Facts.{Facts, at0, facts, facts_op, is_nil, met, nf, is_c, cl, counts, known_order}
-use Rattle.semantics.specs.Theorems.Orders.NormalForms.{nf_all}
+use Rattle.semantics.proofs.Theorems.Orders.NormalForms.{nf_all}
 use Rattle.semantics.specs.Properties.{fresh_keys, fetches, fetch_op, rebuilt, remark}
 use Rattle.key_lists.specs.declared.Keys.{Keys}
 use Rattle.key_lists.specs.declared.Order.{Order}
@@ -25,8 +25,8 @@ use Rattle.push_requirements.specs.declared.Pushed.{Pushed as Answered}
 use Rattle.push_requirements.specs.Pushing.{HandsOn, Handed, Asked, SeenNode}
 use Rattle.walks.specs.Utils.{needs_merge, new_merge, sort_above_with_distribution}
 use Rattle.walks.specs.Marks.{shape}
-use Rattle.walks.specs.Theorems.Common.Keeps.{remark-same}
-use Rattle.walks.specs.Theorems.Parallelize.Bottlenecks.{rebuilt_facts, rebuilt_twice}
+use Rattle.walks.proofs.Theorems.Common.Keeps.{remark-same}
+use Rattle.walks.proofs.Theorems.Parallelize.Bottlenecks.{rebuilt_facts, rebuilt_twice}
 use Rattle.walks.specs.SortPushdown.{child_count, effective_dist, min_fetch, Pushed, goes, stop, pushdown_requirement_to_children}
 use Rattle.walks.specs.PushdownSorts as walk
 use Rattle.sort_pushdown.specs.declared.NewNodes.{NewNodes}

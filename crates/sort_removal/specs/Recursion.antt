@@ -17,7 +17,7 @@ use Rattle.arena.specs.declared.At.{At}
 use Rattle.arena.specs.Laws.{below_at}
 use Rattle.walks.specs.Marks.{Marked, Tree, node, plant, op_t, size_t, set_mark, kid0, shape}
 use Rattle.walks.specs.Terms.{◌⊕◌}
-use Rattle.walks.specs.Theorems.Common.Trees.{OkT}
+use Rattle.walks.specs.Trees.{OkT}
 use Rattle.walks.specs.EnsureSorting.{with_single_stream, drop_sort, remove_by, remove_top, remove_kids}
 use Rattle.plan_context.specs.View.{tree_of, forest, most_nodes, most_slots, Arena, Same, Grown}
 use Rattle.plan_context.specs.Laws.{same_trans}

@@ -17,10 +17,11 @@ use Rattle.arena.specs.Arena.{slot_size, index, slot, Below}
 use Rattle.arena.specs.declared.At.{At}
 use Rattle.arena.specs.Laws.{below_at}
 use Rattle.walks.specs.Marks.{Marked, Tree, strip, known, node, plant, op_t, set_mark, kid0, any_mark, a_merge, a_repartition, shape, rebuild}
-use Rattle.walks.specs.Theorems.Common.Trees.{Ok, OkT, Fit, FitsA, arity, count, ok_fit}
-use Rattle.walks.specs.Theorems.Common.Keeps.{KeepsAll, kept_node, like_refl, remark_like}
+use Rattle.walks.specs.Trees.{Ok, OkT, Fit, FitsA, arity, count}
+use Rattle.walks.proofs.Theorems.Common.Trees.{ok_fit}
+use Rattle.walks.proofs.Theorems.Common.Keeps.{KeepsAll, kept_node, like_refl, remark_like}
 use Rattle.walks.specs.EnsureSorting.{connected_each, update_sort_ctx_children_data, loosen, updated_after_removal, remove_by, remove_top, remove_kids}
-use Rattle.walks.specs.Theorems.Ensure.Kept.{remove_kids_kept, strip_connected}
+use Rattle.walks.proofs.Theorems.Ensure.Kept.{remove_kids_kept, strip_connected}
 use Rattle.plan_context.specs.View.{tree_of, forest, most_nodes, most_slots, Arena, Grown, Puts}
 use Rattle.plan_context.specs.Nodes.{Seen, counts_of}
 use Rattle.plan_context.specs.Handles.{Marks, kid_is}

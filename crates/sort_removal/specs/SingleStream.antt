@@ -18,7 +18,7 @@ use Rattle.asked_facts.specs.Asked.{told}
 use Rattle.arena.specs.Arena.{slot_size}
 use Rattle.arena.specs.declared.At.{At}
 use Rattle.walks.specs.Marks.{Tree, known, node, plant, over, op_t, fact, fetch_t, size_t, set_mark}
-use Rattle.walks.specs.Theorems.Common.Trees.{OkT}
+use Rattle.walks.specs.Trees.{OkT}
 use Rattle.walks.specs.EnsureSorting.{connected, single_stream_op, with_single_stream}
 use Rattle.plan_context.specs.View.{tree_of, forest, most_nodes, most_slots, Arena, Grown, Puts}
 use Rattle.plan_context.specs.Nodes.{counts_of}

@@ -8,7 +8,7 @@ use Rattle.semantics.specs.Facts.{is_nil, known_order}
 use Rattle.semantics.specs.Properties.{singles}
 use Rattle.walks.specs.Marks.{Marked, Tree, at, over, fact, fetch_t, size_t, kid0, any_mark, rebuild, Shape, a_sort, a_merge, a_repartition, a_coalesce, another, shape}
 use Rattle.walks.specs.EnsureSorting.{connected_each, update_sort_ctx_children_data, single_stream_op, with_single_stream, updated_after_removal, drop_sort, remove_by, remove_top, remove_kids}
-use Rattle.walks.specs.Theorems.Calls.Counts.{cond_le}
+use Rattle.walks.proofs.Theorems.Calls.Counts.{cond_le}
 
 pub connected_size : (c : Forest Marked) → size (connected_each c) ≡ size c
 connected_size none = refl

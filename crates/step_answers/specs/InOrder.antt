@@ -17,7 +17,7 @@ use Rattle.semantics.specs.Holds.{Holds, Good}
 use Rattle.stepping.specs.Stepping.{unfiltered}
 use Rattle.stepping.specs.RowBytes.{rows_in, streams_bytes}
 use Rattle.stepping.specs.Answers.{Answer, refused, written, answer}
-use Rattle.stepping.specs.Theorems.Written.{writes_run, writes_in_order}
+use Rattle.stepping.proofs.Theorems.Written.{writes_run, writes_in_order}
 use Rattle.step_answers.specs.Answers.{after_reading, stepped}
 
 clash : {A : Type 0} {n : ℕ} {w : List ℕ} → refused n ≡ written w → A

@@ -9,9 +9,9 @@ use Rattle.plan.specs.Op.{Plan}
 use Rattle.plan_codec.specs.Reading as codec
 use Rattle.plan_codec.specs.Reading.{reading}
 use Rattle.stepping.specs.Answers.{Answer, number, output}
-use Rattle.stepping.specs.Theorems.AnswerOutputs.{left_alone, written_first, written_past}
+use Rattle.stepping.proofs.Theorems.AnswerOutputs.{left_alone, written_first, written_past}
 use Rattle.step_answers.specs.Answers.{stepped, returned, output_after}
-use Rattle.stepping.specs.Theorems.OrderOfAnswers.{delivered_bytes, answer_writes}
+use Rattle.stepping.proofs.Theorems.OrderOfAnswers.{delivered_bytes, answer_writes}
 use Rattle.step_answers.specs.FileAnswers.{returns_plan, steps_plan, returns_0}
 
 module _ (s rows bytes out : List ℕ) where

@@ -1,7 +1,7 @@
 -- Room: a finished subtree that used many slots is copied together, so that no walk outgrows a full arena.
 use Rattle.std.specs.Prelude.{◌≡◌, refl, Bool, false, ◌&&◌, ◌||◌, List, ◌⊎◌, ℕ, ◌+◌, ◌*◌, ◌/◌, ◌≤◌, ◌<◌, leb, ltb, length}
 use Rattle.std.proofs.Common.{ap, ◌∙◌, inl, inr, arith, ltb-false}
-use Rattle.semantics.specs.Theorems.Common.Bools.{or_false}
+use Rattle.semantics.proofs.Theorems.Common.Bools.{or_false}
 use Rattle.walks.specs.Marks.{Tree, size_t}
 use Rattle.arena.specs.Arena.{slot_size}
 use Rattle.arena.specs.declared.At.{At}

@@ -4,7 +4,7 @@ use Rattle.plan.specs.Forest.{Forest, size}
 use Rattle.plan.specs.Op.{Plan}
 use Rattle.semantics.specs.Facts.{facts}
 use Rattle.stepping.specs.Outlets.{Outlet}
-use Rattle.stepping.specs.Theorems.Formed.{Steppable}
+use Rattle.stepping.proofs.Theorems.Formed.{Steppable}
 use Rattle.step_tables.specs.Places.{total, inner, nodes_at, Tables, Shows, Once}
 use Rattle.step_tables.specs.Passes.{Listed}
 use Rattle.step_tables.specs.Found.{Known}

@@ -10,7 +10,7 @@ use Rattle.semantics.specs.Facts.{facts_op, facts}
 use Rattle.semantics.specs.Properties.{cuts}
 use Rattle.stepping.specs.Outlets.{Outlet, keeps}
 use Rattle.stepping.specs.Moves.{Manner, still, passing, merging, sorting, manner, Way, straight, gathered, scattered, way, outputs, shown, States, moves}
-use Rattle.stepping.specs.Theorems.Formed.{Formed}
+use Rattle.stepping.proofs.Theorems.Formed.{Formed}
 use Rattle.stepping.specs.Stepping.{Drawn, chosen}
 use Rattle.step_tables.specs.Places.{within, taken_out, is_straight, kind_of, total, inner, node_of, Tables, Shows, Once}
 use Rattle.step_tables.specs.Shown.{Only, once_kept, within-true}

@@ -8,7 +8,7 @@ use Rattle.plan.specs.Numbers.{code}
 use Rattle.plan.specs.WellFormed.{children_ok}
 use Rattle.semantics.specs.Facts.{Facts, nothing, facts, facts_op}
 use Rattle.walks.specs.Marks.{strip, known, op_t, fact, size_t}
-use Rattle.walks.specs.Theorems.Common.Trees.{strip-size}
+use Rattle.walks.proofs.Theorems.Common.Trees.{strip-size}
 use Rattle.plan_codec.specs.Decode.{decode}
 use Rattle.scan.specs.Parts.{splice}
 use Rattle.stepping.specs.Moves.{manner, way}

@@ -8,7 +8,7 @@ use Rattle.plan.specs.Forest.{none, tree, roots, size}
 use Rattle.plan.specs.Op.{Op, filter, Plan}
 use Rattle.semantics.specs.Facts.{facts, facts_op}
 use Rattle.stepping.specs.Moves.{manner, way}
-use Rattle.stepping.specs.Theorems.Formed.{Formed, Steppable, steppable-none, steppable-tree}
+use Rattle.stepping.proofs.Theorems.Formed.{Formed, Steppable, steppable-none, steppable-tree}
 use Rattle.plan_context.specs.View.{Arena}
 use Rattle.step_tables.specs.Places.{total, inner, kind_of, is_straight, Node, nodes_at, node_of}
 use Rattle.step_tables.specs.Passes.{node_in, Listed}

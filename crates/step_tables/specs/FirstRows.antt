@@ -10,7 +10,7 @@ use Rattle.semantics.specs.Facts.{Facts, facts_op, facts}
 use Rattle.semantics.specs.Runs.{next_s, past}
 use Rattle.stepping.specs.Outlets.{Placed, place, Outlet, tally}
 use Rattle.stepping.specs.Stepping.{given, start}
-use Rattle.stepping.specs.Theorems.Ranges.{given_within}
+use Rattle.stepping.proofs.Theorems.Ranges.{given_within}
 use Rattle.step_tables.specs.Places.{within, waiting_in, total, inner, Tables, Shows, shows_none, shows_tree}
 use Rattle.step_tables.specs.Shown.{within-true, within_below, within_above, append_none, tab_ext}
 

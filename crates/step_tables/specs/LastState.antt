@@ -7,9 +7,9 @@ use Rattle.plan.specs.Op.{Plan}
 use Rattle.stepping.specs.Outlets.{Outlet}
 use Rattle.stepping.specs.Moves.{moves}
 use Rattle.stepping.specs.Stepping.{chosen, start, after, work, finished}
-use Rattle.stepping.specs.Theorems.Formed.{Steppable}
-use Rattle.stepping.specs.Theorems.Lessening.{start-shaped}
-use Rattle.stepping.specs.Theorems.Progress.{stays, finishes, rested_stuck}
+use Rattle.stepping.proofs.Theorems.Formed.{Steppable}
+use Rattle.stepping.proofs.Theorems.Lessening.{start-shaped}
+use Rattle.stepping.proofs.Theorems.Progress.{stays, finishes, rested_stuck}
 
 -- From a state that cannot move on, m steps on
 still_there : (f : Plan) (bytes : List ℕ) (m n i : ℕ) (st : Forest Outlet) → m ≤ n → moves f (after f bytes m i st) ≡ [] → after f bytes n i st ≡ after f bytes m i st

@@ -10,7 +10,7 @@ use Rattle.plan.specs.Forest.{none, tree, size}
 use Rattle.plan.specs.Op.{Op, Plan}
 use Rattle.semantics.specs.Facts.{facts_op, facts}
 use Rattle.stepping.specs.Moves.{Way, straight, gathered, scattered, way}
-use Rattle.stepping.specs.Theorems.Formed.{Steppable, steppable-tree}
+use Rattle.stepping.proofs.Theorems.Formed.{Steppable, steppable-tree}
 use Rattle.step_tables.specs.Places.{total, inner, is_straight, Node, node_of, nodes_at}
 use Rattle.step_tables.specs.Shown.{tab_ext, tab_append}
 use Rattle.step_tables.specs.Opened.{Fits, way_fits}

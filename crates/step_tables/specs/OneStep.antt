@@ -13,7 +13,7 @@ use Rattle.semantics.specs.Runs.{Streams}
 use Rattle.stepping.specs.Outlets.{Outlet, inputs}
 use Rattle.stepping.specs.Moves.{Manner, still, passing, merging, sorting, manner, way, outputs, opens, ready, with_rows, least_head, once, choices, sent, take_by, moves}
 use Rattle.stepping.specs.Stepping.{Drawn, chosen}
-use Rattle.stepping.specs.Theorems.Formed.{Steppable}
+use Rattle.stepping.proofs.Theorems.Formed.{Steppable}
 use Rattle.step_tables.specs.Places.{total, inner, Tables, Shows, shows_tree}
 use Rattle.step_tables.specs.Shown.{inputs_are}
 use Rattle.step_tables.specs.Choosing.{waits_at, streams_at, flags_at, chosen_from, with_rows_are}

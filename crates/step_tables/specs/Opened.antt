@@ -10,7 +10,7 @@ use Rattle.semantics.specs.Properties.{any_of}
 use Rattle.semantics.specs.Runs.{Streams}
 use Rattle.stepping.specs.Outlets.{Outlet, inputs}
 use Rattle.stepping.specs.Moves.{Way, straight, gathered, scattered, way, sort_way, reach, live, opens}
-use Rattle.stepping.specs.Theorems.Formed.{Formed, Steppable, steppable-none, steppable-tree}
+use Rattle.stepping.proofs.Theorems.Formed.{Formed, Steppable, steppable-none, steppable-tree}
 use Rattle.step_tables.specs.Places.{total, inner, is_straight, Node, nodes_at, Tables, Shows, shows_none, shows_tree}
 use Rattle.step_tables.specs.Shown.{tab_ext, tab_append, inputs_are}
 use Rattle.step_tables.specs.Choosing.{waits_at, streams_at, flags_at, live_at, any_from, live_are, any_live_is}

@@ -9,7 +9,7 @@ use Rattle.semantics.specs.Facts.{Facts, is_nil, facts_op, facts}
 use Rattle.semantics.specs.Runs.{Streams}
 use Rattle.stepping.specs.Outlets.{Outlet, inputs}
 use Rattle.stepping.specs.Moves.{manner, opens, choices}
-use Rattle.stepping.specs.Theorems.Formed.{Formed, Steppable, steppable-none, steppable-tree}
+use Rattle.stepping.proofs.Theorems.Formed.{Formed, Steppable, steppable-none, steppable-tree}
 use Rattle.step_tables.specs.Places.{total, inner, Tables, Shows, shows_none, shows_tree}
 use Rattle.step_tables.specs.Shown.{tab_ext, inputs_are}
 use Rattle.step_tables.specs.Choosing.{waits_at, flags_at, any_from, chosen_from}

@@ -14,8 +14,8 @@ use Rattle.semantics.specs.Runs.{Streams}
 use Rattle.stepping.specs.Outlets.{Outlet, keeps, put}
 use Rattle.stepping.specs.Moves.{Manner, still, passing, merging, sorting, manner, Way, straight, gathered, scattered, way, outputs, shown, Taken, taken, take_by, sent, ready, with_rows, least_head, once, choices, moves}
 use Rattle.stepping.specs.Stepping.{Drawn, chosen}
-use Rattle.stepping.specs.Theorems.Formed.{Formed, Steppable, steppable-tree}
-use Rattle.stepping.specs.Theorems.Manners.{Lone, lone}
+use Rattle.stepping.proofs.Theorems.Formed.{Formed, Steppable, steppable-tree}
+use Rattle.stepping.proofs.Theorems.Manners.{Lone, lone}
 use Rattle.step_tables.specs.Places.{within, is_straight, total, inner, Tables, Shows, shows_none, shows_tree}
 use Rattle.step_tables.specs.Shown.{is_within}
 use Rattle.step_tables.specs.Found.{first_by}

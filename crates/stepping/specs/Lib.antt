@@ -4,5 +4,4 @@ pub mod Stepping
 pub mod RowBytes
 pub mod Answers
 pub mod Coming
-pub mod Theorems
-pub mod Examples
+pub mod StepCount

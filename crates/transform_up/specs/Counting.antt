@@ -8,7 +8,7 @@ use Rattle.plan.specs.declared.Refusal.TheVariants.{TooManyNodes}
 use Rattle.walks.specs.Marks.{Marked, Tree, plant, size_t, rebuild, transform_up}
 use Rattle.walks.specs.Terms.{◌⊕◌, sizes_up, small}
 use Rattle.walks.specs.Counted.{Counted, stopped, counted, bind, too_many, stepped, count_up}
-use Rattle.walks.specs.Theorems.Calls.Counts.{count_up_lem}
+use Rattle.walks.proofs.Theorems.Calls.Counts.{count_up_lem}
 
 -- The walk of one tree
 abbrev pub count_tree : (Tree → Tree) → ℕ → Op → Plan → Counted Tree

@@ -6,7 +6,7 @@ use Rattle.plan_codec.specs.Decode.{decode}
 use Rattle.plan_codec.specs.Encode.{encode}
 use Rattle.semantics.specs.Properties.{rebuilt}
 use Rattle.walks.specs.Marks.{Tree, node, known, size_t, rebuild}
-use Rattle.walks.specs.Theorems.Common.Trees.{OkT}
+use Rattle.walks.specs.Trees.{OkT}
 use Rattle.walks.specs.Counted.{too_many}
 use Rattle.arena.specs.Arena.{slot_size, slot, Below}
 use Rattle.arena.specs.declared.At.{At}

@@ -13,9 +13,10 @@ use Rattle.arena.specs.declared.At.{At}
 use Rattle.arena.specs.Laws.{below_at}
 use Rattle.walks.specs.Marks.{Tree, node, plant, op_t, size_t, rebuild, strip, bare, transform_up}
 use Rattle.walks.specs.Terms.{◌⊕◌}
-use Rattle.walks.specs.Theorems.Common.Trees.{Ok, OkT, FitsA, arity, ok_fit, strip-size}
-use Rattle.walks.specs.Theorems.Common.Trees as walks
-use Rattle.walks.specs.Theorems.Common.Keeps.{kept_node, like_refl, walk_kept, strip-bare}
+use Rattle.walks.specs.Trees.{Ok, OkT, FitsA, arity}
+use Rattle.walks.proofs.Theorems.Common.Trees.{ok_fit, strip-size}
+use Rattle.walks.specs.Trees as walks
+use Rattle.walks.proofs.Theorems.Common.Keeps.{kept_node, like_refl, walk_kept, strip-bare}
 use Rattle.walks.specs.Counted.{Counted, stopped, counted, bind, too_many, stepped, count_up}
 use Rattle.plan_context.specs.View.{tree_in, tree_of, forest, Arena, Grown}
 use Rattle.plan_context.specs.Laws.{same_trans, slot_same, in_same}

@@ -1,14 +1,14 @@
 -- The walks that go children before parents: the step of each, as the walks' definitions have it. These are definitions, but for step_keeps.
 use Rattle.std.specs.Prelude.{Bool, true, false}
 use Rattle.walks.specs.Marks.{Tree}
-use Rattle.walks.specs.Theorems.Common.Trees.{FitT}
-use Rattle.walks.specs.Theorems.Common.Keeps.{Keeps}
+use Rattle.walks.specs.Trees.{FitT}
+use Rattle.walks.proofs.Theorems.Common.Keeps.{Keeps}
 use Rattle.walks.specs.EnsureSorting.{ensure_sorting}
-use Rattle.walks.specs.Theorems.Ensure.Kept.{ensure_sorting_kept}
+use Rattle.walks.proofs.Theorems.Ensure.Kept.{ensure_sorting_kept}
 use Rattle.walks.specs.ParallelizeSorts.{parallelize_sorts}
-use Rattle.walks.specs.Theorems.Parallelize.Kept.{parallelize_sorts_kept}
+use Rattle.walks.proofs.Theorems.Parallelize.Kept.{parallelize_sorts_kept}
 use Rattle.walks.specs.OrderPreserving.{replace_with_order_preserving_variants}
-use Rattle.walks.specs.Theorems.Preserve.Kept as preserving
+use Rattle.walks.proofs.Theorems.Preserve.Kept as preserving
 use Rattle.walk_settings.specs.Settings.{settings_of}
 use Rattle.transform_up.specs.declared.Walk.{Walk}
 use Rattle.transform_up.specs.declared.Walk.TheVariants.{Ensure, Parallelize, Preserve}

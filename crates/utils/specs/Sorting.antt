@@ -14,8 +14,8 @@ use Rattle.semantics.specs.Facts.{Facts, met}
 use Rattle.semantics.specs.Properties.{is_single, fresh_keys}
 use Rattle.walks.specs.Marks.{Tree, fact, over, cover, cover_with, node, size_t}
 use Rattle.walks.specs.Utils.{new_sort, new_merge, needs_merge, add_sort_above, add_sort_above_with_distribution, add_sort_above_with_check}
-use Rattle.walks.specs.Theorems.Common.Keys.{KeysFit, fresh_fits}
-use Rattle.walks.specs.Theorems.Common.NewNodes.{sort_ok, merge_ok, narrow_t}
+use Rattle.walks.proofs.Theorems.Common.Keys.{KeysFit, fresh_fits}
+use Rattle.walks.proofs.Theorems.Common.NewNodes.{sort_ok, merge_ok, narrow_t}
 use Rattle.key_lists.specs.Keys.{keys_of, Keyed}
 use Rattle.key_lists.specs.Lists.{length_keys}
 use Rattle.facts.specs.Known.{known as told}

@@ -17,5 +17,5 @@ pub mod SortPushdown
 pub mod PushdownSorts
 pub mod Counted
 pub mod Terms
-pub mod Theorems
-pub mod Examples
+pub mod Trees
+pub mod Earlier

@@ -5,7 +5,7 @@ use Rattle.class_tables.specs.Tables.{at, carries}
 use lib.Dec.{eqb}
 use borrow.Author.Count.{below_none, below_more}
 use borrow.Author.Tests.{eq-eqb, ne_eqb}
-use Rattle.semantics.specs.Theorems.Common.Lowest.{lowest_none}
+use Rattle.semantics.proofs.Theorems.Common.Lowest.{lowest_none}
 use Rattle.class_tables.specs.Lowest.{lowest_at}
 use Rattle.class_tables.proofs.carried.Goals as goal
 

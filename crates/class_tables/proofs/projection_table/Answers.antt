@@ -2,7 +2,7 @@ use native.Mathlib.Omega.{arith}
 use mathlib.Core.Path.{◌≡◌, ◌∙◌}
 use Prim.Native.Nat.{◌-◌}
 use lib.ListN.{length}
-use Rattle.semantics.specs.Theorems.Common.Lowest.{lowest_le}
+use Rattle.semantics.proofs.Theorems.Common.Lowest.{lowest_le}
 use Rattle.class_tables.specs.Tables.{at, carries, projection_low}
 use Rattle.class_tables.specs.Filling.{filled_none, filled_more}
 use Rattle.class_tables.proofs.projection_table.Goals as goal

@@ -3,7 +3,7 @@ use mathlib.Core.Path.{◌≡◌, sym, ◌∙◌}
 use Prim.Native.Nat.{◌-◌}
 use Rattle.class_tables.specs.Tables.{at, alike_at}
 use borrow.Author.Count.{below_none, below_more}
-use Rattle.semantics.specs.Theorems.Common.Lowest.{lowest_none}
+use Rattle.semantics.proofs.Theorems.Common.Lowest.{lowest_none}
 use Rattle.class_tables.specs.Lowest.{lowest_at}
 use Rattle.class_tables.proofs.union_low.Goals as goal
 

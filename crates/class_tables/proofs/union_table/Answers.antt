@@ -1,7 +1,7 @@
 use native.Mathlib.Omega.{arith}
 use mathlib.Core.Path.{◌≡◌, ◌∙◌}
 use Prim.Native.Nat.{◌-◌}
-use Rattle.semantics.specs.Theorems.Common.Lowest.{lowest_le}
+use Rattle.semantics.proofs.Theorems.Common.Lowest.{lowest_le}
 use Rattle.class_tables.specs.Tables.{at, alike_at, union_low}
 use Rattle.class_tables.specs.Filling.{filled_none, filled_more}
 use Rattle.class_tables.proofs.union_table.Goals as goal

@@ -6,7 +6,7 @@ use Rattle.record_fields.specs.Proper.{Proper}
 use mathlib.Core.Bool.{true}
 use lib.ListN.{length}
 use Rattle.arena.specs.Arena.{slot}
-use Rattle.walks.specs.Theorems.Common.Trees.{OkT}
+use Rattle.walks.specs.Trees.{OkT}
 use Rattle.plan_context.specs.View.{forest}
 use Rattle.plan_updates.specs.ProperRecords.{record_proper}
 use Rattle.order_preservation_marks.specs.Nodes.{shown}

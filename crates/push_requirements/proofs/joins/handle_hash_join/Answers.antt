@@ -6,7 +6,7 @@ use borrow.Author.Tests.{not-true, not-false}
 use Rattle.row_order.specs.Iso.{Key}
 use Rattle.semantics.specs.Properties.{kept_side}
 use Rattle.key_lists.specs.Keys.{keys_of, Ordered}
-use Rattle.walks.specs.Theorems.Push.ChildOrders.{every_le}
+use Rattle.walks.proofs.Theorems.Push.ChildOrders.{every_le}
 use Rattle.push_requirements.specs.Answers.{go_stop, go_on, right_only, and_no, and_so}
 use Rattle.semantics.specs.Facts as sem
 use Rattle.scan.specs.Below.{and_false}
