@@ -1,3 +1,4 @@
+use native.Mathlib.Omega.{arith}
 use borrow.Author.Rules.{rules}
 use Prim.Native.Nat.{ℕ}
 use mathlib.Core.Path.{sym, ap, ◌∙◌}
@@ -50,8 +51,5 @@ pub returns-in-15 : goal.returns-in-15
 returns-in-15 c = c.aggregate_ok.ensures ∙ ap (λ (k : ℕ). rules_ok (fields_of k) c.args.r.now) (sym c.in-15.is)
 
 pub returns-in_default : goal.returns-in_default
-returns-in_default c = let r = c.args.r.now in let m = c.in_default.rest in
-    c.bare_ok.ensures
-    ∙ ap (λ (f : Fields). rules_ok f r) (no_fields (get_or r 0 0) m.0.0.0.0.0.0.0.0.0.0.0.0.1 m.0.0.0.0.0.0.0.0.0.0.0.1
-    m.0.0.0.0.0.0.0.0.0.0.1 m.0.0.0.0.0.0.0.0.0.1 m.0.0.0.0.0.0.0.0.1 m.0.0.0.0.0.0.0.1 m.0.0.0.0.0.0.1
-    m.0.0.0.0.0.1 m.0.0.0.0.1 m.0.0.0.1 m.0.0.1 m.0.1 m.1)
+returns-in_default c = let r = c.args.r.now in
+    c.bare_ok.ensures ∙ ap (λ (f : Fields). rules_ok f r) (no_fields (get_or r 0 0) (λ e. omega arith) (λ e. omega arith) (λ e. omega arith) (λ e. omega arith) (λ e. omega arith) (λ e. omega arith) (λ e. omega arith) (λ e. omega arith) (λ e. omega arith) (λ e. omega arith) (λ e. omega arith) (λ e. omega arith) (λ e. omega arith))
