@@ -60,6 +60,7 @@ whole_leaves : {T T' : Tables} {i g q n b : ℕ} (ks : List Key) (k : ℕ) (c : 
     length (roots c) ≡ 1 → i ≡ first_by ks T.rows T.places b (total (facts c)) T.order → Apart b (b + total (facts c)) c g →
     Apart b (b + total (facts c)) c q → Leaves T (sorting false ks) k i n b c sc T'
 whole_leaves ks k none sc v shows_none l e x y = absurd (omega arith)
+whole_leaves {T = T} ks k (tree o c none) none v sh l e x y = elim sh [ ]
 whole_leaves {T} {T'} {i} {g} {q} {n} {b} ks k (tree o c none) (tree d sc sr) v sh l e x y =
     let z : total (facts (tree o c none)) ≡ (facts_op o (facts c)).streams = omega arith in
     let e' = e ∙ ap (λ (m : ℕ). first_by ks T.rows T.places b m T.order) z in
