@@ -1,18 +1,16 @@
 use mathlib.Core.Path.{◌≡◌, sym, ap}
-use Prim.Native.Nat.{ℕ, ◌<◌}
+use Prim.Native.Nat.{ℕ, ◌<◌, ◌≤◌}
 use native.Mathlib.Omega.{arith}
 use native.Mathlib.Decide.{dec_lt}
 use lib.ListN.{get_or-eq_default}
 use Rattle.plan.specs.Numbers.{join_types, join_type_of}
 use Rattle.plan.specs.declared.JoinType.TheVariants.{RightAnti}
-use Rattle.record_fields.proofs.Tables.{down}
 use Rattle.record_fields.proofs.join_type_of.Goals as goal
 
-last : (k : ℕ) → Dec (k < 7) → Dec (k < 8) → (k < 7 → k < 0) → RightAnti ≡ join_type_of k
+last : (k : ℕ) → Dec (k < 8) → 7 ≤ k → RightAnti ≡ join_type_of k
 unfolding join_type_of
-last k (yes h) d z = absurd (let n = z h in omega arith)
-last k (no h) (yes l) z = ap join_type_of (let e : 7 ≡ k = omega arith in e)
-last k (no h) (no l) z = sym (get_or-eq_default join_types RightAnti {n = k} (omega arith))
+last k (yes l) h = ap join_type_of (let e : 7 ≡ k = omega arith in e)
+last k (no l) h = sym (get_or-eq_default join_types RightAnti {n = k} (omega arith))
 
 pub returns-in-0 : goal.returns-in-0
 unfolding join_type_of
@@ -43,7 +41,4 @@ unfolding join_type_of
 returns-in-6 c = ap join_type_of (sym c.in-6.is)
 
 pub returns-in_default : goal.returns-in_default
-returns-in_default c = let r = c.in_default.rest in
-    last c.args.k (dec_lt c.args.k 7) (dec_lt c.args.k 8)
-    (λ h. down 0 r.0.0.0.0.0.0.1
-    (down 1 r.0.0.0.0.0.1 (down 2 r.0.0.0.0.1 (down 3 r.0.0.0.1 (down 4 r.0.0.1 (down 5 r.0.1 (down 6 r.1 h)))))))
+returns-in_default c = last c.args.k (dec_lt c.args.k 8) (omega arith)

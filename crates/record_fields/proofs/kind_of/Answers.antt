@@ -2,11 +2,9 @@ use mathlib.Core.Path.{◌≡◌, sym, ap}
 use Prim.Native.Nat.{ℕ, ◌<◌}
 use native.Mathlib.Omega.{arith}
 use native.Mathlib.Decide.{dec_lt}
-use lib.Arith.{lt-one}
 use lib.ListN.{get_or-eq_default}
 use Rattle.plan.specs.Numbers.{kinds, kind_of}
 use Rattle.plan.specs.declared.Kind.TheVariants.{PartialSort}
-use Rattle.record_fields.proofs.Tables.{down}
 use Rattle.record_fields.proofs.kind_of.Goals as goal
 
 last : (k : ℕ) → Dec (k < 16) → (k < 16 → k ≡ 0) → PartialSort ≡ kind_of k
@@ -75,9 +73,4 @@ unfolding kind_of
 returns-in-15 c = ap kind_of (sym c.in-15.is)
 
 pub returns-in_default : goal.returns-in_default
-returns-in_default c = let r = c.in_default.rest in
-    last c.args.k (dec_lt c.args.k 16)
-    (λ h. lt-one (down 1 r.0.0.0.0.0.0.0.0.0.0.0.0.0.0.1 (down 2 r.0.0.0.0.0.0.0.0.0.0.0.0.0.1
-    (down 3 r.0.0.0.0.0.0.0.0.0.0.0.0.1 (down 4 r.0.0.0.0.0.0.0.0.0.0.0.1 (down 5 r.0.0.0.0.0.0.0.0.0.0.1
-    (down 6 r.0.0.0.0.0.0.0.0.0.1 (down 7 r.0.0.0.0.0.0.0.0.1 (down 8 r.0.0.0.0.0.0.0.1 (down 9 r.0.0.0.0.0.0.1
-    (down 10 r.0.0.0.0.0.1 (down 11 r.0.0.0.0.1 (down 12 r.0.0.0.1 (down 13 r.0.0.1 (down 14 r.0.1 (down 15 r.1 h))))))))))))))))
+returns-in_default c = last c.args.k (dec_lt c.args.k 16) (λ h. omega arith)
