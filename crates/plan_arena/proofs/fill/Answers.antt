@@ -99,16 +99,18 @@ loop-i-smaller c = let z = c.loop-i-test.true in omega arith
 
 pub loop-i-preserved : goal.loop-i-preserved
 loop-i-preserved c = let l = c.loop-i in (
-      c.append.auto.m ∙ l.invariant.0,
-      fill_next c.args.s.now c.args.c _ c.requires l.i l.u l.t l.w l.m c.loop-i-test.true l.invariant.1
-          c.record_start-at.result c.record_start-at.ensures _ c.append.ensures,
-    )
+  c.append.auto.m ∙ l.invariant.0,
+  fill_next c.args.s.now c.args.c _ c.requires l.i l.u l.t l.w l.m c.loop-i-test.true l.invariant.1
+      c.record_start-at.result c.record_start-at.ensures _ c.append.ensures,
+)
 
 pub offset_bounds-w-t-2 : goal.offset_bounds-w-t-2
-offset_bounds-w-t-2 c = let g = (ended (goal.at.offset_bounds-w-t-2 c).After-loop-i).0 in omega arith
+offset_bounds-w-t-2 c = let l = c.loop-i in
+    let g = (fill_end c.args.s.now c.args.c _ c.requires l.i l.u l.t l.w l.m c.loop-i-test.false l.invariant.1).0 in omega arith
 
 pub bounds-w-t-2 : goal.bounds-w-t-2
-bounds-w-t-2 c = let g = (ended (goal.at.bounds-w-t-2 c).After-loop-i).0 in let o = c.loop-i.invariant.1.stack.long in omega arith
+bounds-w-t-2 c = let l = c.loop-i in
+    let g = (fill_end c.args.s.now c.args.c _ c.requires l.i l.u l.t l.w l.m c.loop-i-test.false l.invariant.1).0 in let o = c.loop-i.invariant.1.stack.long in omega arith
 
 pub shape_of-m : goal.shape_of-m
 shape_of-m c = c.loop-i.invariant.0
