@@ -11,7 +11,7 @@ pub loop-i-init : goal.loop-i-init
 loop-i-init c = let a = c.args in (omega arith, best_none ((map key_of c.args.keys.now)) ((row_in c.args.cells.now c.args.nulls.now c.args.widths.now)) a.places.now a.order.now a.g a.n)
 
 pub turn_back-best-requires : goal.turn_back-best-requires
-turn_back-best-requires c = ((c.requires.0.0, c.requires.0.1), (c.requires.1.0, omega arith))
+turn_back-best-requires c = record { known = c.requires.known; tells = (c.requires.tells.0, omega arith) }
 
 pub loop-i-preserved : goal.loop-i-preserved
 loop-i-preserved c = let a = c.args in let l = c.loop-i in
