@@ -13,19 +13,19 @@ slice_bounds-put_number-end-2 c = simp length-take (omega arith)
 
 pub loop-c-init : goal.loop-c-init
 loop-c-init c = let a = c.args in (
-      omega arith,
-      cells_none a.set a.cells.now a.d.now _ _ c.requires.1 c.null_set-s.ensures c.put_number.ensures,
-    )
+  omega arith,
+  cells_none a.set a.cells.now a.d.now _ _ c.requires.1 c.null_set-s.ensures c.put_number.ensures,
+)
 
 pub put_cell-requires : goal.put_cell-requires
 put_cell-requires c = simp (length-take, length-drop) (omega arith)
 
 pub loop-c-preserved : goal.loop-c-preserved
 loop-c-preserved c = let a = c.args in let l = c.loop-c in (
-      omega arith,
-      cells_more a.set a.cells.now l.c l.d _ _ _ (omega arith) c.has.ensures
-          (to_z-of_z {w = w64} {z = get_or a.cells.now l.c (pos 0)} (record { sfits = c.z-1.given })) c.put_cell.ensures l.invariant.1,
-    )
+  omega arith,
+  cells_more a.set a.cells.now l.c l.d _ _ _ (omega arith) c.has.ensures
+      (to_z-of_z {w = w64} {z = get_or a.cells.now l.c (pos 0)} (record { sfits = c.z-1.given })) c.put_cell.ensures l.invariant.1,
+)
 
 pub shape_of-d : goal.shape_of-d
 shape_of-d c = c.loop-c.invariant.1.long ∙ sym c.requires.1

@@ -1,11 +1,11 @@
 use native.Mathlib.Omega.{arith}
 use Prim.Native.Nat.{◌-◌}
 use mathlib.Core.Path.{◌∙◌}
-use mathlib.Core.Logic.{⊎_elim}
 use lib.ListN.{length, get_or}
 use Rattle.step_tables.specs.Rows.{row_in, inside}
 use Rattle.row_writer.specs.Streams.{rowed_length, rowed_past, rowed_here, rowed_room, row_size_lem, count_length, count_first, stream_all}
 use Rattle.row_writer.proofs.put_stream.Goals as goal
+use Rattle.row_writer.proofs.put_stream.Goals.{else-places-r, then-places-r}
 
 pub count_at-count-requires : goal.count_at-count-requires
 count_at-count-requires c = c.requires.0
@@ -30,9 +30,10 @@ put_row_at-to-requires c = let a = c.args in let l = c.loop-j in let rows = row_
 
 pub loop-j-preserved : goal.loop-j-preserved
 loop-j-preserved c = let a = c.args in let l = c.loop-j in let rows = row_in a.cells.now a.nulls.now a.widths.now in
-    ⊎_elim
-    (λ w. rowed_here rows a.places.now a.k a.order.now l.invariant (omega arith) w.0.taken (w.6 ∙ w.2.ensures.0) (w.5 ∙ w.2.ensures.1))
-    (λ w. rowed_past rows a.places.now a.k a.order.now l.invariant (omega arith) w.0.left w.2 w.1) c.if-places-r.branch
+    elim c.if-places-r.branch [
+      | then-places-r w ↦ rowed_here rows a.places.now a.k a.order.now l.invariant (omega arith) w.if-places-r.true (w.to-is ∙ w.put_row_at-to.ensures.0) (w.out-is ∙ w.put_row_at-to.ensures.1)
+      | else-places-r w ↦ rowed_past rows a.places.now a.k a.order.now l.invariant (omega arith) w.if-places-r.false w.to-is w.out-is
+    ]
 
 pub shape_of-out : goal.shape_of-out
 shape_of-out c = let a = c.args in let rows = row_in a.cells.now a.nulls.now a.widths.now in

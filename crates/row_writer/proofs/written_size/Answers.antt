@@ -1,8 +1,8 @@
 use native.Mathlib.Omega.{arith}
 use Prim.Native.Nat.{◌-◌}
-use mathlib.Core.Logic.{⊎_elim}
 use Rattle.row_writer.specs.Sizes.{sized_none, sized_here, sized_past, sized_all}
 use Rattle.row_writer.proofs.written_size.Goals as goal
+use Rattle.row_writer.proofs.written_size.Goals.{else-places-r, then-places-r}
 
 pub loop-i-init : goal.loop-i-init
 loop-i-init c = let a = c.args in sized_none a.widths.now a.places.now a.order.now a.n
@@ -30,12 +30,12 @@ overflow_add-size-then-places-r c = let h = c.requires.1 _ (c.requires.0 c.loop-
 
 pub loop-i-preserved : goal.loop-i-preserved
 loop-i-preserved c = let a = c.args in let l = c.loop-i in
-    ⊎_elim
-    (λ w.
-    sized_here a.widths.now a.places.now a.order.now a.n (omega arith) l.invariant c.requires.0
-    (c.requires.1 _ (c.requires.0 l.i (omega arith))) w.0.taken w.2)
-    (λ w. sized_past a.widths.now a.places.now a.order.now a.n (omega arith) l.invariant w.0.left w.1)
-    c.if-places-r.branch
+    elim c.if-places-r.branch [
+      | then-places-r w ↦
+          sized_here a.widths.now a.places.now a.order.now a.n (omega arith) l.invariant c.requires.0
+          (c.requires.1 _ (c.requires.0 l.i (omega arith))) w.if-places-r.true w.size-is
+      | else-places-r w ↦ sized_past a.widths.now a.places.now a.order.now a.n (omega arith) l.invariant w.if-places-r.false w.size-is
+    ]
 
 pub returns : goal.returns
 returns c = let a = c.args in
