@@ -26,10 +26,10 @@ ranged c =
 
 pub loop-left-init : goal.loop-left-init
 loop-left-init c = let z = no_length c.no_keys-out.result c.no_keys-out.ensures.0 in (
-      omega (arith, c.requires.1),
-      subst⁻¹ (λ (z : ℤ). All (Movable z) (keys_of c.args.k)) (signed_is (goal.at.loop-left-init c).Start) c.requires.0,
-      begun _ c.no_keys-out.result c.no_keys-out.ensures.0 c.no_keys-out.ensures.1,
-    )
+  omega (arith, c.requires.len_bound),
+  subst⁻¹ (λ (z : ℤ). All (Movable z) (keys_of c.args.k)) (signed_is (goal.at.loop-left-init c).Start) c.requires.all,
+  begun _ c.no_keys-out.result c.no_keys-out.ensures.0 c.no_keys-out.ensures.1,
+)
 
 pub move_column-c-requires : goal.move_column-c-requires
 move_column-c-requires c = (rw c.column.ensures (omega arith), ranged (goal.at.move_column-c-requires c).After-column)

@@ -9,8 +9,8 @@ use Rattle.key_lists.specs.Lists.{Building}
 use Rattle.key_list_algebra.proofs.move_keys.Given as goal
 
 abbrev pub invariant-loop-left : goal.invariant-loop-left
-invariant-loop-left l = (l.out.len + l.left ≤ 8) × All (Movable (to_z w64 l.by)) (keys_in l.left l.rest)
-    × Building (map (moved_by (to_z w64 l.by)) (keys_in l.initial.left l.initial.rest)) l.out (map (moved_by (to_z w64 l.by)) (keys_in l.left l.rest))
+invariant-loop-left l = (l.out.len + l.left ≤ 8) × All (Movable l.by) (keys_in l.left l.rest)
+    × Building (map (moved_by l.by) (keys_in l.initial.left l.initial.rest)) l.out (map (moved_by l.by) (keys_in l.left l.rest))
 
 abbrev pub decreases-loop-left : goal.decreases-loop-left
 decreases-loop-left l = l.left

@@ -1,14 +1,13 @@
 use native.Mathlib.Omega.{arith}
 use mathlib.Core.Path.{refl, ap, sym, ◌∙◌}
-use mathlib.Core.Logic.{⊎_elim}
-use borrow.Author.Tests.{not-true, not-false}
 use Rattle.row_order.specs.Packed.{bit}
 use Rattle.class_tables.specs.Tables.{at}
 use Rattle.key_list_algebra.specs.Normalising.{normal_none, skipped, kept, normalised}
 use Rattle.key_list_algebra.proofs.normal.Goals as goal
+use Rattle.key_list_algebra.proofs.normal.Goals.{then-not-has, else-not-has}
 
 pub loop-left-init : goal.loop-left-init
-loop-left-init c = let s = c.args in normal_none (bit s.consts) (at s.table.now) s.k c.no_keys-out.result s.consts c.requires.1
+loop-left-init c = let s = c.args in normal_none (bit s.consts) (at s.table.now) s.k c.no_keys-out.result s.consts c.requires.len_bound
     c.no_keys-out.ensures.0 c.no_keys-out.ensures.1 (λ d. refl)
 
 pub low-c-requires : goal.low-c-requires
@@ -16,11 +15,11 @@ low-c-requires c = rw c.column.ensures (omega arith)
 
 pub with-seen-requires : goal.with-seen-requires
 with-seen-requires c = rw c.low-c.ensures
-    (c.requires.0 c.column.result
+    (c.requires.small c.column.result
     (rw c.column.ensures (omega arith)))
 
 pub with_column-requires : goal.with_column-requires
-with_column-requires c = rw c.low-c.ensures (c.requires.0
+with_column-requires c = rw c.low-c.ensures (c.requires.small
     c.column.result (rw c.column.ensures (omega arith)))
 
 pub appended-out-requires : goal.appended-out-requires
@@ -31,12 +30,13 @@ pub loop-left-preserved : goal.loop-left-preserved
 loop-left-preserved c = let s = c.args in let l = c.loop-left in
     let h = c.loop-left-test.true in
     let e = c.low-c.ensures ∙ ap (at s.table.now) c.column.ensures in
-    ⊎_elim (λ w. rw (w.4, w.5) (kept _ _ _ l.out l.seen l.rest l.left l.invariant h c.low-c.result e
-    (sym c.has.ensures ∙ not-true _ w.0.taken) w.1.result w.1.ensures w.2.result w.2.ensures w.3.result
-    w.3.ensures))
-    (λ w. rw (w.1, w.2) (skipped _ _ _ l.out l.seen l.rest l.left l.invariant h c.low-c.result e
-    (sym c.has.ensures ∙ not-false _ w.0.left)))
-    c.if-not-has.branch
+    elim c.if-not-has.branch [
+      | then-not-has w ↦ rw (w.out-is, w.seen-is) (kept _ _ _ l.out l.seen l.rest l.left l.invariant h c.low-c.result e
+          (sym c.has.ensures ∙ w.if-not-has.true) w.with-seen.result w.with-seen.ensures w.with_column.result w.with_column.ensures
+          w.appended-out.result w.appended-out.ensures)
+      | else-not-has w ↦ rw (w.out-is, w.seen-is) (skipped _ _ _ l.out l.seen l.rest l.left l.invariant h c.low-c.result e
+          (sym c.has.ensures ∙ w.if-not-has.false))
+    ]
 
 pub returns : goal.returns
 returns c = let l = c.loop-left in normalised _ _ _ l.out l.seen l.rest l.left l.invariant (omega arith)
