@@ -15,12 +15,12 @@ signed_number-requires c = tt
 
 pub loop-c-preserved : goal.loop-c-preserved
 loop-c-preserved c = let a = c.args in let l = c.loop-c in (
-      omega arith,
-      simp length-set l.invariant.1,
-      cells_more a.rows.now a.at (a.r * 32) l.c (take (a.r * 32) a.cells.now) l.cells _ _ (omega arith) l.invariant.2
-          c.get64-x.ensures
-          (to_z-of_z {w = w64} {z = c.signed_number.result} (record { sfits = c.signed_number.type_inv }) ∙ c.signed_number.ensures),
-    )
+  omega arith,
+  simp length-set l.invariant.1,
+  cells_more a.rows.now a.at (a.r * 32) l.c (take (a.r * 32) a.cells.now) l.cells _ _ (omega arith) l.invariant.2
+      c.get64-x.ensures
+      (to_z-of_z {w = w64} {z = c.signed_number.result} (record { sfits = c.signed_number.type_inv }) ∙ c.signed_number.ensures),
+)
 
 pub shape_of-cells : goal.shape_of-cells
 shape_of-cells c = c.loop-c.invariant.1

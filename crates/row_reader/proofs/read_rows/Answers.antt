@@ -66,11 +66,11 @@ loop-j-preserved c = let a = c.args in let l = c.loop-j in
     let h = c.loop-j-test.true in
     let ek = c.streams_of-k.ensures in let ew = c.byte_of-w.ensures in
     let k = c.streams_of-k.result in let w = c.byte_of-w.result in
-    let z = c.read_source-r.new.cells in let q = c.read_source-r.auto.cells in
+    let z = c.read_source-r.new in let q = c.read_source-r.auto in
     let T = tables a.cells.now a.nulls.now a.widths.now a.places.now in
     let U = tables l.cells l.nulls l.widths l.places in
-    let S = tables z.0 z.1.0 z.1.1.0 z.1.1.1.0 in
-    let long : AsLong S U = record { numbers = q.0; sets = q.1.0; widths_there = q.1.1.0; places_there = q.1.1.1.0 } in
+    let S = tables z.cells z.nulls z.widths z.places in
+    let long : AsLong S U = record { numbers = q.cells; sets = q.nulls; widths_there = q.widths; places_there = q.places } in
     plan_more a.plan.now a.n a.nodes.now a.rows.now T l.invariant k w h ek ew {S = S} c.read_source-r.result c.source_end-at.result
     c.source_end-at.ensures c.read_source-r.ensures.0 c.read_source-r.ensures.1 long
 

@@ -29,11 +29,11 @@ stream_end-a-requires c = let a = c.args in
 
 pub loop-j-preserved : goal.loop-j-preserved
 loop-j-preserved c = let a = c.args in let l = c.loop-j in
-    let z = c.read_stream-q.new.cells in let k = c.read_stream-q.auto.cells in
+    let z = c.read_stream-q.new in let k = c.read_stream-q.auto in
     let T = tables a.cells.now a.nulls.now a.widths.now a.places.now in
     let U = tables l.cells l.nulls l.widths l.places in
-    let S = tables z.0 z.1.0 z.1.1.0 z.1.1.1.0 in
-    let long : AsLong S U = record { numbers = k.0; sets = k.1.0; widths_there = k.1.1.0; places_there = k.1.1.1.0 } in
+    let S = tables z.cells z.nulls z.widths z.places in
+    let long : AsLong S U = record { numbers = k.cells; sets = k.nulls; widths_there = k.widths; places_there = k.places } in
     source_more a.rows.now a.at a.w a.k a.out a.r T l.invariant {S = S} c.read_stream-q.result c.stream_end-a.result
     c.loop-j-test.true c.stream_end-a.ensures c.read_stream-q.ensures.0 c.read_stream-q.ensures.1 long
 

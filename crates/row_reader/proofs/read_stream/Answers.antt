@@ -47,10 +47,10 @@ read_row-requires c = (omega arith, omega (arith, row_in (goal.at.read_row-requi
 
 pub loop-i-preserved : goal.loop-i-preserved
 loop-i-preserved c = let a = c.args in let l = c.loop-i in
-    let z = c.read_row.new.cells in let k = c.read_row.auto.cells in let e = c.read_row.ensures in
+    let z = c.read_row.new in let k = c.read_row.auto in let e = c.read_row.ensures in
     let T = tables l.cells l.nulls l.widths l.places in
-    let U = tables z.0 z.1.0 z.1.1.0 z.1.1.1.0 in
-    let long : AsLong U T = record { numbers = k.0; sets = k.1.0; widths_there = k.1.1.0; places_there = k.1.1.1.0 } in
+    let U = tables z.cells z.nulls z.widths z.places in
+    let long : AsLong U T = record { numbers = k.cells; sets = k.nulls; widths_there = k.widths; places_there = k.places } in
     let at = row_place a.at a.w l.i in (
       omega arith,
       as_long_too long l.invariant.1,
@@ -74,6 +74,6 @@ shape_of-places c = c.loop-i.invariant.1.places_there
 
 pub returns : goal.returns
 returns c = let a = c.args in let l = c.loop-i in let n = c.get32-n in (
-      omega (arith, n.ensures),
-      stream_all a.rows.now a.at a.w a.g a.r l.i n.result (omega (arith, l.invariant.0, c.loop-i-test.false)) n.ensures l.invariant.2,
-    )
+  omega (arith, n.ensures),
+  stream_all a.rows.now a.at a.w a.g a.r l.i n.result (omega (arith, l.invariant.0, c.loop-i-test.false)) n.ensures l.invariant.2,
+)

@@ -30,11 +30,11 @@ bounds-held-g-in-loop-r c = place_in (goal.at.bounds-held-g-in-loop-r c).In-loop
 
 pub loop-r-preserved : goal.loop-r-preserved
 loop-r-preserved c = let l = c.loop-r in (
-      omega arith,
-      simp length-set l.invariant.1,
-      held_more l.held c.args.places.now l.r c.loop-r-test.true
-          (place_in (goal.at.loop-r-preserved c).In-loop-r) l.invariant.2,
-    )
+  omega arith,
+  simp length-set l.invariant.1,
+  held_more l.held c.args.places.now l.r c.loop-r-test.true
+      (place_in (goal.at.loop-r-preserved c).In-loop-r) l.invariant.2,
+)
 
 pub shape_of-held : goal.shape_of-held
 shape_of-held c = c.loop-r.invariant.1

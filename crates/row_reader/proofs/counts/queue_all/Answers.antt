@@ -14,11 +14,11 @@ held_in-requires c = let l = c.loop-j in let p = c.requires.0 in
 
 pub loop-j-preserved : goal.loop-j-preserved
 loop-j-preserved c = let a = c.args in let l = c.loop-j in (
-      omega arith,
-      simp length-set l.invariant.1,
-      queued_more a.nodes.now a.held.now l.queued l.j c.held_in.result (omega (arith, c.requires.1, l.invariant.1)) l.invariant.2
-          c.held_in.ensures,
-    )
+  omega arith,
+  simp length-set l.invariant.1,
+  queued_more a.nodes.now a.held.now l.queued l.j c.held_in.result (omega (arith, c.requires.1, l.invariant.1)) l.invariant.2
+      c.held_in.ensures,
+)
 
 pub shape_of-queued : goal.shape_of-queued
 shape_of-queued c = c.loop-j.invariant.1
