@@ -10,7 +10,6 @@ ghost use Rattle.plan_listing.specs.Listing.{up, after, lines, slots, listing, r
 ghost use Rattle.plan_listing.specs.Laws.{pending};
 
 use arena::SLOT;
-use libc::STDOUT_FILENO;
 use node_lines::{put, put_line, put_number};
 use settling::settle_all;
 
@@ -102,6 +101,9 @@ fn show_in(plan: &[u8], m: &mut [u8], out: &mut [u8]) -> usize
 // The longest file that may be lent: one block more than a plan file may have, so that one which is too long is seen to be.
 pub const MOST: usize = 9728;
 
+// The descriptor of the standard output.
+const STDOUT: i32 = 1;
+
 // Prints what `show_in` puts: no listing of 126 nodes is longer than 36,197 bytes.
 pub fn show(plan: &[u8])
     requires { length plan.now ≤ 9728 }
@@ -109,14 +111,14 @@ pub fn show(plan: &[u8])
     let mut m = [0u8; 25536];
     let mut out = [0u8; 36864];
     let e = show_in(plan, &mut m, &mut out);
-    io::write_all(STDOUT_FILENO, &out[..e]);
+    io::write_all(STDOUT, &out[..e]);
 }
 
 // Prints a refusal's number.
 pub fn put_refusal(n: u32) {
     let mut out = [0u8; 64];
     let e = refuse(&mut out, n);
-    io::write_all(STDOUT_FILENO, &out[..e]);
+    io::write_all(STDOUT, &out[..e]);
 }
 
 // The plan file at the start of an output: its first block says how many there are.

@@ -2,10 +2,15 @@
 // the output that was lent. A case is a header of 20 bytes, then the plan file, then the file that the call is to write.
 #![tactic(auto)]
 
-use libc::STDOUT_FILENO;
+ghost use Rattle.std.specs.Prelude.{◌≤◌, length};
 
-// Longer than the longest file that a case holds, so that a file which is too long is read whole.
+use std::{fs, io};
+
+// Longer than the longest file that a case holds.
 const MOST: usize = 10240;
+
+// The length of a case's header.
+const HEADER: usize = 20;
 
 // The calls, by the number that a case has for them.
 const ENSURE: u32 = 0;
@@ -54,30 +59,29 @@ pub enum Next {
     End,
 }
 
-// The next case's header.
-fn header(fd: i32) -> Next {
-    let mut head = [0u8; 20];
-    let got = io::read_full(fd, &mut head);
-    if got < 20 {
+// The next case's header, which the rest of the cases begins with.
+fn header(rest: &[u8]) -> Next {
+    if rest.len() < HEADER {
         return Next::End;
     }
-    let length = scan::get16(&head, 4) as usize;
-    let answer = scan::get16(&head, 6) as usize;
-    let room = scan::get16(&head, 8) as usize;
+    let head = &rest[..HEADER];
+    let length = scan::get16(head, 4) as usize;
+    let answer = scan::get16(head, 6) as usize;
+    let room = scan::get16(head, 8) as usize;
     if (MOST < length) | (MOST < answer) | (MOST < room) {
         return Next::End;
     }
     Next::Found(Case {
-        call: scan::byte(&head, 0),
-        number: scan::byte(&head, 1),
-        passes: scan::byte(&head, 2),
+        call: scan::byte(head, 0),
+        number: scan::byte(head, 1),
+        passes: scan::byte(head, 2),
         length: length,
         answer: answer,
         room: room,
         spr: head[10],
         spm: head[11],
         prefer: head[12],
-        node: scan::get32(&head, 16),
+        node: scan::get32(head, 16),
     })
 }
 
@@ -121,46 +125,29 @@ fn is_written(out: &[u8], want: &[u8]) -> bool {
     all
 }
 
-// The wanted file comes next.
-fn rewrites_to(fd: i32, case: Case, plan: &[u8], want: &mut [u8], out: &mut [u8]) -> bool {
-    let got = io::read_full(fd, want);
+fn rewrites_to(case: Case, plan: &[u8], want: &[u8], out: &mut [u8]) -> bool {
     let number = rewrite(case, plan, out);
-    (got == want.len()) & (number == case.number) & is_written(out, want)
+    (want.len() == case.answer) & (number == case.number) & is_written(out, want)
 }
 
-fn rewrite_is_right(fd: i32, case: Case, plan: &[u8]) -> bool {
-    let mut want = [0u8; 10240];
+fn rewrite_is_right(case: Case, plan: &[u8], want: &[u8]) -> bool {
     let mut out = [165u8; 10240];
-    let answer = case.answer;
-    if MOST < answer {
-        return false;
-    }
     let room = case.room;
     if MOST < room {
         return false;
     }
-    rewrites_to(fd, case, plan, &mut want[0..answer], &mut out[0..room])
+    rewrites_to(case, plan, want, &mut out[0..room])
 }
 
-// The plan file comes next.
-fn case_is_right(fd: i32, case: Case, plan: &mut [u8]) -> bool {
-    let got = io::read_full(fd, plan);
-    if got < plan.len() {
+// Of a case that is cut off something is missing, so it is not right.
+fn is_right(case: Case, plan: &[u8], want: &[u8]) -> bool {
+    if plan.len() < case.length {
         return false;
     }
     if case.call <= PARTIAL {
-        return rewrite_is_right(fd, case, plan);
+        return rewrite_is_right(case, plan, want);
     }
     check_is_right(case, plan)
-}
-
-fn is_right(fd: i32, case: Case) -> bool {
-    let mut file = [0u8; 10240];
-    let length = case.length;
-    if MOST < length {
-        return false;
-    }
-    case_is_right(fd, case, &mut file[0..length])
 }
 
 fn more(n: u64) -> u64 {
@@ -182,8 +169,20 @@ fn counted(tally: Tally, case: Case, right: bool) -> Tally {
     }
 }
 
-// A proved loop has to end, and nothing says that a file does: the turns are counted down.
-fn replay(fd: i32) -> Tally {
+// The length of the file that stands behind the plan file: only a rewrite has one.
+fn answer_length(case: Case) -> usize {
+    if case.call <= PARTIAL { case.answer } else { 0 }
+}
+
+// So many of the bytes, or all of them.
+fn front(bytes: &[u8], n: usize) -> usize
+    ensures { result ≤ length bytes.now }
+{
+    if n < bytes.len() { n } else { bytes.len() }
+}
+
+// A case takes up at least its header, but nothing says how many cases there are: the turns are counted down.
+fn replay(cases: &[u8]) -> Tally {
     let mut tally = Tally {
         cases: 0,
         refused: 0,
@@ -191,13 +190,19 @@ fn replay(fd: i32) -> Tally {
         rewrites: 0,
         wrong: 0,
     };
+    let mut rest = cases;
     let mut turns: usize = 1000000;
     while 0 < turns {
-        let next = header(fd);
+        let next = header(rest);
         match next {
             Next::Found(case) => {
-                let right = is_right(fd, case);
+                let files = &rest[front(rest, HEADER)..];
+                let plan = front(files, case.length);
+                let answers = &files[plan..];
+                let want = front(answers, answer_length(case));
+                let right = is_right(case, &files[..plan], &answers[..want]);
                 tally = counted(tally, case, right);
+                rest = &answers[want..];
             }
             Next::End => {
                 return tally;
@@ -208,22 +213,19 @@ fn replay(fd: i32) -> Tally {
     tally
 }
 
-fn line(text: &[u8], n: u64) {
-    io::print_decimal(STDOUT_FILENO, n);
-    io::write_all(STDOUT_FILENO, text);
-}
-
-fn main() {
-    let fd = os::open_read(b"cases");
-    if fd < 0 {
-        os::fail(b"cases");
-        return;
-    }
-    let tally = replay(fd);
-    libc::close(fd);
-    line(b" cases\n", tally.cases);
-    line(b" refused\n", tally.refused);
-    line(b" order checks\n", tally.checks);
-    line(b" rewrites\n", tally.rewrites);
-    line(b" wrong\n", tally.wrong);
+fn main(rt: HostRuntime) -> io::Result<()> {
+    let cases = fs::read(&rt, "cases")?;
+    let tally = replay(cases.as_slice());
+    let Tally {
+        cases,
+        refused,
+        checks,
+        rewrites,
+        wrong,
+    } = tally;
+    println!(rt; "{cases} cases")?;
+    println!(rt; "{refused} refused")?;
+    println!(rt; "{checks} order checks")?;
+    println!(rt; "{rewrites} rewrites")?;
+    println!(rt; "{wrong} wrong")
 }

@@ -1,4 +1,4 @@
-// The C exports, on numbers and byte slices. Each answers the number of its refusal, or 0; a refusal leaves what was lent alone, and bytes past the file
+// The calls, on numbers and byte slices; crate sort_placement_c exports them to C. Each answers the number of its refusal, or 0; a refusal leaves what was lent alone, and bytes past the file
 // that is written stay.
 #![tactic(auto)]
 
@@ -16,8 +16,7 @@ use transform_up::Walk;
 use walk_settings::settings_in;
 
 // In `passes` 1 where the plan passes the order check, 0 where it doesn't.
-#[unsafe(no_mangle)]
-pub extern "C" fn check_order(plan: &[u8], passes: &mut u32) -> u32
+pub fn check_order(plan: &[u8], passes: &mut u32) -> u32
     ensures { (result ≡ number_of (refusal_of plan.now)) × (passes.new ≡ check_answer (reading plan.now) passes.old) }
 {
     let mut none = [0u8; 1];
@@ -29,8 +28,7 @@ pub extern "C" fn check_order(plan: &[u8], passes: &mut u32) -> u32
 }
 
 // A plan is read, and written to the output: the same bytes, since a plan has one file. For drivers that test and time both.
-#[unsafe(no_mangle)]
-pub extern "C" fn copy_plan(plan: &[u8], out: &mut [u8]) -> u32
+pub fn copy_plan(plan: &[u8], out: &mut [u8]) -> u32
     ensures { (result ≡ number_of (refusal_in (rewrites answered plan.now) out.old))
         × (out.new ≡ output_in (rewrites answered plan.now) out.old) }
 {
@@ -38,8 +36,7 @@ pub extern "C" fn copy_plan(plan: &[u8], out: &mut [u8]) -> u32
 }
 
 // The ensuring walk: sorts put where an order is wanted and not met, and taken away where nothing needs them.
-#[unsafe(no_mangle)]
-pub extern "C" fn ensure_sorting(plan: &[u8], out: &mut [u8]) -> u32
+pub fn ensure_sorting(plan: &[u8], out: &mut [u8]) -> u32
     ensures { (result ≡ number_of (refusal_in (rewrites ensured plan.now) out.old))
         × (out.new ≡ output_in (rewrites ensured plan.now) out.old) }
 {
@@ -47,8 +44,7 @@ pub extern "C" fn ensure_sorting(plan: &[u8], out: &mut [u8]) -> u32
 }
 
 // The parallelizing walk: sorts over coalesced streams made sorts of each stream under a merge.
-#[unsafe(no_mangle)]
-pub extern "C" fn parallelize_sorts(plan: &[u8], out: &mut [u8]) -> u32
+pub fn parallelize_sorts(plan: &[u8], out: &mut [u8]) -> u32
     ensures { (result ≡ number_of (refusal_in (rewrites parallelized plan.now) out.old))
         × (out.new ≡ output_in (rewrites parallelized plan.now) out.old) }
 {
@@ -56,8 +52,7 @@ pub extern "C" fn parallelize_sorts(plan: &[u8], out: &mut [u8]) -> u32
 }
 
 // The order-preserving walk: sorts replaced by nodes that keep their input's order. A setting is off where it is zero.
-#[unsafe(no_mangle)]
-pub extern "C" fn replace_with_order_preserving_variants(
+pub fn replace_with_order_preserving_variants(
     plan: &[u8],
     spr_better: u8,
     spm_better: u8,
@@ -73,8 +68,7 @@ pub extern "C" fn replace_with_order_preserving_variants(
 }
 
 // The walk that pushes sorts down: parents before children.
-#[unsafe(no_mangle)]
-pub extern "C" fn pushdown_sorts(plan: &[u8], out: &mut [u8]) -> u32
+pub fn pushdown_sorts(plan: &[u8], out: &mut [u8]) -> u32
     ensures { (result ≡ number_of (refusal_in (rewrites pushed plan.now) out.old))
         × (out.new ≡ output_in (rewrites pushed plan.now) out.old) }
 {
@@ -82,8 +76,7 @@ pub extern "C" fn pushdown_sorts(plan: &[u8], out: &mut [u8]) -> u32
 }
 
 // Partial sorting of the node with the number `node`: nothing else changes.
-#[unsafe(no_mangle)]
-pub extern "C" fn replace_with_partial_sort(plan: &[u8], node: u32, out: &mut [u8]) -> u32
+pub fn replace_with_partial_sort(plan: &[u8], node: u32, out: &mut [u8]) -> u32
     ensures { (result ≡ number_of (refusal_in (rewrites (partially_sorted node) plan.now) out.old))
         × (out.new ≡ output_in (rewrites (partially_sorted node) plan.now) out.old) }
 {
@@ -91,8 +84,7 @@ pub extern "C" fn replace_with_partial_sort(plan: &[u8], node: u32, out: &mut [u
 }
 
 // A dry run: rows stepped through the plan, by the caller's list of bytes. What the root delivers is written; a plan with a join or an aggregate isn't stepped.
-#[unsafe(no_mangle)]
-pub extern "C" fn dry_run(plan: &[u8], rows: &[u8], choices: &[u8], out: &mut [u8]) -> u32
+pub fn dry_run(plan: &[u8], rows: &[u8], choices: &[u8], out: &mut [u8]) -> u32
     ensures { (result ≡ returned plan.now rows.now choices.now out.old)
         × (out.new ≡ output_after plan.now rows.now choices.now out.old) }
 {

@@ -3,17 +3,13 @@
 // rewrite the listing of the plan that comes of it, or the refusal's number.
 #![tactic(auto)]
 
-use libc::STDOUT_FILENO;
+use std::{fs, io};
 
 // What the export answers, and what it leaves in the lent number.
 #[derive(Clone, Copy)]
 struct Checked {
     number: u32,
     passes: u32,
-}
-
-fn put(text: &[u8]) {
-    io::write_all(STDOUT_FILENO, text);
 }
 
 fn check(plan: &[u8]) -> Checked {
@@ -25,44 +21,33 @@ fn check(plan: &[u8]) -> Checked {
     }
 }
 
-// The answer for the open file. There is room for more than a plan file may have: so one that is too long is read whole.
-fn check_file(fd: i32) -> Checked {
-    let mut file = [0u8; 10240];
-    let n = io::read_full(fd, &mut file);
-    check(&file[..n])
-}
-
-fn put_refusal(answer: Checked) {
-    if answer.number == 0 {
-        put(b"accepted");
+fn put_refusal(rt: &impl Print, answer: Checked) -> io::Result<()> {
+    let number = answer.number;
+    if number == 0 {
+        print!(rt; "accepted")
     } else {
-        io::print_decimal(STDOUT_FILENO, answer.number as u64);
+        print!(rt; "{number}")
     }
 }
 
-fn put_met(answer: Checked) {
+fn put_met(rt: &impl Print, answer: Checked) -> io::Result<()> {
     if answer.passes == 1 {
-        put(b", met");
+        print!(rt; ", met")
     } else {
-        put(b", not met");
+        print!(rt; ", not met")
     }
 }
 
-// The line of one example; `order` where it asks whether a wanted order is met.
-fn example(text: &[u8], file: &[u8], order: bool) {
-    let fd = os::open_read(file);
-    if fd < 0 {
-        os::fail(file);
-        return;
-    }
-    let answer = check_file(fd);
-    libc::close(fd);
-    put(text);
-    put_refusal(answer);
+// The line of one example; `order` where it asks whether a wanted order is met. The file is read whole, also one that is too long for a plan.
+fn example(rt: &HostRuntime, text: &str, file: &str, order: bool) -> io::Result<()> {
+    let plan = fs::read(rt, file)?;
+    let answer = check(plan.as_slice());
+    print!(rt; "{text}")?;
+    put_refusal(rt, answer)?;
     if order {
-        put_met(answer);
+        put_met(rt, answer)?;
     }
-    put(b"\n");
+    println!(rt; "")
 }
 
 // The listing of the plan that was written, or the number of the refusal.
@@ -74,81 +59,86 @@ fn list_answer(number: u32, out: &[u8]) {
     }
 }
 
-fn ensure_file(fd: i32) {
-    let mut file = [0u8; 10240];
+fn ensure_file(plan: &[u8]) {
     let mut out = [0u8; 9216];
-    let n = io::read_full(fd, &mut file);
-    let number = sort_placement::ensure_sorting(&file[..n], &mut out);
+    let number = sort_placement::ensure_sorting(plan, &mut out);
     list_answer(number, &out);
 }
 
 // With 'spm better' on.
-fn preserve_file(fd: i32) {
-    let mut file = [0u8; 10240];
+fn preserve_file(plan: &[u8]) {
     let mut out = [0u8; 9216];
-    let n = io::read_full(fd, &mut file);
-    let number = sort_placement::replace_with_order_preserving_variants(
-        &file[..n],
-        0,
-        1,
-        0,
-        &mut out,
-    );
+    let number = sort_placement::replace_with_order_preserving_variants(plan, 0, 1, 0, &mut out);
     list_answer(number, &out);
 }
 
 // A rewrite of one plan: ensuring, or the order-preserving walk.
-fn rewrite(text: &[u8], file: &[u8], ensuring: bool) {
-    let fd = os::open_read(file);
-    if fd < 0 {
-        os::fail(file);
-        return;
-    }
-    put(text);
+fn rewrite(rt: &HostRuntime, text: &str, file: &str, ensuring: bool) -> io::Result<()> {
+    let plan = fs::read(rt, file)?;
+    print!(rt; "{text}")?;
     if ensuring {
-        ensure_file(fd);
+        ensure_file(plan.as_slice());
     } else {
-        preserve_file(fd);
+        preserve_file(plan.as_slice());
     }
-    libc::close(fd);
+    Ok(())
 }
 
-fn main() {
-    example(b"0 bytes: ", b"bytes_0", false);
-    example(b"511 bytes: ", b"bytes_511", false);
-    example(b"126 nodes: ", b"nodes_126", false);
-    example(b"19 blocks: ", b"blocks_19", false);
-    example(b"known [2,0] ascending, wanted [2]: ", b"wants_2", true);
-    example(b"known [2,0] ascending, wanted [0]: ", b"wants_0", true);
+fn examples_of_orders(rt: &HostRuntime) -> io::Result<()> {
+    example(rt, "0 bytes: ", "bytes_0", false)?;
+    example(rt, "511 bytes: ", "bytes_511", false)?;
+    example(rt, "126 nodes: ", "nodes_126", false)?;
+    example(rt, "19 blocks: ", "blocks_19", false)?;
+    example(rt, "known [2,0] ascending, wanted [2]: ", "wants_2", true)?;
+    example(rt, "known [2,0] ascending, wanted [0]: ", "wants_0", true)?;
     example(
-        b"known [2,0] ascending, wanted [2 descending]: ",
-        b"wants_2_descending",
+        rt,
+        "known [2,0] ascending, wanted [2 descending]: ",
+        "wants_2_descending",
         true,
-    );
+    )
+}
+
+fn examples_of_rewrites(rt: &HostRuntime) -> io::Result<()> {
     rewrite(
-        b"ensure, sort [2] over one stream known [2,0]:\n",
-        b"sorted_already",
+        rt,
+        "ensure, sort [2] over one stream known [2,0]:\n",
+        "sorted_already",
         true,
-    );
-    rewrite(b"the same with fetch 5:\n", b"sorted_already_fetch_5", true);
+    )?;
     rewrite(
-        b"order-preserving, spm better, sort [2] fetch 5, filter, coalesce, two streams known [2]:\n",
-        b"sort_over_coalesce",
+        rt,
+        "the same with fetch 5:\n",
+        "sorted_already_fetch_5",
+        true,
+    )?;
+    rewrite(
+        rt,
+        "order-preserving, spm better, sort [2] fetch 5, filter, coalesce, two streams known [2]:\n",
+        "sort_over_coalesce",
         false,
-    );
+    )?;
     rewrite(
-        b"ensure, reading 4's 125 nodes, 188 after the root's step: ",
-        b"growing_125",
+        rt,
+        "ensure, reading 4's 125 nodes, 188 after the root's step: ",
+        "growing_125",
         true,
-    );
+    )?;
     rewrite(
-        b"ensure, projection [2], sort [1], aggregate [0,1] and one column more, one stream:\n",
-        b"surveyor",
+        rt,
+        "ensure, projection [2], sort [1], aggregate [0,1] and one column more, one stream:\n",
+        "surveyor",
         true,
-    );
+    )?;
     rewrite(
-        b"the same over two streams known [1]:\n",
-        b"surveyor_known",
+        rt,
+        "the same over two streams known [1]:\n",
+        "surveyor_known",
         true,
-    );
+    )
+}
+
+fn main(rt: HostRuntime) -> io::Result<()> {
+    examples_of_orders(&rt)?;
+    examples_of_rewrites(&rt)
 }

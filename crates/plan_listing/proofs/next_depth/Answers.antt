@@ -5,10 +5,10 @@ use Rattle.plan_listing.proofs.next_depth.Goals as goal
 
 pub returns-then-children-gt0 : goal.returns-then-children-gt0
 returns-then-children-gt0 c = let h = c.requires in (
-      omega arith,
-      down c.args.left.now c.args.depth c.args.children c.one_less.result h c.if-children-gt0.true
-          c.one_less.ensures,
-    )
+  omega arith,
+  down c.args.left.now c.args.depth c.args.children c.one_less.result h c.if-children-gt0.true
+      c.one_less.ensures,
+)
 
 pub risen-requires : goal.risen-requires
 risen-requires c = let h = c.requires in
