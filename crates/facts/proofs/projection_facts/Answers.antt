@@ -12,7 +12,7 @@ pub projection_table-table-requires : goal.projection_table-table-requires
 projection_table-table-requires c = (narrow (goal.at.projection_table-table-requires c).Start, c.requires.2)
 
 pub projection_order-order-requires : goal.projection_order-order-requires
-projection_order-order-requires c = (narrow (goal.at.projection_order-order-requires c).Start, (c.requires.2, c.requires.0.few))
+projection_order-order-requires c = record { columns = narrow (goal.at.projection_order-order-requires c).Start; cols_len_bound = (c.requires.2, c.requires.0.few) }
 
 pub returns : goal.returns
 returns c = says_projection c.args.f c.args.cols.now c.projection_table-table.result c.projection_set-consts.result

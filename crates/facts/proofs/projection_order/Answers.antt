@@ -20,7 +20,7 @@ found c =
 
 pub loop-left-init : goal.loop-left-init
 loop-left-init c = let z = no_length c.no_keys-out.result c.no_keys-out.ensures.0 in (
-  omega (arith, c.requires.1.1),
+  omega (arith, c.requires.cols_len_bound.1),
   c.no_keys-out.ensures.1,
   λ F a. begun _ c.no_keys-out.result c.no_keys-out.ensures.0
       c.no_keys-out.ensures.1,
@@ -30,7 +30,7 @@ pub low-requires : goal.low-requires
 low-requires c = rw c.column.ensures (omega arith)
 
 pub carried-c-requires : goal.carried-c-requires
-carried-c-requires c = (c.requires.0, omega arith)
+carried-c-requires c = (c.requires.columns, omega arith)
 
 pub returns-then-cols-c : goal.returns-then-cols-c
 returns-then-cols-c c = let l = c.loop-left in
@@ -43,14 +43,14 @@ appended-out-requires c = let l = c.loop-left in
 
 pub loop-left-preserved : goal.loop-left-preserved
 loop-left-preserved c = let l = c.loop-left in let e = c.appended-out.ensures in (
-      omega (arith, l.invariant.0, e.len, c.loop-left-test.true),
-      e.tight,
-      projected c.args.table.now
-          c.args.cols.now (keys_of c.args.keys) l.out l.rest l.left l.invariant.2 c.carried-c.result
-          (found (goal.at.loop-left-preserved c).After-carried-c) c.loop-left-test.true (omega arith)
-          c.with_column.result
-          c.with_column.ensures c.appended-out.result e,
-    )
+  omega (arith, l.invariant.0, e.len, c.loop-left-test.true),
+  e.tight,
+  projected c.args.table.now
+      c.args.cols.now (keys_of c.args.keys) l.out l.rest l.left l.invariant.2 c.carried-c.result
+      (found (goal.at.loop-left-preserved c).After-carried-c) c.loop-left-test.true (omega arith)
+      c.with_column.result
+      c.with_column.ensures c.appended-out.result e,
+)
 
 pub returns : goal.returns
 returns c = let l = c.loop-left in

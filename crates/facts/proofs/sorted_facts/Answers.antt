@@ -9,7 +9,7 @@ use Rattle.facts.specs.Saying.{says-ordered}
 use Rattle.facts.proofs.sorted_facts.Goals as goal
 
 pub normal-order-requires : goal.normal-order-requires
-normal-order-requires c = (small c.args.f c.requires.0, c.requires.1)
+normal-order-requires c = record { small = small c.args.f c.requires.0; len_bound = c.requires.1 }
 
 pub returns : goal.returns
 returns c = says-ordered c.args.f c.args.streams c.normal-order.result (sem.nf (known c.args.f) [] (keys_of c.args.keys)) c.requires.0

@@ -13,11 +13,11 @@ use Rattle.join_orders.proofs.moved_order.Goals.{After-offset}
 
 -- the offset as the machine holds it is the width
 signed : (c : After-offset) → to_z w64 (of_z w64 c.offset.result) ≡ pos c.args.w
-signed c = to_z-of_z (record { sfits = c.offset.type_inv }) ∙ c.offset.ensures
+signed c = to_z-of_z {w = w64} (record { sfits = c.offset.type_inv }) ∙ c.offset.ensures
 
 pub move_keys-requires : goal.move_keys-requires
 move_keys-requires c = let ks = keys_of c.args.keys in
-    (subst⁻¹ (λ (z : ℤ). All (Movable z) ks) (signed (goal.at.move_keys-requires c).After-offset) (room c.args.w ks c.requires.1), c.requires.2)
+    record { all = subst⁻¹ (λ (z : ℤ). All (Movable z) ks) (signed (goal.at.move_keys-requires c).After-offset) (room c.args.w ks c.requires.1); len_bound = c.requires.2 }
 
 pub returns : goal.returns
 returns c = let ks = keys_of c.args.keys in
