@@ -15,4 +15,4 @@ pub returns-in_default : goal.returns-in_default
 returns-in_default c = let y = c.call_in-r in absurd (full_done y.result (after_reading (result_of c.args.k) (reading c.args.plan.now)) c.args.out.now y.new.out (full_slots * slot_size) 148224 (omega arith) c.in_default.is y.ensures)
 
 pub returns : goal.returns
-returns c = let y = c.call_in-r in let g = c.r-1.given in done_answered y.result (after_reading (result_of c.args.k) (reading c.args.plan.now)) c.args.out.now y.new.out _ g.0.0 g.0.1.0 g.1 y.ensures
+returns c = let y = c.call_in-r in done_answered y.result (after_reading (result_of c.args.k) (reading c.args.plan.now)) c.args.out.now y.new.out _ c.in-Done.number c.in-Done.passes c.in-Done.is y.ensures

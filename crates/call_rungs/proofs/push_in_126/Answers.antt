@@ -13,4 +13,4 @@ pub returns-in_default : goal.returns-in_default
 returns-in_default c = let y = c.push_plan-r in absurd (full_done y.result (rewrites pushed c.args.plan.now) c.args.out.now y.new.out (378 * slot_size) 72576 (omega arith) c.in_default.is y.ensures)
 
 pub returns : goal.returns
-returns c = let y = c.push_plan-r in let g = c.r-1.given in done_answered y.result (rewrites pushed c.args.plan.now) c.args.out.now y.new.out _ g.0.0 g.0.1.0 g.1 y.ensures
+returns c = let y = c.push_plan-r in done_answered y.result (rewrites pushed c.args.plan.now) c.args.out.now y.new.out _ c.in-Done.number c.in-Done.passes c.in-Done.is y.ensures

@@ -4,51 +4,6 @@ use Rattle.node_lines.specs.Lines.{kind_name}
 use Rattle.node_lines.specs.Laws.{put_most, put_as}
 use Rattle.node_lines.proofs.put_kind.Goals as goal
 
--- LEFT slice-aggregate-put
--- refl
-
--- LEFT slice-aggregate-put-2
--- refl
-
--- LEFT slice-aggregate-put-3
--- refl
-
--- LEFT slice-aggregate-put-4
--- refl
-
--- LEFT slice-aggregate-put-5
--- refl
-
--- LEFT slice-aggregate-put-6
--- refl
-
--- LEFT slice-aggregate-put-7
--- refl
-
--- LEFT slice-aggregate-put-8
--- refl
-
--- LEFT slice-aggregate-put-9
--- refl
-
--- LEFT slice-aggregate-put-10
--- refl
-
--- LEFT slice-aggregate-put-11
--- refl
-
--- LEFT slice-aggregate-put-12
--- refl
-
--- LEFT slice-aggregate-put-13
--- refl
-
--- LEFT slice-aggregate-put-14
--- refl
-
--- LEFT slice-aggregate-put-15
--- refl
-
 pub shape_of-out-in-Source : goal.shape_of-out-in-Source
 shape_of-out-in-Source c = c.put.auto.out
 

@@ -36,37 +36,37 @@ transform_up-requires c = let p = c.requires in let m = c.args.m.now in let u = 
 pub write_out-requires : goal.write_out-requires
 write_out-requires c = let p = c.requires in let m = c.args.m.now in let u = c.args.u in let h = c.args.h in
     let k = c.args.c.now in let w = c.args.w in let out = c.args.out.now in
-    let t = c.settle_all in let m' = t.last.0 in let l = t.kept.0 in let a = t.ensures.0 in let f = t.ensures.1 in
+    let t = c.settle_all in let m' = t.new.m in let l = t.auto.m in let a = t.ensures.0 in let f = t.ensures.1 in
     let eb = c.has_partial_sort.ensures in let z = c.if-has_partial_sort.false in
     let en = c.nodes-n.ensures in
     let y = c.transform_up in let m'' = y.new.m in
-    let g = c.used-1.given in
+    
     let d = subst (λ o. Outcome o w m' u (h / 2)
-    c.nodes-n.result m'') g.1 y.ensures in
-    let q = walk_count m u h k p m' l a f w out _ eb z _ en m'' y.auto.m g.0.0 g.0.1.0 g.0.1.1.0 d in
-    (arena_loaded m'' g.0.0 d.grown.arena, d.grown.here, q.0, q.1)
+    c.nodes-n.result m'') c.in-Done.is y.ensures in
+    let q = walk_count m u h k p m' l a f w out _ eb z _ en m'' y.auto.m c.in-Done.used c.in-Done.root c.in-Done.total d in
+    (arena_loaded m'' c.in-Done.used d.grown.arena, d.grown.here, q.0, q.1)
 
 pub returns-in-Done : goal.returns-in-Done
 returns-in-Done c = let p = c.requires in let m = c.args.m.now in
     let u = c.args.u in let h = c.args.h in let k = c.args.c.now in let w = c.args.w in let out = c.args.out.now in
-    let t = c.settle_all in let m' = t.last.0 in let l = t.kept.0 in let a = t.ensures.0 in let f = t.ensures.1 in
+    let t = c.settle_all in let m' = t.new.m in let l = t.auto.m in let a = t.ensures.0 in let f = t.ensures.1 in
     let eb = c.has_partial_sort.ensures in
     let z = c.if-has_partial_sort.false in let en = c.nodes-n.ensures in let y = c.transform_up in
-    let m'' = y.new.m in let g = c.used-1.given in
+    let m'' = y.new.m in 
     let d = subst (λ o. Outcome o w m' u (h / 2)
-    c.nodes-n.result m'') g.1
-    y.ensures in walk_wrote m u h k p m' l a f w out _ eb z _ en m'' y.auto.m g.0.0 g.0.1.0 g.0.1.1.0 d
+    c.nodes-n.result m'') c.in-Done.is
+    y.ensures in walk_wrote m u h k p m' l a f w out _ eb z _ en m'' y.auto.m c.in-Done.used c.in-Done.root c.in-Done.total d
     c.write_out.result c.write_out.new.out c.write_out.ensures
 
 pub returns-in-Stopped : goal.returns-in-Stopped
 returns-in-Stopped c = let p = c.requires in let m = c.args.m.now in let u = c.args.u in let h = c.args.h in
     let k = c.args.c.now in let w = c.args.w in let out = c.args.out.now in
-    let t = c.settle_all in let m' = t.last.0 in let l = t.kept.0 in let a = t.ensures.0 in let f = t.ensures.1 in
+    let t = c.settle_all in let m' = t.new.m in let l = t.auto.m in let a = t.ensures.0 in let f = t.ensures.1 in
     let eb = c.has_partial_sort.ensures in
     let z = c.if-has_partial_sort.false in
     let en = c.nodes-n.ensures in
     let y = c.transform_up in let m'' = y.new.m in
-    let g = c.s-1.given in
-    walk_stopped m u h k p m' l a f w out _ eb z _ en m'' y.auto.m g.0.0
+    
+    walk_stopped m u h k p m' l a f w out _ eb z _ en m'' y.auto.m c.in-Stopped.s
     (subst (λ o. Outcome o w m' u (h / 2) c.nodes-n.result m'')
-    g.1 y.ensures) _ c.stopped.ensures
+    c.in-Stopped.is y.ensures) _ c.stopped.ensures
