@@ -14,12 +14,12 @@ put_next_key-e-requires c = let p = c.loop-i.invariant.3 in let f = p.few in let
 
 pub loop-i-preserved : goal.loop-i-preserved
 loop-i-preserved c = let l = c.loop-i in let t = c.loop-i-test.true in let p = l.invariant.3 in let ks = c.args.ks.now in (
-      omega arith,
-      omega arith,
-      c.put_next_key-e.auto.out ∙ l.invariant.2,
-      put_as (sym (behind_more l.i ks l.invariant.0 (omega arith)))
-          (put_most (23 * (l.i + 1 - 1)) (omega arith) (put_put (omega arith) p c.put_next_key-e.ensures)),
-    )
+  omega arith,
+  omega arith,
+  c.put_next_key-e.auto.out ∙ l.invariant.2,
+  put_as (sym (behind_more l.i ks l.invariant.0 (omega arith)))
+      (put_most (23 * (l.i + 1 - 1)) (omega arith) (put_put (omega arith) p c.put_next_key-e.ensures)),
+)
 
 pub shape_of-out : goal.shape_of-out
 shape_of-out c = c.loop-i.invariant.2

@@ -1,5 +1,5 @@
 use native.Mathlib.Omega.{arith}
-use mathlib.Core.Path.{refl, sym, ap}
+use mathlib.Core.Path.{sym, ap}
 use Rattle.node_lines.specs.Lines.{kind_name}
 use Rattle.node_lines.specs.Laws.{put_most, put_as}
 use Rattle.node_lines.proofs.put_kind.Goals as goal

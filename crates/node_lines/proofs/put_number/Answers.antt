@@ -4,10 +4,10 @@ use Rattle.node_lines.proofs.put_number.Goals as goal
 
 pub put-requires : goal.put-requires
 put-requires c = let e = c.decimal-k.ensures in
-    let h = twenty c.args.n c.decimal-k.result c.ranges.n.fits e.1.0 in let t = e.0.1 in
+    let h = twenty c.args.n c.decimal-k.result c.ranges.n.fits e.len in let t = e.in_bounds in
     omega arith
 
 pub returns : goal.returns
 returns c = let e = c.decimal-k.ensures in
     put_decimal c.args.n c.decimal-k.result c.decimal-k.new.out
-    (twenty c.args.n c.decimal-k.result c.ranges.n.fits e.1.0) e.1.0 e.1.1 c.put.ensures
+    (twenty c.args.n c.decimal-k.result c.ranges.n.fits e.len) e.len e.digits c.put.ensures
