@@ -1,17 +1,20 @@
 //! Proves and builds the library with the toolchain's own command, and links a copy of it.
 //!
-//! The copy stands in cargo's own folder: `rt ci` removes `target/`, and a package that is built must still link afterwards.
+//! The copy stands in cargo's own folder: `rt ci` sets the provers' folders aside while it runs, and a package that is built must still link then.
 //! A call is compiled in if the library exports it: the list of calls is read from the exports that
-//! crates/sort_placement/src/lib.rt declares, here and nowhere else.
+//! crates/sort_placement_c/src/lib.rt declares, here and nowhere else.
 use std::collections::{BTreeMap, BTreeSet};
 use std::fs::{File, OpenOptions};
-use std::io::{BufRead, BufReader, ErrorKind, Read, Write};
+use std::io::{ErrorKind, Read, Write};
 use std::os::unix::fs::FileTypeExt;
 use std::path::{Path, PathBuf};
-use std::process::{Child, Command, ExitCode, Stdio};
-use std::time::Instant;
+use std::process::{Child, Command, ExitCode, ExitStatus, Stdio};
+use std::thread::JoinHandle;
+use std::time::{Duration, Instant, SystemTime};
 
+/// The name of the archive that is linked, and of the crate of its exports.
 const LIBRARY: &str = "sort_placement";
+const EXPORTS: &str = "sort_placement_c";
 
 const CALLS: [&str; 8] = [
     "check_order",
@@ -54,73 +57,88 @@ fn tell(screen: &mut Option<Screen>, line: &str) {
     }
 }
 
-/// How many crates the library is made of: itself, and all below it in crates.txt.
-fn crates_below(list: &str) -> usize {
-    let lines = list.lines().filter(|l| !l.starts_with('#')).filter_map(|l| l.split_once(':'));
-    let below: BTreeMap<&str, &str> = lines.map(|(name, below)| (name.trim(), below)).collect();
-    let (mut seen, mut open) = (BTreeSet::new(), vec![LIBRARY]);
+/// The crates that the library is made of: its exports, and all below them in crates.txt.
+fn crates_below(list: &str) -> BTreeSet<String> {
+    let lines = list.lines().map(|l| l.split('#').next().unwrap_or_default()).filter_map(|l| l.split_once(':'));
+    let below: BTreeMap<&str, &str> = lines.map(|(name, below)| (name.split_whitespace().next().unwrap_or_default(), below)).collect();
+    let (mut seen, mut open) = (BTreeSet::new(), vec![EXPORTS]);
     while let Some(name) = open.pop() {
         if let Some(names) = below.get(name)
-            && seen.insert(name)
+            && seen.insert(name.to_string())
         {
             open.extend(names.split_whitespace());
         }
     }
-    seen.len()
+    seen
 }
 
-/// Tells of each crate that is proved, as it is proved; all lines of the command, for the case that it fails.
-fn watch(rt: &mut Child, total: usize, screen: &mut Option<Screen>) -> String {
-    let (began, mut proved, mut said) = (Instant::now(), 0, String::new());
-    let mut lines = BufReader::new(rt.stderr.take().expect("it is piped")).split(b'\n');
-    while let Some(Ok(line)) = lines.next() {
-        let line = String::from_utf8_lossy(&line).into_owned();
-        if let Some((name, how)) = line.strip_prefix("rt: ").and_then(|l| l.split_once(" proved ")) {
-            proved += 1;
-            if !how.starts_with("(unchanged") {
+/// When a crate was proved last: its library is written then.
+fn proved_at(root: &Path, name: &str) -> Option<SystemTime> {
+    let out = root.join("crates").join(name).join("out");
+    let made = if name == EXPORTS { out.join(format!("lib{EXPORTS}.a")) } else { out.join(format!("rlib/{name}.rlib")) };
+    made.metadata().and_then(|m| m.modified()).ok()
+}
+
+/// Tells of each crate that is proved, as it is proved, until the command ends.
+fn watch(rt: &mut Child, root: &Path, names: &BTreeSet<String>, screen: &mut Option<Screen>) -> std::io::Result<ExitStatus> {
+    let (began, before) = (Instant::now(), names.iter().map(|n| proved_at(root, n)).collect::<Vec<_>>());
+    let mut told = BTreeSet::new();
+    loop {
+        let ended = rt.try_wait()?;
+        for (name, before) in names.iter().zip(&before) {
+            if proved_at(root, name) > *before && told.insert(name) {
+                let (proved, total) = (told.len(), names.len());
                 tell(screen, &format!("crate {proved} of {total} proved, {} s so far: {name}", began.elapsed().as_secs()));
             }
         }
-        said += &line;
-        said.push('\n');
+        match ended {
+            Some(status) => return Ok(status),
+            None => std::thread::sleep(Duration::from_millis(200)),
+        }
     }
-    said
 }
 
-/// Runs `rt staticlib`; the lines that say why it failed.
+/// Runs `rt lib` for the exports; the lines that say why it failed.
 fn prove(root: &Path) -> Result<(), String> {
     let mut rt = Command::new("rt");
-    rt.args(["staticlib", LIBRARY]).current_dir(root).stdin(Stdio::null()).stdout(Stdio::piped()).stderr(Stdio::piped());
+    rt.arg("lib").current_dir(root.join("crates").join(EXPORTS));
+    rt.stdin(Stdio::null()).stdout(Stdio::piped()).stderr(Stdio::piped());
     let mut rt = rt.spawn().map_err(|e| match e.kind() {
         ErrorKind::NotFound => NO_TOOLCHAIN.to_string(),
         _ => format!("rt can't be run: {e}"),
     })?;
     let mut screen = screen();
-    let total = crates_below(&std::fs::read_to_string(root.join("crates.txt")).unwrap_or_default());
+    let names = crates_below(&std::fs::read_to_string(root.join("crates.txt")).unwrap_or_default());
     if !archive(root).exists() {
-        tell(&mut screen, &format!("{total} crates are proved first, which takes some ten minutes the first time"));
+        tell(&mut screen, &format!("{} crates are proved first, which takes some ten minutes the first time", names.len()));
     }
-    let mut out = rt.stdout.take().expect("it is piped");
-    let rest = std::thread::spawn(move || {
-        let mut bytes = vec![];
-        out.read_to_end(&mut bytes).map(|_| String::from_utf8_lossy(&bytes).into_owned()).unwrap_or_default()
-    });
-    let said = watch(&mut rt, total, &mut screen) + &rest.join().unwrap_or_default();
-    match rt.wait() {
+    let (out, error) = (rt.stdout.take().expect("it is piped"), rt.stderr.take().expect("it is piped"));
+    let (out, error) = (read_on(out), read_on(error));
+    let ended = watch(&mut rt, root, &names, &mut screen);
+    let said = error.join().unwrap_or_default() + &out.join().unwrap_or_default();
+    match ended {
         Ok(status) if status.success() => Ok(()),
-        Ok(_) => Err(format!("{}\n`rt staticlib {LIBRARY}` has not proved the library, so it is not linked.", failures(&said))),
+        Ok(_) => Err(format!("{}\n`rt lib` has not proved the library, so it is not linked.", failures(&said))),
         Err(e) => Err(format!("rt can't be waited for: {e}")),
     }
 }
 
-/// What was said of other crates than the proved ones.
+/// Reads to the end, beside what else is done.
+fn read_on(mut from: impl Read + Send + 'static) -> JoinHandle<String> {
+    std::thread::spawn(move || {
+        let mut bytes = vec![];
+        from.read_to_end(&mut bytes).map(|_| String::from_utf8_lossy(&bytes).into_owned()).unwrap_or_default()
+    })
+}
+
+/// What was said of other functions and crates than the proved ones.
 fn failures(said: &str) -> String {
-    let proved = |l: &str| l.starts_with("logic=proved") || (l.starts_with("rt: ") && l.contains(" proved ("));
+    let proved = |l: &str| l.starts_with("logic=proved") || l.starts_with("checked ") || l.starts_with("statements ") || l.ends_with(": proved");
     said.lines().filter(|l| !proved(l)).collect::<Vec<_>>().join("\n")
 }
 
 fn archive(root: &Path) -> PathBuf {
-    root.join("target/staticlib").join(format!("lib{LIBRARY}.a"))
+    root.join("crates").join(EXPORTS).join(format!("out/lib{EXPORTS}.a"))
 }
 
 fn build() -> Result<(), String> {
@@ -131,7 +149,7 @@ fn build() -> Result<(), String> {
     prove(root)?;
     let (from, to) = (archive(root), out.join(format!("lib{LIBRARY}.a")));
     std::fs::copy(&from, &to).map_err(|e| format!("{}: {e}", from.display()))?;
-    let exports = root.join("crates/sort_placement/src/lib.rt");
+    let exports = root.join("crates").join(EXPORTS).join("src/lib.rt");
     let text = std::fs::read_to_string(&exports).map_err(|e| format!("{}: {e}", exports.display()))?;
     for call in CALLS {
         println!("cargo:rustc-check-cfg=cfg(has_{call})");
@@ -143,8 +161,17 @@ fn build() -> Result<(), String> {
     println!("cargo:rustc-link-lib=static={LIBRARY}");
     // for the test that links it from C
     println!("cargo:rustc-env=SORT_PLACEMENT_ARCHIVE={}", to.display());
-    for watched in ["crates", "crates.txt", "loader/build.rs"] {
+    for watched in ["crates.txt", "loader/build.rs"] {
         println!("cargo:rerun-if-changed={}", root.join(watched).display());
+    }
+    // not the crates' folders out/, which the prover writes
+    for name in crates_below(&std::fs::read_to_string(root.join("crates.txt")).unwrap_or_default()) {
+        for part in ["src", "specs", "proofs"] {
+            let folder = root.join("crates").join(&name).join(part);
+            if folder.exists() {
+                println!("cargo:rerun-if-changed={}", folder.display());
+            }
+        }
     }
     Ok(())
 }

@@ -19,11 +19,12 @@ TRUST = "docs/TRUST.md"
 # Where it starts: the contracts, and the theorems that docs/DEMANDS.md ends in.
 STARTS = [f"crates/{p}/src/lib.rt" for p in ("sort_placement", "row_order", "feeds_in_order")]
 STARTS += [f"crates/demands/specs/{p}.antt" for p in ("OrderKept", "EnsurePasses", "RowsKept", "CheckedFiles", "RewrittenFiles", "SortedAlready")]
-STARTS += ["crates/push_literal/specs/SameAnswers.antt", "crates/walks/specs/theorems/partial_sort/Earlier.antt"]
+STARTS += ["crates/push_literal/specs/SameAnswers.antt", "crates/walks/proofs/Theorems/PartialSort/Earlier.antt"]
 ROW = re.compile(r"(\| `(crates/[\w/]+\.(?:antt|rt))` \| )(\d+)( \|)")
 ITEM = re.compile(r"(- `(crates/[\w/]+\.antt)` \()(\d+)(\))")
 TABLE = re.compile(r"(?m)^\| (file|statements) \|.*\n(?:\|.*\n)+")
-USE = re.compile(r"(?m)^ *(?:ghost )?use Rattle·(\w+?)(?:·specs)?\.specs\.([\w.-]+?)(?:\.\{([^}]*)\}| as ([\w-]+));?$")
+CRATES = "|".join(sorted((line.split(":")[0].split()[0] for line in open(os.path.join(ROOT, "crates.txt")) if line.split("#")[0].strip()), key=len, reverse=True))
+USE = re.compile(rf"(?m)^ *(?:ghost )?use Rattle\.({CRATES})\.(specs|proofs)\.([\w.-]+?)(?:\.\{{([^}}]*)\}}| as ([\w-]+));?$")
 FUNCTION = re.compile(r"(?ms)^(?:pub )?(?:extern \"C\" )?fn .*?^\{")
 HEAD = re.compile(r" *((?:(?:pub|abbrev|unfoldable) )*)(?:(module|record|data) (\S+)|([^\s()]+)(?: \{[^}]*\})? :)")
 
@@ -88,10 +89,10 @@ def words_of(text):
     return set(re.findall(r"[^\s(){};,.«»⌜⌝]+", text))
 
 
-def file_of(crate, module):
-    """The file that has a module of a crate's specs: of a declared type the .rt file that declares it."""
+def file_of(crate, part, module):
+    """The file that has a module of a crate's specs or proofs: of a declared type the .rt file that declares it."""
     if not module.startswith("declared."):
-        return f"crates/{crate}/specs/{module.replace('.', '/')}.antt"
+        return f"crates/{crate}/{part}/{module.replace('.', '/')}.antt"
     declared = re.compile(rf"(?m)^pub (?:enum|struct) {module.split('.')[1]}\b")
     return next((p for p in sorted(glob.glob(f"crates/{crate}/src/**/*.rt", recursive=True)) if declared.search(open(p).read())), f"crates/{crate}/src")
 
@@ -105,12 +106,12 @@ def rests_on(path, statements):
     elif path in statements:
         counted = words_of(stated(path))
     found, uses = {}, USE.findall(text)
-    assert len(uses) == len(re.findall(r"(?m)^ *(?:ghost )?use Rattle·", text)), f"{path}: a use line that is not understood"
-    for crate, module, names, alias in uses:
+    assert len(uses) == len(re.findall(rf"(?m)^ *(?:ghost )?use Rattle\.(?:{CRATES})\.", text)), f"{path}: a use line that is not understood"
+    for crate, part, module, names, alias in uses:
         for name in [alias] if alias else names.split(","):
             here = name.split(" as ")[-1].strip()
-            if counted is None or any(part in counted for part in here.split("_") if part):
-                found.setdefault(file_of(crate, module), here)
+            if counted is None or any(word in counted for word in here.split("◌") if word):
+                found.setdefault(file_of(crate, part, module), here)
     return found
 
 
@@ -167,7 +168,7 @@ def wrongs(text):
     wrong += [f"nothing in the tables rests on {p}" for p in sorted(definitions) if p not in way]
     wrong += [f"does not say 'These are definitions': {p}" for p in sorted(definitions) if not says_definitions(p)]
     wrong += [f"a law among definitions: {name} in {p}" for p in sorted(definitions) for name in laws(p)]
-    said = {p for p in glob.glob("crates/*/specs/**/*.antt", recursive=True) if says_definitions(p)}
+    said = {p for p in glob.glob("crates/*/specs/**/*.antt", recursive=True) if "/out/" not in p and says_definitions(p)}
     return wrong + [f"not named: {p}" for p in sorted(said - tables - inner)]
 
 

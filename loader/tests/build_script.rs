@@ -14,8 +14,8 @@ impl Room {
             std::fs::create_dir_all(path.parent().expect("a folder")).expect("a folder");
             std::fs::write(path, text).expect("a file");
         };
-        put("crates.txt", "# NAME: DEP DEP ..\nlow:\nother: low\nhigh: low\nsort_placement: high low\n");
-        put("crates/sort_placement/src/lib.rt", "pub extern \"C\" fn check_order(plan: &[u8])\n");
+        put("crates.txt", "# NAME: DEP DEP ..\nlow:\nother: low\nhigh: low  # low\nsort_placement_c staticlib: high low\n");
+        put("crates/sort_placement_c/src/lib.rt", "pub extern \"C\" fn check_order(plan: &[u8])\n");
         put("loader/none", "");
         put("out/none", "");
         std::fs::create_dir_all(root.join("bin")).expect("a folder");
@@ -55,11 +55,10 @@ fn build_script(root: &Path) -> PathBuf {
 }
 
 const PROVED: &str = "echo 'logic=proved low' >&2
-echo 'rt: low proved (1 s)' >&2
-echo 'rt: high proved (unchanged since it was last proved)' >&2
-echo 'rt: sort_placement proved (2 s)' >&2
-mkdir -p target/staticlib
-echo archive > target/staticlib/libsort_placement.a
+mkdir -p ../low/out/rlib/low.rlib
+sleep 1
+mkdir out
+echo archive > out/libsort_placement_c.a
 ";
 
 fn texts(output: &Output) -> (String, String) {
@@ -76,10 +75,10 @@ fn it_tells_how_far_it_is_and_links_a_copy() {
     let lines: Vec<&str> = told.lines().collect();
     assert_eq!(lines[0], "sort_placement: 3 crates are proved first, which takes some ten minutes the first time");
     assert!(lines[1].starts_with("sort_placement: crate 1 of 3 proved, ") && lines[1].ends_with(" s so far: low"), "{told}");
-    assert!(lines[2].starts_with("sort_placement: crate 3 of 3 proved, "), "{told}");
+    assert!(lines[2].starts_with("sort_placement: crate 2 of 3 proved, ") && lines[2].ends_with(" s so far: sort_placement_c"), "{told}");
     assert!(out.contains("cargo:rustc-cfg=has_check_order\n") && !out.contains("cargo:rustc-cfg=has_copy_plan\n"));
-    // the gate removes target/, and the copy stays
-    std::fs::remove_dir_all(room.0.join("target")).expect("it goes");
+    // the gate sets out/ aside, and the copy stays
+    std::fs::remove_dir_all(room.0.join("crates/sort_placement_c/out")).expect("it goes");
     assert!(out.contains(&format!("cargo:rustc-link-search=native={}\n", room.0.join("out").display())));
     assert!(room.0.join("out/libsort_placement.a").exists());
 }
@@ -88,14 +87,14 @@ fn it_tells_how_far_it_is_and_links_a_copy() {
 fn a_failed_proof_is_shown_without_a_backtrace() {
     let room = Room::new(
         "failed",
-        Some("echo 'rt: low proved (1 s)' >&2\necho 'error: not so' >&2\necho 'rt: high NOT PROVED (exit 1, 2 s)' >&2\nexit 1\n"),
+        Some("echo 'fn low::f: proved'\necho 'error: not so' >&2\necho 'fn high::g: not proved'\nexit 1\n"),
     );
     let built = room.build();
     let (_, told) = texts(&built);
     assert_eq!(built.status.code(), Some(1));
-    let why = "error: not so\nrt: high NOT PROVED (exit 1, 2 s)\n`rt staticlib sort_placement` has not proved the library, so it is not linked.\n";
+    let why = "error: not so\nfn high::g: not proved\n`rt lib` has not proved the library, so it is not linked.\n";
     assert!(told.ends_with(why), "{told}");
-    assert!(!told.contains("panicked") && !told.contains("low proved"), "{told}");
+    assert!(!told.contains("panicked") && !told.contains("low::f"), "{told}");
 }
 
 #[test]

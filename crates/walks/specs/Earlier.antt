@@ -1,4 +1,5 @@
--- Partial sorting as it answered before a sort with nothing left to do stayed: the earlier definition, of document 01, which stands in this file alone; and what is answered now in its place.
+-- Partial sorting as it answered before a sort with nothing left to do stayed: the earlier definition, of document 01, which stands in this file alone; and
+-- what is answered now in its place. These are definitions.
 use Rattle.std.specs.Prelude.{Bool, true, false, cond, List, [], ℕ, zero, suc, ◌-◌, eqb, length}
 use Rattle.row_order.specs.Iso.{Key}
 use Rattle.plan.specs.Forest.{none, tree}
