@@ -10,15 +10,15 @@ beside-requires c = let w = c.requires.sides.wide in
     (c.requires.sides.left, c.requires.sides.right, rw c.in-Inner.is at w)
 
 pub link_all-requires : goal.link_all-requires
-link_all-requires c = let w = c.requires.sides.wide in (
-      c.beside.ensures.fine,
-      (
-        linkable c.args.a.width c.args.b.width (on_of c.args.lefts.now c.args.rights.now) c.requires.fit
-            (rw c.in-Inner.is at w),
-        c.requires.pairs,
-        c.requires.sides.left.wide,
-      ),
-    )
+link_all-requires c = let w = c.requires.sides.wide in record {
+  coherent = c.beside.ensures.fine;
+  all = (
+    linkable c.args.a.width c.args.b.width (on_of c.args.lefts.now c.args.rights.now) c.requires.fit
+        (rw c.in-Inner.is at w),
+    c.requires.pairs,
+    c.requires.sides.left.wide,
+  );
+}
 
 pub placed-requires : goal.placed-requires
 placed-requires c = let w = c.requires.sides.wide in (c.requires.sides.left, rw c.in-Left.is at w)

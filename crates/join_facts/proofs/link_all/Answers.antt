@@ -14,10 +14,10 @@ pair : (c : After-shared_slice_known-in-loop-i-2-1) → Linkable c.args.w
     (pair_at c.args.lefts.now
     c.args.rights.now c.loop-i.i)
 pair c = on_at (Linkable c.args.w) c.args.lefts.now c.args.rights.now c.loop-i.i
-    c.loop-i-test.true c.requires.1.1 c.requires.1.0
+    c.loop-i-test.true c.requires.all.1 c.requires.all.0
 
 pub loop-i-init : goal.loop-i-init
-loop-i-init c = record { far = omega arith; fine = c.requires.0; leads = refl }
+loop-i-init c = record { far = omega arith; fine = c.requires.coherent; leads = refl }
 
 pub overflow_add-b : goal.overflow_add-b
 overflow_add-b c = let p = (pair (goal.at.overflow_add-b c).After-shared_slice_known-in-loop-i-2-1).right in omega arith
@@ -28,7 +28,7 @@ linked-g-requires c = (c.loop-i.invariant.fine, rw c.column-a.ensures (omega ari
 pub loop-i-preserved : goal.loop-i-preserved
 loop-i-preserved c = let l = c.loop-i in
     link_more c.args.w c.args.f c.args.lefts.now c.args.rights.now l.g l.i l.invariant
-    c.loop-i-test.true c.requires.1.1 c.requires.1.0 c.linked-g.result
+    c.loop-i-test.true c.requires.all.1 c.requires.all.0 c.linked-g.result
     (subst (λ (d : ℕ). Says (sem.linked (known l.g) d (c.args.w + get_or c.args.rights.now l.i 0)) c.linked-g.result)
     c.column-a.ensures c.linked-g.ensures)
 
