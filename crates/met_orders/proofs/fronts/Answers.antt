@@ -1,8 +1,7 @@
 use borrow.Author.Rules.{rules}
 use native.Mathlib.Omega.{arith}
 use mathlib.Core.Path.{ap, sym, ◌∙◌}
-use mathlib.Core.Logic.{⊎_elim}
-use borrow.Author.Tests.{not-true, not-false}
+use borrow.Author.Tests.{not-true}
 use Rattle.semantics.specs.Facts.{cl}
 use Prim.Native.Nat.{◌<◌, ◌^◌}
 use Rattle.key_lists.specs.Keys.{keys_of}
@@ -12,6 +11,7 @@ use Rattle.asked_facts.specs.Answers.{constants_are}
 use Rattle.met_orders.specs.Meeting.{front-none, front_skip, front_short, front_differ, front_more, front-end}
 use Rattle.std.specs.Prelude.{not}
 use Rattle.met_orders.proofs.fronts.Goals as goal
+use Rattle.met_orders.proofs.fronts.Goals.{then-not-has+else-more-eq0+else-not-same_key, else-not-has}
 use Rattle.met_orders.proofs.fronts.Goals.{Start}
 
 small : (c : Start) → c.args.k.len < 2 ^ 64
@@ -59,12 +59,14 @@ pub loop-left-preserved : goal.loop-left-preserved
 loop-left-preserved c = let s = c.args in let l = c.loop-left in
     let h = c.loop-left-test.true in
     let e = c.lowest_equal-c.ensures.0 ∙ ap (cl (told s.b.now)) c.column.ensures in
-    ⊎_elim (λ w. rw (w.6, w.7, w.8) (front_more (told s.b.now) (keys_of s.order) (keys_of s.k) l.seen l.known l.more l.rest l.left
-    l.i l.invariant h c.lowest_equal-c.result e (sym c.has.ensures ∙ not-true _ w.0.taken) (omega (arith, w.1.left))
-    w.2.result w.2.ensures w.3.result w.3.ensures (not-false _ w.4.left) w.5.result w.5.ensures))
-    (λ w. rw (w.1, w.2, w.3) (front_skip (told s.b.now) (keys_of s.order) (keys_of s.k) l.seen l.known l.more l.rest l.left l.i
-    l.invariant h c.lowest_equal-c.result e (sym c.has.ensures ∙ not-false _ w.0.left)))
-    c.if-not-has.branch
+    elim c.if-not-has.branch [
+      | then-not-has+else-more-eq0+else-not-same_key w ↦ rw (w.seen-is, w.known-is, w.more-is) (front_more (told s.b.now) (keys_of s.order) (keys_of s.k) l.seen l.known l.more l.rest l.left
+          l.i l.invariant h c.lowest_equal-c.result e (sym c.has.ensures ∙ w.if-not-has.true) (omega arith)
+          w.with_column.result w.with_column.ensures w.same_key.result w.same_key.ensures w.if-not-same_key.false
+          w.with-seen.result w.with-seen.ensures)
+      | else-not-has w ↦ rw (w.seen-is, w.known-is, w.more-is) (front_skip (told s.b.now) (keys_of s.order) (keys_of s.k) l.seen l.known l.more l.rest l.left l.i
+          l.invariant h c.lowest_equal-c.result e (sym c.has.ensures ∙ w.if-not-has.false))
+    ]
 
 pub returns : goal.returns
 returns c = let s = c.args in let l = c.loop-left in

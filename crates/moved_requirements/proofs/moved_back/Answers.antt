@@ -13,11 +13,11 @@ use Rattle.moved_requirements.proofs.moved_back.Goals.{After-back}
 
 -- the offset as the machine holds it
 signed : (c : After-back) → to_z w64 (of_z w64 c.back.result) ≡ neg_ℤ (pos c.args.off)
-signed c = to_z-of_z (record { sfits = c.back.type_inv }) ∙ c.back.ensures
+signed c = to_z-of_z {w = w64} (record { sfits = c.back.type_inv }) ∙ c.back.ensures
 
 pub move_keys-requires : goal.move_keys-requires
 move_keys-requires c = let k = c.args.keys in
-    (subst⁻¹ (λ (z : ℤ). All (Movable z) (keys_of k)) (signed (goal.at.move_keys-requires c).After-back) (back_room c.args.off k c.requires.1), c.requires.2)
+    record { all = subst⁻¹ (λ (z : ℤ). All (Movable z) (keys_of k)) (signed (goal.at.move_keys-requires c).After-back) (back_room c.args.off k c.requires.1); len_bound = c.requires.2 }
 
 pub returns : goal.returns
 returns c = let ks = keys_of c.args.keys in
