@@ -36,9 +36,7 @@ pub settle_inner-requires : goal.settle_inner-requires
 settle_inner-requires c = let q = c.kind_of-kind.ensures ∙ ap (λ (r : List ℕ). kind_of (get_or r 0 0))
     c.record_at.ensures in (
       c.requires,
-      (λ e. let x : c.kind_of-kind.result ≡ Union = q ∙ e in
-          miss (0 ∷ 1 ∷ 2 ∷ 4 ∷ 5 ∷ 6 ∷ 7 ∷ 8 ∷ 9 ∷ 10 ∷ 11 ∷ 12 ∷ 13 ∷ 14 ∷ []) 3 tt (rw x at c.in_default.keys2)),
-      (λ e. let x : c.kind_of-kind.result ≡ Source = q ∙ e in
-          miss (1 ∷ 2 ∷ 3 ∷ 4 ∷ 5 ∷ 6 ∷ 7 ∷ 8 ∷ 9 ∷ 10 ∷ 11 ∷ 12 ∷ 13 ∷ 14 ∷ []) 0 tt (rw x at c.in_default-kind.keys2)),
+      (λ e. c.in_default.not-Union (q ∙ e)),
+      (λ e. c.in_default-kind.not-Source (q ∙ e)),
       c.below-s.ensures,
     )
