@@ -1,7 +1,8 @@
 use Prim.Native.Nat.{◌-◌}
 use lib.ListN.{get_or}
 use Rattle.semantics.specs.Facts as sem
-use Rattle.facts.specs.Known.{known}
+use mathlib.Core.Path.{subst}
+use Rattle.facts.specs.Known.{known, Says}
 use Rattle.fact_slots.specs.Slots.{loaded}
 use Rattle.node_facts.specs.Ready.{count, groups_in}
 use Rattle.row_facts.specs.Over.{stored_says, streams_less}
@@ -22,5 +23,5 @@ pub returns : goal.returns
 returns c = let r = c.args.r.now in
     stored_says (sem.placed (sem.proj_facts (known (loaded c.args.b.now)) (groups_in r)) (get_or r 13 0 - count r))
     c.aggregated-g.result c.args.own.now c.store.new.b
-    (rw c.load_row-f.ensures at c.aggregated-g.ensures)
+    (subst (λ f. Says (sem.placed (sem.proj_facts (known f) (groups_in r)) (get_or r 13 0 - count r)) c.aggregated-g.result) c.load_row-f.ensures c.aggregated-g.ensures)
     c.store.ensures

@@ -1,6 +1,7 @@
 use lib.ListN.{get_or}
 use Rattle.semantics.specs.Facts as sem
-use Rattle.facts.specs.Known.{known}
+use mathlib.Core.Path.{subst}
+use Rattle.facts.specs.Known.{known, Says}
 use Rattle.fact_slots.specs.Slots.{loaded}
 use Rattle.node_facts.specs.Ready.{lent_columns}
 use Rattle.row_facts.specs.Over.{stored_says, streams_less}
@@ -21,5 +22,5 @@ store-requires c = let f = c.load_row-f.result in
 pub returns : goal.returns
 returns c = stored_says (sem.proj_facts (known (loaded c.args.b.now)) (lent_columns c.args.r.now (get_or c.args.r.now 13 0)))
     c.projected-g.result c.args.own.now c.store.new.b
-    (rw c.load_row-f.ensures at c.projected-g.ensures)
+    (subst (λ f. Says (sem.proj_facts (known f) (lent_columns c.args.r.now (get_or c.args.r.now 13 0))) c.projected-g.result) c.load_row-f.ensures c.projected-g.ensures)
     c.store.ensures
