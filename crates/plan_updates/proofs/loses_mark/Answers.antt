@@ -42,5 +42,4 @@ returns-in-Repartition c = let m = c.args.m.now in
 pub returns : goal.returns
 returns c = let m = c.args.m.now in let r = c.args.r.now in
     let ks = c.args.ks.now in let a = c.requires in
-    not-losing m r ks a (λ e. let x : c.kind_of-kind.result ≡ Repartition = c.kind_of-kind.ensures ∙ e in
-    miss (0 ∷ 1 ∷ 2 ∷ 3 ∷ 5 ∷ 6 ∷ 7 ∷ 8 ∷ 9 ∷ 10 ∷ 11 ∷ 12 ∷ 13 ∷ 14 ∷ []) 4 tt (rw x at c.in_default.keys2))
+    not-losing m r ks a (λ e. c.in_default.not-Repartition (c.kind_of-kind.ensures ∙ e))
