@@ -15,8 +15,8 @@ use Rattle.plan_format.specs.Writing.{joined, blocks_for, file_of_bytes, write_r
 use Rattle.plan_roundtrip.specs.Back.{length_file}
 use Rattle.plan_codec.specs.Decode.{decode}
 use Rattle.plan_codec.specs.Encode.{encode}
-use Rattle.plan_codec.specs.OneRecord.{encode_long}
-use Rattle.plan_codec.specs.Trees.{recorded, nodes-recorded}
+use Rattle.plan_codec.proofs.OneRecord.{encode_long}
+use Rattle.plan_codec.proofs.Trees.{recorded, nodes-recorded}
 use Rattle.plan_codec.specs.Writing.{file_of_plan, records_of}
 use Rattle.semantics.specs.Facts.{facts}
 use Rattle.walks.specs.Marks.{Tree, strip, op_t, size_t}

@@ -6,7 +6,7 @@ use Rattle.plan.specs.Forest.{Forest}
 use Rattle.plan.specs.Op.{Plan}
 use Rattle.scan.specs.Bytes.{AllBytes}
 use Rattle.plan_codec.specs.Reading.{plan, reading}
-use Rattle.plan_codec.specs.RoundTrip.{read_well_formed}
+use Rattle.plan_codec.proofs.RoundTrip.{read_well_formed}
 use Rattle.semantics.specs.Runs.{Streams, Env, Run}
 use Rattle.semantics.proofs.Theorems.Runs.Exists.{run_exists}
 

@@ -15,7 +15,7 @@ use Rattle.plan.specs.WellFormed.{well_formed}
 use Rattle.plan_format.specs.Reading.{refusal_of}
 use Rattle.scan.specs.Bytes.{AllBytes, one_if}
 use Rattle.plan_codec.specs.Reading.{plan, plan_of, reading, refused}
-use Rattle.plan_codec.specs.RoundTrip.{read_well_formed}
+use Rattle.plan_codec.proofs.RoundTrip.{read_well_formed}
 use Rattle.semantics.specs.Check.{check, EachMet}
 use Rattle.semantics.proofs.Theorems.Check.CheckIsMet.{check-met, met-check}
 use Rattle.semantics.specs.Runs.{Env, Run, Sources, Streams}

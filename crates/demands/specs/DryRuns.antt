@@ -17,7 +17,7 @@ use Rattle.plan.specs.WellFormed.{well_formed}
 use Rattle.scan.specs.Bytes.{AllBytes, one_if}
 use Rattle.plan_codec.specs.Reading.{plan, reading}
 use Rattle.plan_codec.specs.Writing.{file_of_plan}
-use Rattle.plan_codec.specs.RoundTrip.{read_well_formed, read_written}
+use Rattle.plan_codec.proofs.RoundTrip.{read_well_formed, read_written}
 use Rattle.semantics.specs.Facts.{at0, facts}
 use Rattle.semantics.specs.Check.{check}
 use Rattle.semantics.specs.Runs.{Streams, Run, Sources}
@@ -33,7 +33,7 @@ use Rattle.step_answers.specs.Answers.{returned, output_after}
 use Rattle.stepping.proofs.Theorems.FirstJoin.{NoJoin, none_steps}
 use Rattle.stepping.proofs.Theorems.OrderOfAnswers.{RowsKeep, row_count, delivered_bytes}
 use Rattle.step_answers.specs.FileAnswers.{returns_plan, returns_0}
-use Rattle.step_answers.specs.Outputs.{writes_delivered, delivered_fits}
+use Rattle.step_answers.proofs.Outputs.{writes_delivered, delivered_fits}
 use Rattle.call_answers.specs.Answers.{check_answer}
 use Rattle.demands.specs.OrderKept.{AllFed, sorted_fed, order_kept}
 

@@ -19,7 +19,7 @@ use Rattle.scan.specs.Bytes.{AllBytes}
 use Rattle.plan_codec.specs.Reading as codec
 use Rattle.plan_codec.specs.Reading.{plan, plan_of, reading}
 use Rattle.plan_codec.specs.Writing.{file_of_plan}
-use Rattle.plan_codec.specs.RoundTrip.{read_well_formed, read_written}
+use Rattle.plan_codec.proofs.RoundTrip.{read_well_formed, read_written}
 use Rattle.semantics.specs.Check.{check}
 use Rattle.semantics.specs.Runs.{Env, Run, SameInputs, Sources, Streams}
 use Rattle.walks.specs.Marks.{strip, transform_up, Tree}

@@ -8,12 +8,12 @@ use Rattle.plan.specs.Numbers.{number_of}
 use Rattle.scan.specs.Bytes.{AllBytes}
 use Rattle.plan_codec.specs.Reading.{plan, reading}
 use Rattle.plan_codec.specs.Writing.{file_of_plan}
-use Rattle.plan_codec.specs.RoundTrip.{written_read}
+use Rattle.plan_codec.proofs.RoundTrip.{written_read}
 use Rattle.walks.specs.Counted.{partially_sorted}
 use Rattle.walks.specs.Terms.{SortedAlready}
 use Rattle.walks.proofs.Theorems.PartialSort.Earlier.{already_unchanged}
 use Rattle.call_answers.specs.Answers.{after_reading, gives, output_in, refusal_in, rewrites, rewritten}
-use Rattle.call_answers.specs.Laws.{fit_accepted, fit_written, refusal_leaves_output, short_refused}
+use Rattle.call_answers.proofs.Laws.{fit_accepted, fit_written, refusal_leaves_output, short_refused}
 
 -- The file s of a plan f whose node number k is a sort over an unbounded child that already meets all its keys: what the call answers, and the output
 -- before and after

@@ -1,7 +1,7 @@
 -- Which answer comes: refusals of the file and of the rows, in their order, and what is stepped. Assumes nothing.
 use Rattle.std.specs.Prelude.{◌≡◌, refl, Bool, true, false, cond, not, ◌&&◌, ◌||◌, List, ℕ, ◌+◌, ◌*◌, ◌≤◌, ◌<◌, ltb, eqb, length}
 use Rattle.std.proofs.Common.{sym, ap, ◌∙◌, subst, arith, lt-ltb, le-ltb, ltb-true, ltb-false, eqb-true, ne_eqb}
-use Rattle.row_order.specs.Order.{no_bool}
+use Rattle.row_order.proofs.Order.{no_bool}
 use Rattle.plan.specs.Numbers.{number_of}
 use Rattle.plan.specs.Op.{Plan}
 use Rattle.plan.specs.declared.Refusal.TheVariants.{Accepted}
@@ -10,7 +10,7 @@ use Rattle.plan_format.specs.Reading.{refusal_of}
 use Rattle.plan_codec.specs.Reading.{plan_of, reading}
 use Rattle.plan_arena.specs.ReadFile.{block_slots, few_blocks, fillable, is_accepted}
 use Rattle.plan_arena.specs.Fill.{HoldsTree}
-use Rattle.plan_codec.specs.RoundTrip.{read_well_formed}
+use Rattle.plan_codec.proofs.RoundTrip.{read_well_formed}
 use Rattle.scan.specs.Bytes.{AllBytes}
 use Rattle.source_rows.specs.Nodes.{file_steps}
 use Rattle.semantics.proofs.Theorems.Common.Bools.{and_left}

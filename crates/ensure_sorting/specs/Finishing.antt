@@ -2,7 +2,7 @@
 use Rattle.std.specs.Prelude.{◌≡◌, refl, Bool, true, false, cond, not, List, [], map, ℕ, zero, suc, ◌+◌, ◌*◌, ◌≤◌, ◌<◌, ltb, leb, length, get_or}
 use Rattle.std.proofs.Common.{sym, ap, ap₂, ◌∙◌, subst, arith, lt-ltb}
 use Rattle.std.proofs.lemmas.Bool.{lt-leb}
-use Rattle.row_order.specs.Order.{no_bool}
+use Rattle.row_order.proofs.Order.{no_bool}
 use Rattle.plan.specs.Forest.{size}
 use Rattle.plan.specs.Op.{Op, source, filter, projection, union, repartition, coalesce, sort_op, merge_op, global_limit, local_limit, sort_merge_join, hash_join, output_requirement, partial_sort, aggregate}
 use Rattle.plan.specs.Numbers.{code}
@@ -12,7 +12,7 @@ use Rattle.plan.specs.declared.Fetch.TheVariants.{AtMost, Unlimited}
 use Rattle.plan_codec.specs.NodeRecord.{NodeRecord}
 use Rattle.plan_codec.specs.Decode.{from_bytes, decode}
 use Rattle.plan_codec.specs.Encode.{encode}
-use Rattle.plan_codec.specs.OneRecord.{decode-encode}
+use Rattle.plan_codec.proofs.OneRecord.{decode-encode}
 use Rattle.semantics.specs.Facts.{Facts, facts, facts_op, at0, nf, known_order}
 use Rattle.semantics.specs.Properties.{rebuilt}
 use Rattle.key_lists.specs.Keys.{keys_of, Keyed}

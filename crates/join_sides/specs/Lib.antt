@@ -1,3 +1,1 @@
 pub mod Sides
-pub mod Searching
-pub mod Room

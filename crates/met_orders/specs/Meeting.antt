@@ -3,7 +3,7 @@ use Rattle.std.specs.Prelude.{◌≡◌, refl, Bool, true, false, cond, ◌||◌
 use Rattle.std.proofs.Common.{sym, ap, ap₂, ◌∙◌, arith, take_all, eq-eqb, ne_eqb}
 use Rattle.std.proofs.Math.Decide.{ℕ_discrete}
 use Rattle.row_order.specs.Iso.{Key}
-use Rattle.row_order.specs.Order.{no_bool}
+use Rattle.row_order.proofs.Order.{no_bool}
 use Rattle.row_order.specs.Packed.{bit, key_of}
 use Rattle.plan.specs.WellFormed.{member}
 use Rattle.semantics.proofs.Theorems.Common.Bools.{and_left, and_right}

@@ -11,8 +11,8 @@ use Rattle.semantics.specs.Properties.{remark}
 use Rattle.scan.specs.Bytes.{one_if}
 use Rattle.plan_codec.specs.Encode.{fill, marks_byte, key_bytes, options_byte, fetch_number, encode}
 use Rattle.plan_codec.specs.Decode.{decode}
-use Rattle.plan_codec.specs.Fill.{length-fill}
-use Rattle.plan_codec.specs.Keys.{length_bytes}
+use Rattle.plan_codec.proofs.Fill.{length-fill}
+use Rattle.plan_codec.proofs.Keys.{length_bytes}
 use Rattle.key_lists.specs.declared.Keys.{Keys}
 use Rattle.key_lists.specs.Keys.{keys_in, keys_of}
 use Rattle.key_lists.specs.Lists.{next, end, length_keys}

@@ -9,7 +9,7 @@ use Rattle.plan.specs.Op.{Op}
 use Rattle.plan.specs.Numbers.{code}
 use Rattle.plan_codec.specs.Decode.{decode}
 use Rattle.plan_codec.specs.Encode.{encode}
-use Rattle.plan_codec.specs.OneRecord.{decode-encode}
+use Rattle.plan_codec.proofs.OneRecord.{decode-encode}
 use Rattle.semantics.specs.Properties.{remark}
 use Rattle.arena.specs.Arena.{slot}
 use Rattle.arena.specs.declared.At.{At}

@@ -8,7 +8,7 @@ use Rattle.plan_format.specs.Record.{children}
 use Rattle.plan_codec.specs.NodeRecord.{NodeRecord}
 use Rattle.plan_codec.specs.Decode.{from_bytes, decode}
 use Rattle.plan_codec.specs.Encode.{encode}
-use Rattle.plan_codec.specs.OneRecord.{decode-encode}
+use Rattle.plan_codec.proofs.OneRecord.{decode-encode}
 use Rattle.semantics.specs.Facts.{facts}
 use Rattle.key_lists.specs.Keys.{keys_of, Keyed}
 use Rattle.key_lists.specs.declared.Keys.{Keys}

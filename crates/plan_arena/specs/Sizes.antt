@@ -5,7 +5,7 @@ use Rattle.plan.specs.Forest.{Forest, none, tree, size, nodes}
 use Rattle.plan_format.specs.Blocks.{record_at, record_count, records}
 use Rattle.plan_format.specs.Tree.{tree_of}
 use Rattle.plan_roundtrip.specs.Files.{length-span}
-use Rattle.plan_roundtrip.specs.Tree.{nodes-build}
+use Rattle.plan_roundtrip.proofs.Tree.{nodes-build}
 
 size-nodes : {A : Type 0} (f : Forest A) → size f ≡ length (nodes f)
 size-nodes none = refl

@@ -12,7 +12,7 @@ use Rattle.plan_format.specs.Tree as file
 use Rattle.scan.specs.Bytes.{AllBytes}
 use Rattle.plan_codec.specs.Decode.{decode}
 use Rattle.plan_codec.specs.Reading.{plan_of, reading}
-use Rattle.plan_codec.specs.RoundTrip.{read_well_formed}
+use Rattle.plan_codec.proofs.RoundTrip.{read_well_formed}
 use Rattle.plan_arena.specs.Fill.{HoldsTree}
 use Rattle.plan_arena.specs.ReadFile.{block_slots, fillable}
 use Rattle.plan_arena.specs.Sizes.{size-tree}

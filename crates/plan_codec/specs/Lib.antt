@@ -3,16 +3,3 @@ pub mod Decode
 pub mod Encode
 pub mod Reading
 pub mod Writing
-pub mod Bits
-pub mod Fill
-pub mod Keys
-pub mod Columns
-pub mod Rules
-pub mod FromRecord
-pub mod ToRecord
-pub mod NodeRules
-pub mod Sizes
-pub mod OneRecord
-pub mod Trees
-pub mod Plans
-pub mod RoundTrip

@@ -11,7 +11,7 @@ use Rattle.plan.specs.declared.Kind.TheVariants.{Union}
 use Rattle.plan_format.specs.Record.{children, record_ok}
 use Rattle.plan_codec.specs.Decode.{from_bytes, operator_of, decode}
 use Rattle.plan_codec.specs.Encode.{encode}
-use Rattle.plan_codec.specs.OneRecord.{encode-children, encode_long, encode-rules}
+use Rattle.plan_codec.proofs.OneRecord.{encode-children, encode_long, encode-rules}
 use Rattle.semantics.specs.Facts.{Facts, union_facts, facts_op}
 use Rattle.facts.specs.declared.Facts.{Facts as Coded}
 use Rattle.facts.specs.Known.{Says}

@@ -1,5 +1,3 @@
 pub mod Back
 pub mod Same
-pub mod Tree
 pub mod Files
-pub mod Plans

@@ -7,7 +7,7 @@ use Rattle.scan.specs.Words.{Small}
 use Rattle.plan_format.specs.declared.Fields.{Fields}
 use Rattle.plan_format.specs.Fields.{fields_of}
 use Rattle.plan_format.specs.Record.{either, mark, hashed, key_count_ok, width_ok, head_ok, body_ok, key_slots_ok, tail_ok, rules_ok}
-use Rattle.record_lists.specs.Slots.{no_keys}
+use Rattle.record_lists.proofs.Slots.{no_keys}
 
 -- ---- a record
 

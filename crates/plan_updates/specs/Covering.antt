@@ -6,7 +6,7 @@ use Rattle.plan.specs.Op.{Op}
 use Rattle.plan.specs.WellFormed.{node_ok}
 use Rattle.plan_codec.specs.Decode.{decode}
 use Rattle.plan_codec.specs.Encode.{encode}
-use Rattle.plan_codec.specs.OneRecord.{decode-encode}
+use Rattle.plan_codec.proofs.OneRecord.{decode-encode}
 use Rattle.walks.specs.Marks.{node, plant, over, known, fact, size_t}
 use Rattle.walks.specs.Trees.{OkT}
 use Rattle.arena.specs.Arena.{slot_size, index}

@@ -10,7 +10,7 @@ use Rattle.plan.specs.Op.{Op, source, filter, projection, union, repartition, co
 use Rattle.plan.specs.Numbers.{kind_of}
 use Rattle.plan.specs.WellFormed.{children_ok}
 use Rattle.plan.specs.declared.Kind.TheVariants.{Repartition}
-use Rattle.plan_codec.specs.Bits.{no_false}
+use Rattle.plan_codec.proofs.Bits.{no_false}
 use Rattle.plan_codec.specs.Decode.{from_bytes, operator_of, decode}
 use Rattle.plan_codec.specs.Encode.{encode}
 use Rattle.semantics.specs.Facts.{Facts, counts, at0}

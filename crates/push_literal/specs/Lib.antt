@@ -2,11 +2,3 @@
 -- that returns (PushdownSortsLiteral); and that the structural form, which code and theorems follow, answers the same for every plan (SameAnswers).
 -- Pinned: plans that tell a wrong line of it from the right one, by computation.
 pub mod PushdownSortsLiteral
-pub mod Contexts
-pub mod Agrees
-pub mod HelperCalls
-pub mod Nodes
-pub mod Sorts
-pub mod WholePlans
-pub mod SameAnswers
-pub mod Pinned

@@ -3,7 +3,7 @@ use Rattle.std.specs.Prelude.{◌≡◌, refl, Bool, true, false, cond, List, []
 use Rattle.std.proofs.Common.{sym, ap, ap₂, ◌∙◌, subst, arith}
 use Rattle.std.proofs.Math.Path.{subst⁻¹}
 use Rattle.row_order.specs.Iso.{Key}
-use Rattle.row_order.specs.Order.{no_bool}
+use Rattle.row_order.proofs.Order.{no_bool}
 use Rattle.row_order.specs.Lists.{All, all_nil, all_cons}
 use Rattle.row_order.specs.ListLaws.{all_map, all_over}
 use Rattle.plan.specs.WellFormed.{join_width, member}
@@ -22,7 +22,7 @@ use Rattle.join_orders.specs.Orders.{placeable}
 use Rattle.join_sides.specs.declared.JoinSide.{JoinSide}
 use Rattle.join_sides.specs.declared.JoinSide.TheVariants as side
 use Rattle.join_sides.specs.Sides.{SideIs}
-use Rattle.join_sides.specs.Room.{Room, side_room, right_wide}
+use Rattle.join_sides.proofs.Room.{Room, side_room, right_wide}
 use Rattle.walks.specs.SortPushdown as walk
 use Rattle.push_requirements.specs.declared.Pushed.{Pushed}
 use Rattle.push_requirements.specs.declared.Pushed.TheVariants.{Stop, Goes}

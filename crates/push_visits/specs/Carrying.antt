@@ -12,7 +12,7 @@ use Rattle.plan.specs.declared.Kind.TheVariants.{Source, Filter, Projection, Uni
 use Rattle.plan.specs.declared.Fetch.{Fetch}
 use Rattle.plan_codec.specs.Decode.{decode, from_bytes, operator_of}
 use Rattle.plan_codec.specs.Encode.{encode}
-use Rattle.plan_codec.specs.OneRecord.{decode-encode}
+use Rattle.plan_codec.proofs.OneRecord.{decode-encode}
 use Rattle.semantics.specs.Facts.{Facts, at0, counts}
 use Rattle.semantics.specs.Properties.{remark, rebuilt}
 use Rattle.key_lists.specs.declared.Keys.{Keys}

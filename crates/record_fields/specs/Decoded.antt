@@ -11,8 +11,8 @@ use Rattle.plan_format.specs.Blocks.{span}
 use Rattle.plan_format.specs.LastPass.{key_columns}
 use Rattle.semantics.specs.Properties.{right_key}
 use Rattle.plan_codec.specs.Decode.{key_of_bytes, keys_of, on_of}
-use Rattle.plan_codec.specs.Fill.{part_bytes}
-use Rattle.plan_codec.specs.Keys.{length_keys}
+use Rattle.plan_codec.proofs.Fill.{part_bytes}
+use Rattle.plan_codec.proofs.Keys.{length_keys}
 use Rattle.record_fields.specs.Fields.{packed, packed_keys, right_packed, packed_right_keys, tail_columns}
 
 -- ---- keys

@@ -11,14 +11,14 @@ use Rattle.plan.specs.declared.Kind.{Kind}
 use Rattle.plan.specs.declared.Kind.TheVariants.{Source, Filter, Projection, Union, Repartition, Coalesce, Sort, Merge, GlobalLimit, LocalLimit, SortMergeJoin, HashJoin, OutputRequirement, PartialSort, Aggregate}
 use Rattle.class_tables.specs.Tables.{Columns}
 use Rattle.plan_codec.specs.NodeRecord.{NodeRecord}
-use Rattle.plan_codec.specs.Bits.{number_back}
+use Rattle.plan_codec.proofs.Bits.{number_back}
 use Rattle.plan_codec.specs.Decode.{from_bytes, on_of, decode}
 use Rattle.plan_codec.specs.Encode.{fill, record_of, encode}
-use Rattle.plan_codec.specs.Fill.{fill_at}
-use Rattle.plan_codec.specs.Keys.{on_columns, on_back}
-use Rattle.plan_codec.specs.OneRecord.{encode_long}
-use Rattle.plan_codec.specs.Rules.{fields_same}
-use Rattle.plan_codec.specs.ToRecord.{kind_of_lem, few_of, fits_of}
+use Rattle.plan_codec.proofs.Fill.{fill_at}
+use Rattle.plan_codec.proofs.Keys.{on_columns, on_back}
+use Rattle.plan_codec.proofs.OneRecord.{encode_long}
+use Rattle.plan_codec.proofs.Rules.{fields_same}
+use Rattle.plan_codec.proofs.ToRecord.{kind_of_lem, few_of, fits_of}
 use Rattle.record_fields.specs.Fields.{tail_columns}
 use Rattle.record_fields.specs.Proper.{pairs_of, Proper}
 

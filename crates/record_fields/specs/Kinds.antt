@@ -5,9 +5,9 @@ use Rattle.row_order.specs.Packed.{key_of}
 use Rattle.plan.specs.Op.{Op, kind}
 use Rattle.plan.specs.Numbers.{code, kind_number, kind_of}
 use Rattle.plan.specs.declared.Kind.{Kind}
-use Rattle.plan_codec.specs.Bits.{number_back}
+use Rattle.plan_codec.proofs.Bits.{number_back}
 use Rattle.plan_codec.specs.Decode.{decode, from_bytes, operator_of}
-use Rattle.plan_codec.specs.FromRecord.{operator_kind}
+use Rattle.plan_codec.proofs.FromRecord.{operator_kind}
 use Rattle.record_fields.specs.Fields.{packed_keys}
 use Rattle.record_fields.specs.Decoded.{packed_keys_lem}
 use Rattle.record_fields.specs.Proper.{Proper}

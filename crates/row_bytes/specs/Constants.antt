@@ -3,7 +3,7 @@ use Rattle.std.specs.Prelude.{◌≡◌, refl, Bool, true, false, cond, not, ◌
 use Rattle.std.proofs.Common.{sym, ap, ap₂, ◌∙◌, arith, eq-eqb, ne_eqb, lt-ltb, le-ltb}
 use Rattle.std.proofs.Math.Decide.{ℕ_discrete, dec_lt}
 use Rattle.row_order.specs.Iso.{Cell, null, num, Row, cell, eqℤ, equal}
-use Rattle.row_order.specs.Order.{no_bool}
+use Rattle.row_order.proofs.Order.{no_bool}
 use Rattle.row_order.specs.Lists.{tab, concat}
 use Rattle.row_order.specs.ListLaws.{length-tab, get_or-tab}
 use Rattle.row_order.specs.Packed.{bit, cell_of}

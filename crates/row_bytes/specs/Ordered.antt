@@ -3,7 +3,7 @@ use Rattle.std.specs.Prelude.{◌≡◌, refl, Bool, true, false, cond, not, ◌
 use Rattle.std.proofs.Common.{sym, ap, ap₂, ◌∙◌, subst, inl, inr, arith, add-one}
 use Rattle.row_order.specs.Iso.{Row, Key, before}
 use Rattle.row_order.specs.RowLists.{le}
-use Rattle.row_order.specs.Order.{le_total, no_bool}
+use Rattle.row_order.proofs.Order.{le_total, no_bool}
 use Rattle.row_order.specs.Lists.{tab}
 use Rattle.row_order.specs.Compared.{compared}
 use Rattle.row_order.specs.declared.Comparison.{Comparison}

@@ -4,11 +4,11 @@ use Rattle.std.proofs.Common.{sym, ap, ap₂, ◌∙◌, subst, mul-le-mul, mul-
 use Rattle.std.proofs.Math.Nat.{div-eq_of_lt}
 use Rattle.std.proofs.lemmas.Bool.{lt-leb}
 use Rattle.std.specs.Int.Bits.{bit_and}
-use Rattle.row_order.specs.Order.{no_bool}
+use Rattle.row_order.proofs.Order.{no_bool}
 use Rattle.row_order.specs.Lists.{concat}
 use Rattle.row_order.specs.ListLaws.{length-tab}
 use Rattle.row_order.specs.Packed.{bit}
-use Rattle.row_order.specs.Comparing.{masked}
+use Rattle.row_order.proofs.Comparing.{masked}
 use Rattle.plan.specs.WellFormed.{set_fits}
 use Rattle.scan.specs.Below.{and_left, and_right, all_more, all_fail, all_end}
 use Rattle.scan.specs.Bytes.{zeros, le32, all_below}

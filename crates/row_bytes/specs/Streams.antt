@@ -2,7 +2,7 @@
 use Rattle.std.specs.Prelude.{◌≡◌, refl, Bool, true, false, not, ◌&&◌, List, [], ◌∷◌, ◌++◌, ℕ, zero, suc, ◌+◌, ◌*◌, ◌-◌, ◌≤◌, ◌<◌, length}
 use Rattle.std.proofs.Common.{sym, ap, ◌∙◌, arith, length-append}
 use Rattle.row_order.specs.Iso.{Row}
-use Rattle.row_order.specs.Order.{no_bool}
+use Rattle.row_order.proofs.Order.{no_bool}
 use Rattle.row_order.specs.Lists.{tab, concat}
 use Rattle.row_order.specs.ListLaws.{length-tab}
 use Rattle.scan.specs.Below.{and_left, and_right, and_assoc}

@@ -2,9 +2,6 @@ pub mod Iso
 pub mod Lists
 pub mod RowLists
 pub mod ListLaws
-pub mod Order
-pub mod Sorting
 pub mod Forms
 pub mod Packed
 pub mod Compared
-pub mod Comparing

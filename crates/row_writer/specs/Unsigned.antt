@@ -4,7 +4,7 @@ use Rattle.std.proofs.Common.{sym, ap, ◌∙◌, subst, arith, le-ltb, to_z, of
 use Rattle.std.proofs.lemmas.Bool.{lt-leb}
 use Rattle.std.specs.Int.Signed.{mag, lt_z, non_neg}
 use Rattle.std.specs.Int.{w64}
-use Rattle.row_order.specs.Order.{no_bool}
+use Rattle.row_order.proofs.Order.{no_bool}
 use Rattle.stepping.specs.RowBytes.{unsigned}
 
 sub_small : (n : ℕ) → negsuc 0 -ℤ negsuc n ≡ pos n

@@ -9,16 +9,16 @@ use Rattle.plan_format.specs.Blocks.{block_count}
 use Rattle.plan_format.specs.Reading.{refusal_of}
 use Rattle.plan_format.specs.Record.{kind_ok, record_ok}
 use Rattle.plan_format.specs.Tree as file
-use Rattle.plan_codec.specs.Bits.{both}
+use Rattle.plan_codec.proofs.Bits.{both}
 use Rattle.plan_codec.specs.Decode.{decode}
 use Rattle.plan_codec.specs.Encode.{encode}
-use Rattle.plan_codec.specs.OneRecord.{encode-decode}
-use Rattle.plan_codec.specs.Plans.{every_left, every_right}
+use Rattle.plan_codec.proofs.OneRecord.{encode-decode}
+use Rattle.plan_codec.proofs.Plans.{every_left, every_right}
 use Rattle.plan_codec.specs.Reading.{plan, plan_of, reading}
-use Rattle.plan_codec.specs.RoundTrip.{read_well_formed}
+use Rattle.plan_codec.proofs.RoundTrip.{read_well_formed}
 use Rattle.plan_roundtrip.specs.Files.{byte}
 use Rattle.scan.specs.Bytes.{AllBytes}
-use Rattle.plan_roundtrip.specs.Plans.{accepted_tree}
+use Rattle.plan_roundtrip.proofs.Plans.{accepted_tree}
 use Rattle.plan_arena.specs.Parts.{Part, here, under, beside}
 use Rattle.plan_arena.specs.Fill.{HoldsTree}
 use Rattle.plan_arena.specs.ReadFile.{block_slots, fillable}

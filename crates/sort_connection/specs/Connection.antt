@@ -2,7 +2,7 @@
 use Rattle.std.specs.Prelude.{◌≡◌, refl, Bool, true, false, cond, ◌&&◌, ◌||◌, List, [], ◌∷◌, ℕ, zero, suc, ◌+◌, ◌*◌, ◌≤◌, ◌<◌, length, get_or, take, drop, set}
 use Rattle.std.proofs.Common.{sym, ap₂, ◌∙◌, subst, arith, add-one, length-set, drop_of_length-le, drop-cons, take-suc-set, drop-set-lt}
 use Rattle.std.proofs.Math.Path.{ap}
-use Rattle.row_order.specs.Order.{no_bool}
+use Rattle.row_order.proofs.Order.{no_bool}
 use Rattle.plan.specs.Forest.{Forest, none, tree, roots}
 use Rattle.semantics.specs.Facts.{is_nil}
 use Rattle.semantics.specs.Properties.{wanted, maintains, is_limit}

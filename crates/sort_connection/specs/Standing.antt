@@ -1,7 +1,7 @@
 -- A node that stands in a slot of the arena: what its record and its children's handles show.
 use Rattle.std.specs.Prelude.{◌≡◌, Bool, true, false, List, ℕ, ◌+◌, ◌*◌, ◌≤◌, ◌<◌, eqb, length, get_or}
 use Rattle.std.proofs.Common.{sym, ap, ◌∙◌, subst, arith, eqb-true, eq-eqb}
-use Rattle.row_order.specs.Order.{no_bool}
+use Rattle.row_order.proofs.Order.{no_bool}
 use Rattle.plan.specs.Op.{Op, sort_op, merge_op, repartition}
 use Rattle.plan.specs.Numbers.{kind_of, code}
 use Rattle.plan.specs.WellFormed.{children_ok}

@@ -2,7 +2,7 @@
 use Rattle.std.specs.Prelude.{◌≡◌, refl, Bool, true, false, cond, List, ℕ, suc, ◌+◌, ◌*◌, ◌≤◌, ◌<◌, length, get_or, take, drop, set}
 use Rattle.std.proofs.Common.{sym, ap, ap₂, ◌∙◌, subst, add-one}
 use native.Mathlib.Omega.{arith}
-use Rattle.row_order.specs.Order.{no_bool}
+use Rattle.row_order.proofs.Order.{no_bool}
 use Rattle.plan.specs.Forest.{Forest, size}
 use Rattle.plan.specs.Op.{Op, sort_op}
 use Rattle.plan.specs.Numbers.{code}

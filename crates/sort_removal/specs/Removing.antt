@@ -9,7 +9,7 @@ use Rattle.plan.specs.WellFormed.{node_ok}
 use Rattle.plan.specs.declared.Fetch.{Fetch}
 use Rattle.plan_codec.specs.Decode.{from_bytes, decode}
 use Rattle.plan_codec.specs.Encode.{encode}
-use Rattle.plan_codec.specs.OneRecord.{decode-encode}
+use Rattle.plan_codec.proofs.OneRecord.{decode-encode}
 use Rattle.plan_codec.specs.NodeRecord.{NodeRecord}
 use Rattle.semantics.specs.Facts.{facts, is_nil}
 use Rattle.semantics.specs.Properties.{remark, rebuilt, singles}

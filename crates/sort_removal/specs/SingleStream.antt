@@ -7,7 +7,7 @@ use Rattle.plan.specs.declared.Fetch.{Fetch}
 use Rattle.plan.specs.declared.Fetch.TheVariants.{Unlimited}
 use Rattle.plan_codec.specs.Decode.{decode}
 use Rattle.plan_codec.specs.Encode.{encode}
-use Rattle.plan_codec.specs.OneRecord.{decode-encode}
+use Rattle.plan_codec.proofs.OneRecord.{decode-encode}
 use Rattle.semantics.specs.Facts.{known_order}
 use Rattle.key_lists.specs.Keys.{keys_in, keys_of, order_of, Ordered, Real}
 use Rattle.key_lists.specs.declared.Keys.{Keys}

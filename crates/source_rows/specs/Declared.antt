@@ -9,7 +9,7 @@ use native.Mathlib.Omega.{arith}
 use Rattle.std.proofs.Math.Seq.{get_or-append-add}
 use Rattle.std.proofs.Math.ListN.{length, get_or, get_or-append}
 use Rattle.row_order.specs.Iso.{Row, Key}
-use Rattle.row_order.specs.Order.{no_bool}
+use Rattle.row_order.proofs.Order.{no_bool}
 use Rattle.row_order.specs.Lists.{tab, concat}
 use Rattle.row_order.specs.ListLaws.{length-tab}
 use Rattle.row_order.specs.Packed.{bit, key_of}

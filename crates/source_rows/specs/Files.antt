@@ -15,13 +15,13 @@ use Rattle.plan_format.specs.Reading.{refusal_of}
 use Rattle.plan_format.specs.Tree.{tree_of}
 use Rattle.plan_format.specs.Passed.{accepted, passed, passed_last, few_records}
 use Rattle.plan_roundtrip.specs.Files.{length-span}
-use Rattle.plan_roundtrip.specs.Tree.{nodes-build}
-use Rattle.plan_roundtrip.specs.Plans.{accepted_tree}
+use Rattle.plan_roundtrip.proofs.Tree.{nodes-build}
+use Rattle.plan_roundtrip.proofs.Plans.{accepted_tree}
 use Rattle.plan_codec.specs.Decode.{decode}
 use Rattle.plan_codec.specs.Encode.{encode}
-use Rattle.plan_codec.specs.OneRecord.{decode-encode}
-use Rattle.plan_codec.specs.Trees.{recorded, last_tree}
-use Rattle.plan_codec.specs.Plans.{Fit, recorded_back, nodes_fine}
+use Rattle.plan_codec.proofs.OneRecord.{decode-encode}
+use Rattle.plan_codec.proofs.Trees.{recorded, last_tree}
+use Rattle.plan_codec.proofs.Plans.{Fit, recorded_back, nodes_fine}
 use Rattle.plan_codec.specs.Reading.{plan_of}
 use Rattle.record_fields.specs.Proper.{Proper}
 use Rattle.record_fields.specs.Encoded.{proper}

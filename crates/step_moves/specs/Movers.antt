@@ -2,7 +2,7 @@
 use Rattle.std.specs.Prelude.{◌≡◌, refl, Bool, true, false, cond, not, ◌&&◌, ◌||◌, List, [], ◌∷◌, ◌++◌, ℕ, zero, suc, ◌+◌, ◌-◌, ◌<◌, ◌≤◌, length, get_or}
 use Rattle.std.proofs.Common.{sym, ap, ap₂, ◌∙◌, subst, arith, length-append, get_or-append-add}
 use Rattle.std.proofs.lemmas.Bool.{not-true, not-false}
-use Rattle.row_order.specs.Order.{no_bool}
+use Rattle.row_order.proofs.Order.{no_bool}
 use Rattle.row_order.specs.Lists.{tab}
 use Rattle.row_order.specs.ListLaws.{get_or-tab}
 use Rattle.plan.specs.Forest.{Forest, none, tree, size}

@@ -6,7 +6,7 @@ use Rattle.std.specs.Int.Bits.{bit_and}
 use Rattle.std.proofs.lemmas.Nat.{and_mask}
 use Rattle.row_order.specs.Iso.{Row, Key}
 use Rattle.row_order.specs.Packed.{key_of}
-use Rattle.row_order.specs.Order.{no_bool}
+use Rattle.row_order.proofs.Order.{no_bool}
 use Rattle.plan.specs.Op.{Op, source, filter, projection, union, repartition, coalesce, sort_op, merge_op, global_limit, local_limit, sort_merge_join, hash_join, output_requirement, partial_sort, aggregate, kind}
 use Rattle.plan.specs.Numbers.{code, kind_number, kind_of}
 use Rattle.plan.specs.WellFormed.{children_ok}

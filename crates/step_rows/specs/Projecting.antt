@@ -7,7 +7,7 @@ use Rattle.std.proofs.lemmas.List.{length-map}
 use Rattle.std.proofs.Math.ListN.{get_or-map}
 use Rattle.row_order.specs.Iso.{cell}
 use Rattle.row_order.specs.Packed.{bit, cell_of, row_of, null_at}
-use Rattle.row_order.specs.Comparing.{cell-at, null_within, null-past}
+use Rattle.row_order.proofs.Comparing.{cell-at, null_within, null-past}
 use Rattle.row_order.specs.ListLaws.{length-tab, get_or-tab}
 use Rattle.semantics.specs.Runs.{proj}
 use Rattle.column_sets.specs.Sets.{Holding, below}

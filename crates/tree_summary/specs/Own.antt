@@ -10,7 +10,7 @@ use Rattle.plan.specs.declared.Kind.TheVariants.{Source, Filter, Projection, Uni
 use Rattle.plan_codec.specs.NodeRecord.{NodeRecord}
 use Rattle.plan_codec.specs.Decode.{from_bytes, operator_of, decode, fetch_of}
 use Rattle.plan_codec.specs.Encode.{encode}
-use Rattle.plan_codec.specs.FromRecord.{operator_kind}
+use Rattle.plan_codec.proofs.FromRecord.{operator_kind}
 use Rattle.semantics.specs.Properties.{cuts, source_endless, is_limit}
 use Rattle.record_fields.specs.Encoded.{code_byte}
 use Rattle.tree_summary.specs.declared.Summary.{Summary}

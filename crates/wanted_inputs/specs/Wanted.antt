@@ -12,7 +12,7 @@ use Rattle.plan.specs.declared.Kind.TheVariants.{SortMergeJoin, PartialSort}
 use Rattle.plan.specs.declared.Distribution.TheVariants.{Keyed, Unspecified}
 use Rattle.semantics.specs.Properties.{right_key, join_keys, wanted, by_side, column_set, left_single}
 use Rattle.plan_codec.specs.Decode.{decode, distribution_of, from_bytes, operator_of}
-use Rattle.plan_codec.specs.Keys.{on_keys, on_columns}
+use Rattle.plan_codec.proofs.Keys.{on_keys, on_columns}
 use Rattle.key_lists.specs.declared.Keys.{Keys}
 use Rattle.key_lists.specs.declared.Order.{Order}
 use Rattle.key_lists.specs.declared.Order.TheVariants.{Unordered}

@@ -4,7 +4,7 @@ use Rattle.key_lists.specs.Keys.{keys_of}
 use Rattle.asked_facts.specs.Asked.{told}
 use Rattle.walks.specs.SortPushdown.{on_side}
 use Rattle.join_sides.specs.Sides.{Valids}
-use Rattle.join_sides.specs.Searching.{on_left, on_right_lem, on_neither}
+use Rattle.join_sides.proofs.Searching.{on_left, on_right_lem, on_neither}
 use Rattle.join_sides.proofs.either_side.Goals as goal
 
 pub returns-in-Valid : goal.returns-in-Valid

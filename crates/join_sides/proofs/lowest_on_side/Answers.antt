@@ -6,7 +6,7 @@ use borrow.Author.Count.{below_none, below_more}
 use borrow.Author.Tests.{eq-eqb, ne_eqb}
 use Rattle.semantics.specs.Facts.{cl}
 use Rattle.asked_facts.specs.Asked.{told}
-use Rattle.join_sides.specs.Searching.{here, nowhere}
+use Rattle.join_sides.proofs.Searching.{here, nowhere}
 use Rattle.join_sides.proofs.lowest_on_side.Goals as goal
 
 pub loop-j-init : goal.loop-j-init

@@ -3,7 +3,7 @@ use lib.Dec.{eqb}
 use Rattle.semantics.specs.Facts.{cl}
 use Rattle.class_tables.specs.Lowest.{Nowhere}
 use Rattle.asked_facts.specs.Asked.{told}
-use Rattle.join_sides.specs.Searching.{here}
+use Rattle.join_sides.proofs.Searching.{here}
 use Rattle.join_sides.proofs.lowest_on_side.Given as goal
 
 abbrev pub invariant-loop-j : goal.invariant-loop-j

@@ -4,7 +4,7 @@ use Rattle.semantics.specs.Facts.{cl}
 use Rattle.key_lists.specs.Keys.{keys_of}
 use Rattle.asked_facts.specs.Asked.{told}
 use Rattle.join_sides.specs.Sides.{side_column}
-use Rattle.join_sides.specs.Searching.{side_none, side_below, sided, unsided, all_sided}
+use Rattle.join_sides.proofs.Searching.{side_none, side_below, sided, unsided, all_sided}
 use Rattle.join_sides.proofs.on_side.Goals as goal
 
 pub loop-left-init : goal.loop-left-init

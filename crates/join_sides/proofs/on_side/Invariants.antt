@@ -1,6 +1,6 @@
 use Rattle.key_lists.specs.Keys.{keys_in}
 use Rattle.asked_facts.specs.Asked.{told}
-use Rattle.join_sides.specs.Searching.{Siding}
+use Rattle.join_sides.proofs.Searching.{Siding}
 use Rattle.join_sides.proofs.on_side.Given as goal
 
 abbrev pub invariant-loop-left : goal.invariant-loop-left

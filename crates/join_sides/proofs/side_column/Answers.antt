@@ -2,7 +2,7 @@ use mathlib.Core.Path.{◌∙◌, ap}
 use Rattle.semantics.specs.Facts.{cl}
 use Rattle.asked_facts.specs.Asked.{told}
 use Rattle.join_sides.specs.Sides.{lowest_from}
-use Rattle.join_sides.specs.Searching.{before, there, behind}
+use Rattle.join_sides.proofs.Searching.{before, there, behind}
 use Rattle.join_sides.proofs.side_column.Goals as goal
 
 pub returns-then-c-lo : goal.returns-then-c-lo

@@ -3,7 +3,7 @@ use mathlib.Core.Bool.{false}
 use mathlib.Core.Path.{refl, ◌∙◌}
 use Rattle.plan_format.specs.Fields.{fields_of}
 use Rattle.plan_rules.specs.Rules.{rules, no_count}
-use Rattle.record_lists.specs.Slots.{no_keys}
+use Rattle.record_lists.proofs.Slots.{no_keys}
 use Rattle.plan_rules.proofs.coalesce_ok.Goals as goal
 
 pub returns : goal.returns

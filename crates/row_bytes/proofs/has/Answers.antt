@@ -1,4 +1,4 @@
-use Rattle.row_order.specs.Comparing.{masked}
+use Rattle.row_order.proofs.Comparing.{masked}
 use Rattle.row_bytes.proofs.has.Goals as goal
 
 pub returns : goal.returns

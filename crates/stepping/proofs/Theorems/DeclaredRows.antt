@@ -9,11 +9,11 @@ use Rattle.std.proofs.lemmas.Bool.{not-false}
 use Rattle.std.proofs.Math.ListN.{get_or-eq_default}
 use Rattle.row_order.specs.Iso.{Cell, null, num, Row, Key, cell, eqℤ, equal}
 use Rattle.row_order.specs.RowLists.{le, Rel, Sorted}
-use Rattle.row_order.specs.Order.{le_trans, no_bool}
+use Rattle.row_order.proofs.Order.{le_trans, no_bool}
 use Rattle.row_order.specs.Lists.{concat, All, all_nil, all_cons, pw_nil, pw_cons, tab}
 use Rattle.row_order.specs.ListLaws.{all_head, all_tail, all_map, all_concat, lookup, tabulate, pw_head, pw_tail, length-tab}
 use Rattle.row_order.specs.Packed.{bit}
-use Rattle.row_order.specs.Sorting.{below}
+use Rattle.row_order.proofs.Sorting.{below}
 use Rattle.row_order.specs.Forms.{sorted_ordered, ordered_sorted}
 use Rattle.scan.specs.Bytes.{all_below}
 use Rattle.scan.specs.Below.{all_at, all_intro}

@@ -7,7 +7,7 @@ use Rattle.std.proofs.lemmas.Bool.{not-true}
 use Rattle.plan.specs.Forest.{none, tree, nodes, size}
 use Rattle.plan.specs.Op.{Op, union, Plan}
 use Rattle.plan.specs.WellFormed.{every}
-use Rattle.row_order.specs.Order.{no_bool}
+use Rattle.row_order.proofs.Order.{no_bool}
 use Rattle.semantics.specs.Facts.{lowest}
 use Rattle.semantics.proofs.Theorems.Common.Bools.{and_left, and_right}
 use Rattle.semantics.proofs.Theorems.Common.Lowest.{lowest_ok}

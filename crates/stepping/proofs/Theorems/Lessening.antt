@@ -4,7 +4,7 @@ use Rattle.std.proofs.Common.{sym, ap, ap₂, ◌∙◌, subst, inl, inr, append
 use Rattle.std.proofs.lemmas.List.{length-map}
 use Rattle.std.proofs.Math.ListN.{get_or-append, get_or-eq_default}
 use Rattle.row_order.specs.Iso.{Row, Key}
-use Rattle.row_order.specs.Order.{no_bool}
+use Rattle.row_order.proofs.Order.{no_bool}
 use Rattle.row_order.specs.Lists.{concat, All, all_nil, all_cons, tab}
 use Rattle.row_order.specs.ListLaws.{all_append, all_over, all_map, length-tab, get_or-tab}
 use Rattle.plan.specs.Forest.{Forest, none, tree, roots}

@@ -3,10 +3,10 @@ use Rattle.std.specs.Prelude.{◌≡◌, refl, Bool, true, false, cond, not, ◌
 use Rattle.std.proofs.Common.{sym, ap, ap₂, ◌∙◌, subst, append-nil, arith, eqb-true}
 use Rattle.row_order.specs.Iso.{Row, Key}
 use Rattle.row_order.specs.RowLists.{le, Rel, Sorted}
-use Rattle.row_order.specs.Order.{le_refl, no_bool}
+use Rattle.row_order.proofs.Order.{le_refl, no_bool}
 use Rattle.row_order.specs.Lists.{sum, concat, Same, All, all_nil, all_cons}
 use Rattle.row_order.specs.ListLaws.{sum_append, all_head, all_tail, all_map, all_append, pw_head, pw_tail}
-use Rattle.row_order.specs.Sorting.{below}
+use Rattle.row_order.proofs.Sorting.{below}
 use Rattle.plan.specs.Forest.{Forest, none, tree, roots}
 use Rattle.plan.specs.Op.{Op, source, filter, projection, union, repartition, coalesce, sort_op, merge_op, global_limit, local_limit, sort_merge_join, hash_join, output_requirement, partial_sort, aggregate, Plan}
 use Rattle.semantics.specs.Facts.{Facts, is_nil, counts, known_order, at0, facts}

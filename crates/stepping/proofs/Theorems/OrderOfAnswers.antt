@@ -6,7 +6,7 @@
 use Rattle.std.specs.Prelude.{◌≡◌, refl, Bool, true, false, cond, not, ◌&&◌, ◌↔◌, ◌⊎◌, List, ℕ, ◌+◌, ◌<◌, ◌≤◌, ltb, length}
 use Rattle.std.proofs.Common.{sym, ap, ap₂, ◌∙◌, inl, inr, arith, ltb-true, ltb-false, lt-ltb, le-ltb}
 use Rattle.row_order.specs.Lists.{concat}
-use Rattle.row_order.specs.Order.{no_bool}
+use Rattle.row_order.proofs.Order.{no_bool}
 use Rattle.plan.specs.Op.{Plan}
 use Rattle.semantics.specs.Runs.{Sources}
 use Rattle.semantics.proofs.Theorems.Common.Bools.{and_left, and_right}

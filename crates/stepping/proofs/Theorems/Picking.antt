@@ -4,10 +4,10 @@ use Rattle.std.proofs.Common.{sym, ap, ◌∙◌, inl, inr, arith, eqb-true, eq-
 use Rattle.std.proofs.lemmas.Bool.{eqb-false}
 use Rattle.row_order.specs.Iso.{Row, Key}
 use Rattle.row_order.specs.RowLists.{le}
-use Rattle.row_order.specs.Order.{le_trans, le_refl, no_bool}
+use Rattle.row_order.proofs.Order.{le_trans, le_refl, no_bool}
 use Rattle.row_order.specs.Lists.{sum, All, all_nil, all_cons}
 use Rattle.row_order.specs.ListLaws.{all_map}
-use Rattle.row_order.specs.Sorting.{le_flip}
+use Rattle.row_order.proofs.Sorting.{le_flip}
 use Rattle.stepping.specs.Outlets.{Placed, on}
 use Rattle.stepping.specs.Moves.{Picked, nobody, picked, behind, earlier, least}
 

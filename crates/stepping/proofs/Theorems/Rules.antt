@@ -4,7 +4,7 @@ use Rattle.std.specs.Prelude.{◌≡◌, refl, Bool, true, false, cond, ◌||◌
 use Rattle.std.proofs.Common.{sym, ap, ap₂, ◌∙◌, subst, inl, inr, arith, eqb-true}
 use Rattle.row_order.specs.Iso.{Row, Key}
 use Rattle.row_order.specs.RowLists.{row_discrete, Rel, Sorted}
-use Rattle.row_order.specs.Order.{no_bool}
+use Rattle.row_order.proofs.Order.{no_bool}
 use Rattle.row_order.specs.Lists.{sum, concat, Same, All, all_nil, all_cons, Pw, pw_cons, mix_left, mix_right, Mixes, mixes_nil, mixes_cons, tab}
 use Rattle.row_order.specs.ListLaws.{sum_append, same_trans, same_sym, same_all, all_head, all_tail, all_concat, pw_head, pw_tail, mixes_all}
 use Rattle.plan.specs.Op.{Op, source, filter, projection, union, repartition, coalesce, sort_op, merge_op, global_limit, local_limit, sort_merge_join, hash_join, output_requirement, partial_sort, aggregate, Plan}

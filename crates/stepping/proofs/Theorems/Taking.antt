@@ -3,7 +3,7 @@ use Rattle.std.specs.Prelude.{◌≡◌, refl, Bool, true, false, cond, not, ◌
 use Rattle.std.proofs.Common.{sym, ap, ap₂, ◌∙◌, subst, append-nil, arith, eqb-true, eq-eqb, ltb-true, ltb-false, lt-ltb}
 use Rattle.row_order.specs.Iso.{Row, Key}
 use Rattle.row_order.specs.RowLists.{le, Rel, Sorted}
-use Rattle.row_order.specs.Order.{no_bool}
+use Rattle.row_order.proofs.Order.{no_bool}
 use Rattle.row_order.specs.Lists.{sum, concat, Same, All, all_nil, all_cons, tab}
 use Rattle.row_order.specs.ListLaws.{sum_append, all_head, all_tail, all_map, all_append}
 use Rattle.plan.specs.Forest.{Forest, none, tree, roots}

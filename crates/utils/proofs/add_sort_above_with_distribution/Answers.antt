@@ -5,7 +5,7 @@ use Rattle.utils.specs.Sorting.{few_keys, under_less, gathered_not, gathered_put
 use mathlib.Core.Bool.{◌&&◌}
 use Rattle.scan.specs.Below.{and_left, and_right}
 use borrow.Author.Tests.{ltb-true, lt-ltb}
-use Rattle.row_order.specs.Order.{no_bool}
+use Rattle.row_order.proofs.Order.{no_bool}
 use Rattle.utils.proofs.add_sort_above_with_distribution.Goals as goal
 
 pub row-own-requires : goal.row-own-requires

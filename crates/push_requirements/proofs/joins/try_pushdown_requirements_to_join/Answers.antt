@@ -2,7 +2,7 @@ use native.Mathlib.Omega.{arith}
 use mathlib.Core.Path.{sym, ap, ◌∙◌}
 use Prim.Native.Nat.{ℕ}
 use Rattle.asked_facts.specs.Asked.{told}
-use Rattle.join_sides.specs.Room.{roomy}
+use Rattle.join_sides.proofs.Room.{roomy}
 use Rattle.push_requirements.specs.Joins.{left_keys, pushed_left, right_off, right_keys, right_inside, pushed_right, pushed_neither}
 use Rattle.plan.specs.WellFormed.{join_width}
 use Rattle.push_requirements.proofs.joins.try_pushdown_requirements_to_join.Goals as goal

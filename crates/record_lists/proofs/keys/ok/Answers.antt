@@ -5,7 +5,7 @@ use mathlib.Core.Bool.{◌&&◌}
 use lib.Dec.{eqb}
 use lib.Bits.{bit_and}
 use lib.ListN.{get_or}
-use Rattle.record_lists.specs.Slots.{few_keys, many_keys}
+use Rattle.record_lists.proofs.Slots.{few_keys, many_keys}
 use Rattle.record_lists.proofs.keys.ok.Goals as goal
 
 pub returns-then-n-lt4 : goal.returns-then-n-lt4

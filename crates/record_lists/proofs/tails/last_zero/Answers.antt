@@ -2,7 +2,7 @@ use Prim.Native.Nat.{ℕ}
 use mathlib.Core.Path.{ap, ap₂, ◌∙◌}
 use mathlib.Core.Bool.{◌&&◌}
 use lib.Dec.{eqb}
-use Rattle.record_lists.specs.Tails.{last_three}
+use Rattle.record_lists.proofs.TailLaws.{last_three}
 use Rattle.record_lists.proofs.tails.last_zero.Goals as goal
 
 pub returns : goal.returns

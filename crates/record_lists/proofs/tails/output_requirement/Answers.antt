@@ -3,7 +3,7 @@ use mathlib.Core.Path.{ap, ap₂, ◌∙◌}
 use mathlib.Core.Bool.{◌&&◌}
 use lib.Dec.{leb}
 use lib.Count.{ones}
-use Rattle.record_lists.specs.Tails.{tail_keyed, tail_unkeyed}
+use Rattle.record_lists.proofs.TailLaws.{tail_keyed, tail_unkeyed}
 use Rattle.record_lists.proofs.tails.output_requirement.Goals as goal
 
 pub returns-then-d-eq2 : goal.returns-then-d-eq2

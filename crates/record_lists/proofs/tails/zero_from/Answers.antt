@@ -6,7 +6,7 @@ use lib.Dec.{eqb}
 use lib.ListN.{drop_of_length-le}
 use Rattle.scan.specs.Bytes.{zeros}
 use Rattle.scan.specs.ByteLaws.{cut_end}
-use Rattle.record_lists.specs.Tails.{last_from}
+use Rattle.record_lists.proofs.TailLaws.{last_from}
 use Rattle.record_lists.proofs.tails.zero_from.Goals as goal
 
 pub returns-then-u-lt8 : goal.returns-then-u-lt8

@@ -2,7 +2,7 @@
 use Rattle.std.specs.Prelude.{◌≡◌, refl, Bool, true, false, cond, ◌&&◌, ◌||◌, ◌⊎◌, List, [], ◌∷◌, ℕ, zero, suc, ◌+◌, ◌-◌, min, ◌≤◌, ◌<◌, eqb, ltb, leb, length, get_or}
 use Rattle.std.proofs.Common.{sym, ap, ap₂, ◌∙◌, subst, subst₂, inl, inr, ⊎_elim, arith, ltb-true, ltb-false, leb-true, eqb-true, lt-ltb, le-ltb, le-leb, eq-eqb}
 use Rattle.row_order.specs.Iso.{Key}
-use Rattle.row_order.specs.Order.{which}
+use Rattle.row_order.proofs.Order.{which}
 use Rattle.row_order.specs.Lists.{All, all_nil, all_cons, tab}
 use Rattle.row_order.specs.ListLaws.{all_head, all_tail, all_map, length-tab, get_or-tab}
 use Rattle.plan.specs.Forest.{none, tree}

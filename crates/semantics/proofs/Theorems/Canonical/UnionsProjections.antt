@@ -3,7 +3,7 @@ use Rattle.std.specs.Prelude.{◌≡◌, refl, Bool, true, false, cond, ◌&&◌
 use Rattle.std.proofs.Common.{sym, ap, ap₂, ◌∙◌, inl, inr, arith, ltb-true, eqb-true, eq-eqb, ne_eqb}
 use Rattle.std.proofs.Math.ListN.{get_or-eq_default}
 use Rattle.row_order.specs.Iso.{Key}
-use Rattle.row_order.specs.Order.{which, no_bool}
+use Rattle.row_order.proofs.Order.{which, no_bool}
 use Rattle.row_order.specs.Lists.{All, all_nil, all_cons, tab}
 use Rattle.row_order.specs.ListLaws.{all_head, all_map, length-tab, get_or-tab}
 use Rattle.row_order.specs.Packed.{bit}

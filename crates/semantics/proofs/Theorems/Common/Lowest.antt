@@ -2,7 +2,7 @@
 use Rattle.std.specs.Prelude.{◌≡◌, refl, Bool, true, false, cond, ◌⊎◌, ℕ, zero, suc, min, ◌≤◌, ◌<◌, ltb, leb, get_or}
 use Rattle.std.proofs.Common.{sym, ap, ap₂, ◌∙◌, subst, inl, inr, ⊎_elim, arith, ltb-true, ltb-false, leb-true, leb-false}
 use Rattle.std.proofs.Math.ListN.{get_or-eq_default}
-use Rattle.row_order.specs.Order.{which}
+use Rattle.row_order.proofs.Order.{which}
 use Rattle.row_order.specs.Lists.{tab}
 use Rattle.row_order.specs.ListLaws.{length-tab, get_or-tab, tab_at}
 use Rattle.semantics.specs.Facts.{lowest}

@@ -4,7 +4,7 @@ use Rattle.std.proofs.Common.{sym, ap, ◌∙◌, arith, eqb-true, get_or-append
 use Rattle.std.proofs.Math.ListN.{get_or-append}
 use Rattle.row_order.specs.Iso.{Cell, null, num, Row, Key, cell, eqℤ}
 use Rattle.row_order.specs.RowLists.{le, row_discrete, Rel, Sorted}
-use Rattle.row_order.specs.Order.{no_bool, le_refl}
+use Rattle.row_order.proofs.Order.{no_bool, le_refl}
 use Rattle.row_order.specs.Lists.{concat, All, all_nil, all_cons, pw_nil, pw_cons, tab}
 use Rattle.row_order.specs.ListLaws.{all_head, all_tail, all_map, all_append, same_all, pw_head, pw_tail, all_concat, all_over, length-tab, get_or-tab}
 use Rattle.semantics.specs.Joins.{keep, join_row, eq_cells, or_else, if_any, Grouped, grouped_nil, grouped_cons}

@@ -3,7 +3,7 @@ use Rattle.std.specs.Prelude.{◌≡◌, refl, Bool, true, false, cond, ◌&&◌
 use Rattle.std.proofs.Common.{sym, ap, ap₂, ◌∙◌, subst, inl, inr, arith, ltb-true, eqb-true}
 use Rattle.std.specs.Bool.{beq}
 use Rattle.row_order.specs.Iso.{Cell, Row, Key, cell}
-use Rattle.row_order.specs.Order.{le_cell, le_k, no_bool, le_in, le_head, le_tail, le_skip, le_cons}
+use Rattle.row_order.proofs.Order.{le_cell, le_k, no_bool, le_in, le_head, le_tail, le_skip, le_cons}
 use Rattle.row_order.specs.RowLists.{le}
 use Rattle.row_order.specs.Lists.{All, all_nil, all_cons}
 use Rattle.row_order.specs.ListLaws.{all_head, all_tail}

@@ -5,7 +5,7 @@ use Rattle.row_order.specs.Iso.{null, Row, Key}
 use Rattle.row_order.specs.Lists.{sum, concat, Same, all_cons, pw_nil, tab}
 use Rattle.row_order.specs.ListLaws.{sum_append, same_refl, mixes_sum, length-tab}
 use Rattle.row_order.specs.RowLists.{Sorted}
-use Rattle.row_order.specs.Sorting.{merges, merges_mixes, merges_sorted, sort, sort_same, sort_sorted}
+use Rattle.row_order.proofs.Sorting.{merges, merges_mixes, merges_sorted, sort, sort_same, sort_sorted}
 use Rattle.plan.specs.Forest.{Forest, none, tree, roots}
 use Rattle.plan.specs.Op.{On, Op, source, filter, projection, union, repartition, coalesce, sort_op, merge_op, global_limit, local_limit, sort_merge_join, hash_join, output_requirement, partial_sort, aggregate, Plan}
 use Rattle.plan.specs.WellFormed.{fields_ok, nodes_ok, well_formed}

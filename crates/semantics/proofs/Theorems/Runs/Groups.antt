@@ -7,7 +7,7 @@ use mathlib.Core.List.Memᴰ.{head as here}
 use mathlib.Core.List.Memᴰ.{tail as there}
 use mathlib.Core.List.{Memᴰ as Mem}
 use Rattle.row_order.specs.Iso.{Cell, null, num, Row, Key, cell, peers}
-use Rattle.row_order.specs.Order.{le_k, no_bool, peers_is, le_k_anti, agree}
+use Rattle.row_order.proofs.Order.{le_k, no_bool, peers_is, le_k_anti, agree}
 use Rattle.row_order.specs.Lists.{All, all_nil, all_cons, Pw, pw_nil, pw_cons}
 use Rattle.row_order.specs.ListLaws.{all_map}
 use Rattle.plan.specs.Forest.{Forest, roots}

@@ -6,7 +6,7 @@ use Rattle.std.specs.Prelude.{◌≡◌, refl, Bool, true, false, List, [], ◌�
 use Rattle.std.proofs.Common.{sym, ap, ap₂, ◌∙◌, arith}
 use Rattle.row_order.specs.Iso.{Row, Key}
 use Rattle.row_order.specs.RowLists.{le, Sorted}
-use Rattle.row_order.specs.Order.{no_bool}
+use Rattle.row_order.proofs.Order.{no_bool}
 use Rattle.row_order.specs.Lists.{concat, Same, All, all_nil, all_cons, pw_nil, pw_cons, mix_nil, mix_left, mix_right, Mixes, mixes_nil, mixes_cons, tab}
 use Rattle.plan.specs.Forest.{Forest, none, tree}
 use Rattle.plan.specs.Op.{On, Op, filter, union, repartition, coalesce, sort_op, merge_op, global_limit, sort_merge_join, hash_join, aggregate, Plan}

@@ -5,7 +5,7 @@ use Rattle.std.specs.Prelude.{◌≡◌, refl, Bool, true, false, cond, not, ◌
 use Rattle.std.proofs.Common.{sym, ap, ap₂, ◌∙◌, subst, subst₂, arith, ltb-true, lt-ltb, le-ltb}
 use mathlib.Core.List.Memᴰ.{head as here}
 use Rattle.row_order.specs.Iso.{Cell, null, num, Row, Key, cell}
-use Rattle.row_order.specs.Order.{le_cell, le_k, no_bool, le_in, le_skip, le_k_anti}
+use Rattle.row_order.proofs.Order.{le_cell, le_k, no_bool, le_in, le_skip, le_k_anti}
 use Rattle.row_order.specs.RowLists.{le, Sorted}
 use Rattle.row_order.specs.Lists.{concat, All, all_nil, Pw, tab}
 use Rattle.row_order.specs.ListLaws.{all_map, tabulate, lookup, all_concat, length-tab, get_or-tab}

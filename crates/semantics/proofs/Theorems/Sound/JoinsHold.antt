@@ -2,7 +2,7 @@
 use Rattle.std.specs.Prelude.{◌≡◌, refl, Bool, true, false, cond, ◌&&◌, ◌||◌, List, [], ◌∷◌, map, ℕ, ◌+◌, ◌-◌, min, ◌≤◌, ◌<◌, eqb, ltb, leb}
 use Rattle.std.proofs.Common.{sym, ap, ap₂, ◌∙◌, subst₂, ⊎_elim, arith, ltb-true, ltb-false, leb-true, eqb-true}
 use Rattle.row_order.specs.Iso.{Cell, null, Row, Key, cell}
-use Rattle.row_order.specs.Order.{le_cell, no_bool, le_in, le_head, le_tail}
+use Rattle.row_order.proofs.Order.{le_cell, no_bool, le_in, le_head, le_tail}
 use Rattle.row_order.specs.RowLists.{le, row_discrete, Sorted}
 use Rattle.row_order.specs.Lists.{All, all_nil, all_cons}
 use Rattle.row_order.specs.ListLaws.{all_zip, same_all, all_over, tab-true, tab_at}

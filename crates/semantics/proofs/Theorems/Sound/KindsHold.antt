@@ -4,7 +4,7 @@ use Rattle.std.proofs.Common.{sym, ap, ap₂, ◌∙◌, subst, inr, append-nil,
 use Rattle.std.proofs.lemmas.List.{length-map}
 use Rattle.row_order.specs.Iso.{Cell, null, Row, Key, cell}
 use Rattle.row_order.specs.RowLists.{row_discrete, Sorted}
-use Rattle.row_order.specs.Order.{no_bool}
+use Rattle.row_order.proofs.Order.{no_bool}
 use Rattle.row_order.specs.Lists.{concat, All, all_nil, all_cons, Pw, Mix, mix_nil, mix_left, Mixes, mixes_nil, mixes_cons, tab}
 use Rattle.row_order.specs.ListLaws.{all_head, all_tail, all_map, all_zip, all_append, same_all, pw_map, all_concat, all_over, pw_over, mixes_all, tab-true, tab_at}
 use Rattle.plan.specs.declared.Fetch.{Fetch}

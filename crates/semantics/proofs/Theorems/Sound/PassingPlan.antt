@@ -4,7 +4,7 @@
 use Rattle.std.specs.Prelude.{◌≡◌, refl, Bool, true, false, not, List, [], ◌∷◌, ℕ, zero, suc, ◌≤◌, pos, length}
 use Rattle.std.proofs.Common.{arith}
 use Rattle.row_order.specs.Iso.{null, num, Row, cell, equal}
-use Rattle.row_order.specs.Order.{no_bool}
+use Rattle.row_order.proofs.Order.{no_bool}
 use Rattle.row_order.specs.ListLaws.{same_refl}
 use Rattle.row_order.specs.Lists.{All, all_nil, all_cons, pw_nil, pw_cons, mix_nil, mix_left, mix_right, mixes_nil, mixes_cons}
 use Rattle.row_order.specs.RowLists.{Sorted}

@@ -1,7 +1,7 @@
 -- What the calls answer, as equations; and that the answer to a well_formed_lem plan is well formed again.
 use Rattle.std.specs.Prelude.{◌≡◌, refl, Bool, true, false, cond, not, ◌&&◌, ◌||◌, List, [], ◌∷◌, ◌++◌, ◌↔◌, ℕ, suc, ◌+◌, ◌-◌, ◌≤◌, length}
 use Rattle.std.proofs.Common.{sym, ap, ap₂, ◌∙◌, subst, arith, eqb-true, eq-eqb, leb-true, le-leb}
-use Rattle.row_order.specs.Order.{no_bool}
+use Rattle.row_order.proofs.Order.{no_bool}
 use Rattle.plan.specs.Forest.{Forest, none, roots, size, tree}
 use Rattle.plan.specs.Op.{Plan}
 use Rattle.plan.specs.WellFormed.{every, well_formed}

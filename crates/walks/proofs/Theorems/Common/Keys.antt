@@ -2,7 +2,7 @@
 use Rattle.std.specs.Prelude.{◌≡◌, refl, Bool, true, false, cond, not, ◌&&◌, ◌||◌, List, [], ◌∷◌, map, ℕ, suc, ◌≤◌, ◌<◌, eqb, length}
 use Rattle.std.proofs.Common.{sym, ap, ap₂, ◌∙◌, subst, arith, eq-eqb, ne_eqb, leb-true, ltb-true, le-leb, lt-ltb}
 use Rattle.row_order.specs.Iso.{Key}
-use Rattle.row_order.specs.Order.{no_bool}
+use Rattle.row_order.proofs.Order.{no_bool}
 use Rattle.row_order.specs.Lists.{All, all_cons, all_nil}
 use Rattle.plan.specs.WellFormed.{below, distinct, few, keys_fit, member}
 use Rattle.semantics.specs.Facts.{cl, drop_repeats, Facts, is_c, nf, nf_by, nothing, with_column}

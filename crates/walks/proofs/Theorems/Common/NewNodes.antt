@@ -3,7 +3,7 @@ use Rattle.std.specs.Prelude.{◌≡◌, refl, Bool, true, false, cond, not, ◌
 use Rattle.std.proofs.Common.{sym, ap, ap₂, ◌∙◌, subst, arith, eqb-true, leb-true, le-leb}
 use Rattle.std.proofs.lemmas.Bool.{not-true}
 use Rattle.row_order.specs.Iso.{Key}
-use Rattle.row_order.specs.Order.{no_bool}
+use Rattle.row_order.proofs.Order.{no_bool}
 use Rattle.row_order.specs.Lists.{All, all_cons, all_nil}
 use Rattle.row_order.specs.ListLaws.{all_head}
 use Rattle.plan.specs.Forest.{none, tree}

@@ -2,7 +2,7 @@
 -- keeps.
 use Rattle.std.specs.Prelude.{◌≡◌, refl, Bool, true, false, cond, ℕ}
 use Rattle.std.proofs.Common.{sym, ap, ◌∙◌, subst}
-use Rattle.row_order.specs.Order.{no_bool}
+use Rattle.row_order.proofs.Order.{no_bool}
 use Rattle.plan.specs.Forest.{Forest, none, tree}
 use Rattle.plan.specs.Op.{coalesce, filter, global_limit, hash_join, local_limit, merge_op, Op, output_requirement, partial_sort, aggregate, Plan, projection, repartition, sort_merge_join, sort_op, source, union}
 use Rattle.semantics.specs.Runs.{Env, next_s, past, Run, SourceOK, Sources, Streams}

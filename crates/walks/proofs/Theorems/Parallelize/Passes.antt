@@ -2,7 +2,7 @@
 use Rattle.std.specs.Prelude.{◌≡◌, refl, Bool, true, false, cond, not, ◌&&◌, ◌||◌, List, [], ◌∷◌, map, ℕ, ◌<◌, eqb, ltb, leb}
 use Rattle.std.proofs.Common.{sym, ap, ap₂, ◌∙◌, subst, arith, leb-true, leb-false}
 use Rattle.row_order.specs.Iso.{Key}
-use Rattle.row_order.specs.Order.{no_bool}
+use Rattle.row_order.proofs.Order.{no_bool}
 use Rattle.row_order.specs.ListLaws.{all_head}
 use Rattle.plan.specs.Forest.{Forest, none, tree}
 use Rattle.plan.specs.Op.{coalesce, merge_op, Op, Plan, repartition, sort_op}

@@ -2,7 +2,7 @@
 use Rattle.std.specs.Prelude.{◌≡◌, refl, Bool, true, false, cond, ◌&&◌, ◌||◌, List, [], ◌∷◌, ◌++◌, map, ℕ, zero, suc, ◌+◌, ◌-◌, ◌≤◌, ◌<◌, eqb, ltb, leb, length, get_or, take}
 use Rattle.std.proofs.Common.{sym, ap, ap₂, ◌∙◌, subst, append_assoc, arith, eq-eqb, ltb-true, le-leb, lt-ltb, ltb-false}
 use Rattle.row_order.specs.Iso.{Key}
-use Rattle.row_order.specs.Order.{no_bool}
+use Rattle.row_order.proofs.Order.{no_bool}
 use Rattle.plan.specs.Forest.{none, size, tree}
 use Rattle.plan.specs.Op.{coalesce, merge_op, Op, partial_sort, Plan, repartition, sort_op}
 use Rattle.plan.specs.WellFormed.{fetch_ok, keys_fit, node_ok, some, well_formed}

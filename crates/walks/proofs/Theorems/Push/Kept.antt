@@ -2,7 +2,7 @@
 use Rattle.std.specs.Prelude.{◌≡◌, refl, Bool, true, false, cond, ◌||◌, List, [], ◌∷◌, ◌++◌, ℕ, suc, ltb, length}
 use Rattle.std.proofs.Common.{sym, subst}
 use Rattle.row_order.specs.Iso.{Key}
-use Rattle.row_order.specs.Order.{no_bool}
+use Rattle.row_order.proofs.Order.{no_bool}
 use Rattle.row_order.specs.Lists.{All, all_cons, all_nil}
 use Rattle.row_order.specs.ListLaws.{all_append}
 use Rattle.plan.specs.Forest.{Forest, none, tree}

@@ -20,10 +20,10 @@ use Rattle.push_literal.specs.PushdownSortsLiteral.{after_call, calls_itself, he
 use Rattle.walks.proofs.Theorems.Common.OrderMet.{fresh_same, fresh_some, nf_twice, prefix_some}
 use Rattle.walks.proofs.Theorems.Parallelize.Bottlenecks.{rebuilt_facts, rebuilt_twice}
 use Rattle.walks.proofs.Theorems.Calls.Counts.{count_by}
-use Rattle.push_literal.specs.Contexts.{kids_hold, plan_resting, resting, size-resting}
-use Rattle.push_literal.specs.Agrees.{agree_stop, AgreesT, Below, by_bool, by_call, carried_at, decided_at, over-returned, returned_full, twice, unwrap}
-use Rattle.push_literal.specs.HelperCalls.{above_merge, above_sort, constant_call, different_call, new_merge_over, new_sort_over, one_merge, unnecessary_call, unrequired_call}
-use Rattle.push_literal.specs.Nodes.{no_merge}
+use Rattle.push_literal.proofs.Contexts.{kids_hold, plan_resting, resting, size-resting}
+use Rattle.push_literal.proofs.Agrees.{agree_stop, AgreesT, Below, by_bool, by_call, carried_at, decided_at, over-returned, returned_full, twice, unwrap}
+use Rattle.push_literal.proofs.HelperCalls.{above_merge, above_sort, constant_call, different_call, new_merge_over, new_sort_over, one_merge, unnecessary_call, unrequired_call}
+use Rattle.push_literal.proofs.Nodes.{no_merge}
 
 module _ (full : ℕ → Bool) (o' : Op) (c' : Plan) (ih : Below full (tree o' c' none)) where
   abbrev c : Plan

@@ -12,10 +12,10 @@ use Rattle.plan_format.specs.Writing.{four_bytes}
 use Rattle.plan_roundtrip.specs.Files.{byte, every_append}
 use Rattle.plan_codec.specs.NodeRecord.{NodeRecord}
 use Rattle.plan_codec.specs.Encode.{fill, options_byte, key_bytes, fetch_number, marks_byte, keyed_set, head_bytes, to_bytes, record_of}
-use Rattle.plan_codec.specs.Bits.{both, known, marks_bits, options_bits}
-use Rattle.plan_codec.specs.Fill.{length-fill}
-use Rattle.plan_codec.specs.Keys.{on_columns}
-use Rattle.plan_codec.specs.Rules.{Rules, few_keys}
+use Rattle.plan_codec.proofs.Bits.{both, known, marks_bits, options_bits}
+use Rattle.plan_codec.proofs.Fill.{length-fill}
+use Rattle.plan_codec.proofs.Keys.{on_columns}
+use Rattle.plan_codec.proofs.Rules.{Rules, few_keys}
 
 -- ---- lists of bytes
 

@@ -2,7 +2,7 @@
 -- same plan and the count of the whole plan. Neither spent fuel nor a panic agrees with anything.
 use Rattle.std.specs.Prelude.{◌≡◌, refl, Bool, true, false, cond, not, ◌&&◌, List, ℕ, suc, ◌+◌, ◌*◌, ◌≤◌}
 use Rattle.std.proofs.Common.{sym, ap, ap₂, ◌∙◌, subst, arith}
-use Rattle.row_order.specs.Order.{no_bool}
+use Rattle.row_order.proofs.Order.{no_bool}
 use Rattle.plan.specs.Forest.{Forest, none, tree, size}
 use Rattle.plan.specs.Op.{Op, Plan}
 use Rattle.plan.specs.declared.Refusal.{Refusal}
@@ -15,7 +15,7 @@ use Rattle.walks.specs.PushdownSorts.{asked, carry_out, Decision, Visit}
 use Rattle.walks.specs.Counted.{afterwards, bind, Counted, counted, stopped}
 use Rattle.push_literal.specs.PushdownSortsLiteral.{after_call, and_then, Call, done, failed, helper, map_children, Outcome, panicked, Required, returns, SortPushDown, spent, transform_down}
 use Rattle.walks.proofs.Theorems.Calls.Counts.{carried, count_by}
-use Rattle.push_literal.specs.Contexts.{holding, BelowRoot, contexts, contexts-asked, size-holding}
+use Rattle.push_literal.proofs.Contexts.{holding, BelowRoot, contexts, contexts-asked, size-holding}
 
 -- The structural walk at a node that decides D, over the children c
 abbrev pub carried_at : (ℕ → Bool) → Plan → Decision → ℕ → Bool → Counted Tree

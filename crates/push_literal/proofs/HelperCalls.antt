@@ -2,7 +2,7 @@
 use Rattle.std.specs.Prelude.{◌≡◌, refl, Bool, true, false, cond, not, ◌&&◌, ◌||◌, List, [], ◌∷◌, ◌++◌, ℕ, ltb}
 use Rattle.std.proofs.Common.{sym, ap, ap₂, ◌∙◌}
 use Rattle.row_order.specs.Iso.{Key}
-use Rattle.row_order.specs.Order.{no_bool}
+use Rattle.row_order.proofs.Order.{no_bool}
 use Rattle.plan.specs.Forest.{Forest, none, tree}
 use Rattle.plan.specs.Op.{merge_op, Op, Plan, sort_op}
 use Rattle.plan.specs.declared.Distribution.{Distribution}
@@ -15,7 +15,7 @@ use Rattle.walks.specs.Utils.{is_sort, merge_above, needs_merge, new_merge, new_
 use Rattle.walks.specs.SortPushdown.{default_requirements, goes, min_fetch, ParentRequirements, pushdown_requirement_to_children, Pushed, stop, stronger_distribution, child_count, effective_dist}
 use Rattle.push_literal.specs.PushdownSortsLiteral.{assign_initial, calls_itself, first_child_data, helper, helper_on, internal_error, node_pushes, Required, returns, SortPushDown}
 use Rattle.walks.proofs.Theorems.Parallelize.Bottlenecks.{rebuilt_facts}
-use Rattle.push_literal.specs.Contexts.{each_holding, holding, plan_holding}
+use Rattle.push_literal.proofs.Contexts.{each_holding, holding, plan_holding}
 
 -- ---- tests
 

@@ -2,7 +2,7 @@
 use Rattle.std.specs.Prelude.{◌≡◌, refl, Bool, true, false, cond, ◌&&◌, List, [], ◌∷◌, ℕ, suc, ◌+◌, ◌*◌, ◌-◌, ◌≤◌, leb}
 use Rattle.std.proofs.Common.{sym, ap, ap₂, ◌∙◌, subst, arith, eqb-true}
 use Rattle.row_order.specs.Iso.{Key}
-use Rattle.row_order.specs.Order.{no_bool}
+use Rattle.row_order.proofs.Order.{no_bool}
 use Rattle.plan.specs.Forest.{Forest, none, tree, size}
 use Rattle.plan.specs.Op.{coalesce, merge_op, Op, Plan, repartition, sort_op}
 use Rattle.plan.specs.Numbers.{code}
@@ -22,10 +22,10 @@ use Rattle.walks.specs.Trees.{Arity, count, Fit, FitsA}
 use Rattle.walks.proofs.Theorems.Common.Keeps.{pass_one, remark-same, shape_ind}
 use Rattle.walks.proofs.Theorems.Ensure.Removal.{is_other, other_code}
 use Rattle.walks.proofs.Theorems.Calls.Counts.{count_down_lem, count_by, decided}
-use Rattle.push_literal.specs.Contexts.{BelowRoot, contexts, holding, initial-contexts, kids_hold, size-contexts, touched, visited}
-use Rattle.push_literal.specs.Agrees.{agree_bind, agree_done, agree_stop, AgreesF, AgreesT, Below, carried_at, SameF, SameT}
-use Rattle.push_literal.specs.Nodes.{node_step}
-use Rattle.push_literal.specs.Sorts.{sort_step}
+use Rattle.push_literal.proofs.Contexts.{BelowRoot, contexts, holding, initial-contexts, kids_hold, size-contexts, touched, visited}
+use Rattle.push_literal.proofs.Agrees.{agree_bind, agree_done, agree_stop, AgreesF, AgreesT, Below, carried_at, SameF, SameT}
+use Rattle.push_literal.proofs.Nodes.{node_step}
+use Rattle.push_literal.proofs.Sorts.{sort_step}
 
 pub fit_one : (f : Plan) → Fit f → OneChild f
 fit_one none h = tt

@@ -9,7 +9,7 @@ use Rattle.plan_format.specs.Blocks.{records}
 use Rattle.plan_format.specs.Reading.{finished, enough, refusal_of}
 use Rattle.plan_format.specs.Tree.{build, tree_of, file_of_tree}
 use Rattle.scan.specs.Bytes.{AllBytes}
-use Rattle.plan_roundtrip.specs.Tree.{◌⊕◌, arity, nodes-build, build-nodes, roots-build, arity-build}
+use Rattle.plan_roundtrip.proofs.Tree.{◌⊕◌, arity, nodes-build, build-nodes, roots-build, arity-build}
 use Rattle.plan_roundtrip.specs.Files.{Acceptable, records-back, fine_accepted, accepted_fine, accepted_same}
 
 -- A tree whose file is accepted: one root, each record says how many children it has, and its records in node order are fine

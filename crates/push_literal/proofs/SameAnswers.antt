@@ -14,7 +14,7 @@ use Rattle.walks.specs.Counted.{answer_of, count_down, Counted, has_partial_sort
 use Rattle.push_literal.specs.PushdownSortsLiteral.{OneChild, given_by, gives, literal_pushed, pushdown_sorts_by}
 use Rattle.walks.proofs.Theorems.Calls.Counts.{count_by_lem}
 use Rattle.walks.proofs.Theorems.Calls.Answers.{well_fit}
-use Rattle.push_literal.specs.WholePlans.{fit_one, literal_agrees}
+use Rattle.push_literal.proofs.WholePlans.{fit_one, literal_agrees}
 
 many_mono : (m n : ℕ) → m ≤ n → too_many n ≡ false → too_many m ≡ false
 many_mono m n l e = le-ltb 126 m (omega (arith, ltb-false 126 n e))

@@ -13,13 +13,13 @@ use Rattle.plan_format.specs.Writing.{file_of}
 use Rattle.plan_format.specs.Tree.{tree_of, file_of_tree}
 use Rattle.scan.specs.Bytes.{AllBytes}
 use Rattle.plan_format.specs.Passed.{accepted, passed_last}
-use Rattle.plan_roundtrip.specs.Plans.{FineTree, tree_accepted, tree_back, accepted_tree, file_back}
+use Rattle.plan_roundtrip.proofs.Plans.{FineTree, tree_accepted, tree_back, accepted_tree, file_back}
 use Rattle.plan_codec.specs.Decode.{decode}
 use Rattle.plan_codec.specs.Reading.{PlanOrRefusal, refused, plan, plan_of, reading}
 use Rattle.plan_codec.specs.Writing.{file_of_plan}
-use Rattle.plan_codec.specs.Bits.{both, no_false}
-use Rattle.plan_codec.specs.Trees.{recorded, nodes-recorded, length_records, roots-map, last_tree}
-use Rattle.plan_codec.specs.Plans.{plan_fine, decoded, Fit, recorded_back, nodes_fine}
+use Rattle.plan_codec.proofs.Bits.{both, no_false}
+use Rattle.plan_codec.proofs.Trees.{recorded, nodes-recorded, length_records, roots-map, last_tree}
+use Rattle.plan_codec.proofs.Plans.{plan_fine, decoded, Fit, recorded_back, nodes_fine}
 
 -- ---- a plan's answer
 

@@ -25,12 +25,12 @@ use Rattle.plan_format.specs.LastPass.{join_width as byteWidth, union_ok as unio
 use Rattle.plan_format.specs.Writing.{four_bytes}
 use Rattle.plan_codec.specs.NodeRecord.{NodeRecord}
 use Rattle.plan_codec.specs.Encode.{fill, key_bytes, keyed_set, record_of, to_bytes, encode}
-use Rattle.plan_codec.specs.Fill.{fill-take, fill_at}
-use Rattle.plan_codec.specs.Keys.{columns_of, length_bytes, on_columns}
-use Rattle.plan_codec.specs.Columns.{below_list, widths_list, columns_list}
-use Rattle.plan_codec.specs.Rules.{tail_is, key_byte, keys_are}
-use Rattle.plan_codec.specs.Rules.{set_is as bytes-set}
-use Rattle.plan_codec.specs.ToRecord.{set_is, few_of}
+use Rattle.plan_codec.proofs.Fill.{fill-take, fill_at}
+use Rattle.plan_codec.proofs.Keys.{columns_of, length_bytes, on_columns}
+use Rattle.plan_codec.proofs.Columns.{below_list, widths_list, columns_list}
+use Rattle.plan_codec.proofs.Rules.{tail_is, key_byte, keys_are}
+use Rattle.plan_codec.proofs.Rules.{set_is as bytes-set}
+use Rattle.plan_codec.proofs.ToRecord.{set_is, few_of}
 
 -- ---- widths, unions, child counts
 

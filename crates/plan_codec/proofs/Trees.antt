@@ -15,11 +15,11 @@ use Rattle.plan_format.specs.LastPass.{widths as stack}
 use Rattle.plan_format.specs.Reading.{finished, enough}
 use Rattle.plan_format.specs.Tree.{take_f, drop_f, build}
 use Rattle.plan_format.specs.Passed.{accepted}
-use Rattle.plan_roundtrip.specs.Tree.{◌⊕◌, arity, widths_f, widths-take, build-nodes, roots-build, widths-build}
+use Rattle.plan_roundtrip.proofs.Tree.{◌⊕◌, arity, widths_f, widths-take, build-nodes, roots-build, widths-build}
 use Rattle.plan_codec.specs.Encode.{encode}
 use Rattle.plan_codec.specs.Writing.{records_of}
-use Rattle.plan_codec.specs.Bits.{both}
-use Rattle.plan_codec.specs.OneRecord.{encode-children}
+use Rattle.plan_codec.proofs.Bits.{both}
+use Rattle.plan_codec.proofs.OneRecord.{encode-children}
 
 -- The tree of a plan's records
 abbrev pub recorded : Plan → Forest (List ℕ)

@@ -9,7 +9,7 @@ use Rattle.plan.specs.Numbers.{number_of}
 use Rattle.scan.specs.Bytes.{AllBytes}
 use Rattle.plan_codec.specs.Reading as codec
 use Rattle.plan_codec.specs.Reading.{reading}
-use Rattle.plan_codec.specs.RoundTrip.{read_well_formed}
+use Rattle.plan_codec.proofs.RoundTrip.{read_well_formed}
 use Rattle.semantics.specs.Facts.{at0, facts}
 use Rattle.semantics.specs.Check.{check}
 use Rattle.semantics.specs.Runs.{Streams, Run}

@@ -11,7 +11,7 @@ use Rattle.plan_codec.specs.Decode.{key_of_bytes, keys_of, on_of}
 use Rattle.scan.specs.Bytes.{one_if}
 use Rattle.plan_codec.specs.Encode.{fill, options_byte, key_bytes}
 use Rattle.plan_format.specs.KeySlots.{even, slot_next}
-use Rattle.plan_codec.specs.Bits.{no_false, both, options_bits, bits_options}
+use Rattle.plan_codec.proofs.Bits.{no_false, both, options_bits, bits_options}
 
 pub length_bytes : (ks : List Key) → length (key_bytes ks) ≡ 2 * length ks
 length_bytes [] = refl

@@ -29,10 +29,10 @@ use Rattle.plan_roundtrip.specs.Same.{fourth}
 use Rattle.plan_codec.specs.NodeRecord.{NodeRecord}
 use Rattle.plan_codec.specs.Decode.{on_of, distribution_of, operator_of}
 use Rattle.plan_codec.specs.Encode.{fill, fetch_number, keyed_set, record_of}
-use Rattle.plan_codec.specs.Bits.{no_false, both, join_back}
-use Rattle.plan_codec.specs.Fill.{fill_back, part_bytes}
-use Rattle.plan_codec.specs.Keys.{on_keys, on_others, length_on, on_plain}
-use Rattle.plan_codec.specs.Rules.{Rules, few_keys}
+use Rattle.plan_codec.proofs.Bits.{no_false, both, join_back}
+use Rattle.plan_codec.proofs.Fill.{fill_back, part_bytes}
+use Rattle.plan_codec.proofs.Keys.{on_keys, on_others, length_on, on_plain}
+use Rattle.plan_codec.proofs.Rules.{Rules, few_keys}
 
 -- ---- "Unused fields and bits are zero"
 

@@ -19,9 +19,9 @@ use Rattle.plan_roundtrip.specs.Same.{fourth}
 use Rattle.plan_codec.specs.NodeRecord.{NodeRecord}
 use Rattle.plan_codec.specs.Decode.{keys_of, fetch_of, from_bytes}
 use Rattle.plan_codec.specs.Encode.{fill, key_bytes, marks_byte, fetch_number, head_bytes, to_bytes}
-use Rattle.plan_codec.specs.Bits.{kind_back, number_back, Marks, marks_bits, bits_marks, fetch_back, fetch_fits, fetch_number_lem}
-use Rattle.plan_codec.specs.Fill.{length-fill, fill_at, part_bytes}
-use Rattle.plan_codec.specs.Keys.{Slot, length_bytes, length_keys, keys_back, bytes_back, bytes_plain, slots}
+use Rattle.plan_codec.proofs.Bits.{kind_back, number_back, Marks, marks_bits, bits_marks, fetch_back, fetch_fits, fetch_number_lem}
+use Rattle.plan_codec.proofs.Fill.{length-fill, fill_at, part_bytes}
+use Rattle.plan_codec.proofs.Keys.{Slot, length_bytes, length_keys, keys_back, bytes_back, bytes_plain, slots}
 
 -- the keys of a record with the hash mark, where its kind has one, or of a hash join
 abbrev pub plain_keys : Fields → NodeRecord → Bool

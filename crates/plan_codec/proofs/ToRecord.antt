@@ -21,10 +21,10 @@ use Rattle.scan.specs.Words.{four_again}
 use Rattle.plan_codec.specs.NodeRecord.{NodeRecord}
 use Rattle.plan_codec.specs.Decode.{distribution_of, operator_of}
 use Rattle.plan_codec.specs.Encode.{fill, fetch_number, keyed_set, record_of}
-use Rattle.plan_codec.specs.Bits.{no_false, both, join_number_lem}
-use Rattle.plan_codec.specs.Fill.{length-fill, fill-take, fill_rest}
-use Rattle.plan_codec.specs.Keys.{on_back, plain_on}
-use Rattle.plan_codec.specs.Rules.{Rules, few_keys}
+use Rattle.plan_codec.proofs.Bits.{no_false, both, join_number_lem}
+use Rattle.plan_codec.proofs.Fill.{length-fill, fill-take, fill_rest}
+use Rattle.plan_codec.proofs.Keys.{on_back, plain_on}
+use Rattle.plan_codec.proofs.Rules.{Rules, few_keys}
 
 -- ---- what the rules on operators say
 

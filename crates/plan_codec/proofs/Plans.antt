@@ -16,16 +16,16 @@ use Rattle.plan_format.specs.Record.{children, fields, kind_ok, record_ok}
 use Rattle.plan_format.specs.LastPass.{width_of, node_refusal}
 use Rattle.plan_format.specs.Reading.{finished, enough}
 use Rattle.plan_format.specs.Tree.{build}
-use Rattle.plan_roundtrip.specs.Tree.{arity, widths_f, build-nodes, roots-build}
+use Rattle.plan_roundtrip.proofs.Tree.{arity, widths_f, build-nodes, roots-build}
 use Rattle.plan_roundtrip.specs.Files.{long, byte, every_append}
-use Rattle.plan_roundtrip.specs.Plans.{FineTree, join_none}
+use Rattle.plan_roundtrip.proofs.Plans.{FineTree, join_none}
 use Rattle.plan_codec.specs.Decode.{decode}
 use Rattle.plan_codec.specs.Encode.{encode}
 use Rattle.plan_codec.specs.Writing.{records_of}
-use Rattle.plan_codec.specs.Bits.{both}
-use Rattle.plan_codec.specs.NodeRules.{width_same}
-use Rattle.plan_codec.specs.OneRecord.{decode-encode, encode_long, encode-rules, encode-kind, encode_bytes, node_same, encode-decode, decode-fields, decode-children}
-use Rattle.plan_codec.specs.Trees.{recorded, nodes-recorded, length_records, roots-recorded, roots-map, length-widths, arity-recorded, enough-nodes, passes, tree_last}
+use Rattle.plan_codec.proofs.Bits.{both}
+use Rattle.plan_codec.proofs.NodeRules.{width_same}
+use Rattle.plan_codec.proofs.OneRecord.{decode-encode, encode_long, encode-rules, encode-kind, encode_bytes, node_same, encode-decode, decode-fields, decode-children}
+use Rattle.plan_codec.proofs.Trees.{recorded, nodes-recorded, length_records, roots-recorded, roots-map, length-widths, arity-recorded, enough-nodes, passes, tree_last}
 
 -- ---- one node
 

@@ -16,12 +16,12 @@ use Rattle.plan_format.specs.LastPass.{node_refusal}
 use Rattle.plan_roundtrip.specs.Files.{byte}
 use Rattle.plan_codec.specs.Decode.{from_bytes, operator_of, decode}
 use Rattle.plan_codec.specs.Encode.{to_bytes, record_of, encode}
-use Rattle.plan_codec.specs.Bits.{both, kind_back, number_back, known, fetch_fits, fetch_ok_lem}
-use Rattle.plan_codec.specs.Rules.{Rules, fields_same, rules_bytes, bytes_rules, bytes_same}
-use Rattle.plan_codec.specs.FromRecord.{record_back, record_fields, operator_kind}
-use Rattle.plan_codec.specs.ToRecord.{rules_of, few_of, operator_back, kind_of_lem, children_of, fits_of}
-use Rattle.plan_codec.specs.NodeRules.{width_same, union_same, children_same, columns_same}
-use Rattle.plan_codec.specs.Sizes.{bytes_record, length_record, small_of}
+use Rattle.plan_codec.proofs.Bits.{both, kind_back, number_back, known, fetch_fits, fetch_ok_lem}
+use Rattle.plan_codec.proofs.Rules.{Rules, fields_same, rules_bytes, bytes_rules, bytes_same}
+use Rattle.plan_codec.proofs.FromRecord.{record_back, record_fields, operator_kind}
+use Rattle.plan_codec.proofs.ToRecord.{rules_of, few_of, operator_back, kind_of_lem, children_of, fits_of}
+use Rattle.plan_codec.proofs.NodeRules.{width_same, union_same, children_same, columns_same}
+use Rattle.plan_codec.proofs.Sizes.{bytes_record, length_record, small_of}
 
 -- a child count that some kind can have
 few_children : (o : Op) (k : ℕ) → children_ok o k ≡ true → k ≤ 8

@@ -23,9 +23,9 @@ use Rattle.walks.proofs.Theorems.Common.Keeps.{remark-same}
 use Rattle.walks.proofs.Theorems.Common.OrderMet.{fresh_same, fresh_some, met-nf, nf_twice, prefix_refl, prefix_some}
 use Rattle.walks.proofs.Theorems.Parallelize.Bottlenecks.{rebuilt_facts}
 use Rattle.walks.proofs.Theorems.Calls.Counts.{count_by}
-use Rattle.push_literal.specs.Contexts.{BelowRoot, holding, kids_hold, plan_resting, resting, size-holding, size-resting}
-use Rattle.push_literal.specs.Agrees.{AgreesT, Below, by_bool, by_call, carried_at, decided_at, over-returned, returned, returned_full, twice}
-use Rattle.push_literal.specs.HelperCalls.{above_merge, above_sort, cond_yes, new_merge_over, new_sort_over, node-goes, node_satisfies_lem, node_stops, node_unrequired_lem, one_merge, unnecessary_call}
+use Rattle.push_literal.proofs.Contexts.{BelowRoot, holding, kids_hold, plan_resting, resting, size-holding, size-resting}
+use Rattle.push_literal.proofs.Agrees.{AgreesT, Below, by_bool, by_call, carried_at, decided_at, over-returned, returned, returned_full, twice}
+use Rattle.push_literal.proofs.HelperCalls.{above_merge, above_sort, cond_yes, new_merge_over, new_sort_over, node-goes, node_satisfies_lem, node_stops, node_unrequired_lem, one_merge, unnecessary_call}
 
 pub min_none : (f : Fetch) → min_fetch f Unlimited ≡ f
 min_none Unlimited = refl

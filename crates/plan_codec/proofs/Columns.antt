@@ -6,7 +6,7 @@ use Rattle.scan.specs.Bytes.{all_below}
 use Rattle.scan.specs.Below.{all_at, all_intro, and_left, and_right}
 use Rattle.plan.specs.WellFormed.{every, member, distinct, below, columns_fit}
 use Rattle.plan_format.specs.LastPass.{below_ok, fresh_ok, column_ok, columns_ok, same_widths}
-use Rattle.plan_codec.specs.Bits.{no_false, both, iff}
+use Rattle.plan_codec.proofs.Bits.{no_false, both, iff}
 
 -- a test of each element, by places and by the list
 module _ (p : ℕ → Bool) where

@@ -1,0 +1,13 @@
+pub mod Bits
+pub mod Columns
+pub mod Fill
+pub mod FromRecord
+pub mod Keys
+pub mod NodeRules
+pub mod OneRecord
+pub mod Plans
+pub mod RoundTrip
+pub mod Rules
+pub mod Sizes
+pub mod ToRecord
+pub mod Trees
