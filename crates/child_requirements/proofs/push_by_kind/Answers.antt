@@ -29,7 +29,7 @@ join_type-requires c = c.requires.proper
 
 pub try_pushdown_requirements_to_join-requires : goal.try_pushdown_requirements_to_join-requires
 try_pushdown_requirements_to_join-requires c = (
-  c.requires.merged _ (c.join_type.ensures.0 (sym c.kind_of-kind.ensures ∙ c.in-SortMergeJoin.is)),
+  c.requires.merged _ (c.join_type.ensures.merged (sym c.kind_of-kind.ensures ∙ c.in-SortMergeJoin.is)),
   c.requires.few,
   c.requires.inside,
 )
@@ -45,7 +45,7 @@ width-requires-in-HashJoin c = c.requires.second
 
 pub handle_hash_join-requires : goal.handle_hash_join-requires
 handle_hash_join-requires c = let x = c.width.ensures in let y = c.width-in-HashJoin.ensures.0 in
-    let z = c.requires.hashed _ (c.join_type-in-HashJoin.ensures.1 (sym c.kind_of-kind.ensures
+    let z = c.requires.hashed _ (c.join_type-in-HashJoin.ensures.hashed (sym c.kind_of-kind.ensures
     ∙ c.in-HashJoin.is)) in (
       c.requires.few,
       x.1,
@@ -105,13 +105,13 @@ returns-in-LocalLimit c = λ o fs m s. let r = c.args.r.now in
 pub returns-in-SortMergeJoin : goal.returns-in-SortMergeJoin
 returns-in-SortMergeJoin c = λ o fs m s. let r = c.args.r.now in
     by_join r fs m _ _ o _ _ _ s c.join_type.result
-    (c.join_type.ensures.0 (sym c.kind_of-kind.ensures ∙ c.in-SortMergeJoin.is))
+    (c.join_type.ensures.merged (sym c.kind_of-kind.ensures ∙ c.in-SortMergeJoin.is))
     c.try_pushdown_requirements_to_join.ensures
 
 pub returns-in-HashJoin : goal.returns-in-HashJoin
 returns-in-HashJoin c = λ o fs m s. let r = c.args.r.now in
     by_hash r fs m _ _ o _ _ _ s c.join_type-in-HashJoin.result
-    (c.join_type-in-HashJoin.ensures.1 (sym c.kind_of-kind.ensures
+    (c.join_type-in-HashJoin.ensures.hashed (sym c.kind_of-kind.ensures
     ∙ c.in-HashJoin.is)) _ _ c.width.ensures.0 c.width-in-HashJoin.ensures.0
     (c.handle_hash_join.ensures m)
 

@@ -17,10 +17,10 @@ slice_bounds-projection_facts-end c = let p = c.requires.1 in let e = c.wide-n.e
 
 pub projection_facts-requires : goal.projection_facts-requires
 projection_facts-requires c = let p = c.requires.1 in let e = c.wide-n.ensures in (
-      c.requires.2,
-      ap₂ (λ n l. below c.args.f.width (take n l)) e c.key_columns-cols.ensures ∙ c.requires.3,
-      short 32 c.wide-n.result c.key_columns-cols.result (omega arith),
-    )
+  c.requires.2,
+  ap₂ (λ n l. below c.args.f.width (take n l)) e c.key_columns-cols.ensures ∙ c.requires.3,
+  short 32 c.wide-n.result c.key_columns-cols.result (omega arith),
+)
 
 pub returns : goal.returns
 returns c = says_lent (λ l. sem.proj_facts (known c.args.f) l) c.projection_facts.result c.wide-n.result (get_or c.args.r.now 12 0)

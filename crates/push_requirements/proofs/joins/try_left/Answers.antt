@@ -41,17 +41,17 @@ join_order-new-requires c = let t = c.args.t in let r = c.args.r.now in let own 
 
 pub meets_reordered-requires : goal.meets_reordered-requires
 meets_reordered-requires c = let j = c.requires.0 in (
-      j.here,
-      (c.join_order-new.ensures
-          (record {
-            width = c.width.result;
-            streams = 0;
-            consts = [];
-            cls = [];
-            order = keys_of c.drop_repeats-dropped.result;
-          })
-          (record { width = 0; streams = 0; consts = []; cls = []; order = keys_of c.keys_in-other.result }) refl refl refl).few,
-    )
+  j.here,
+  (c.join_order-new.ensures
+      (record {
+        width = c.width.result;
+        streams = 0;
+        consts = [];
+        cls = [];
+        order = keys_of c.drop_repeats-dropped.result;
+      })
+      (record { width = 0; streams = 0; consts = []; cls = []; order = keys_of c.keys_in-other.result }) refl refl refl).few,
+)
 
 pub returns-then-not-meets_reordered : goal.returns-then-not-meets_reordered
 returns-then-not-meets_reordered c = let t = c.args.t in let r = c.args.r.now in let own = c.args.own.now in let a = c.args.a.now in let b = c.args.b.now in
