@@ -12,50 +12,50 @@ use Prim.Native.Nat.{◌+◌, ◌*◌, ◌-◌, ◌<◌}
 use Rattle.step_nodes.proofs.+lay.Goals as goal
 
 pub put_node-inps-requires : goal.put_node-inps-requires
-put_node-inps-requires t c = let m = c.args.m.now in let u = c.args.u in let i = c.args.i in let w = c.requires.1.0 in
-    let d = w.arena in let l = c.requires.1.1 in let t₀ = c.args.table.now in let s₀ = c.args.slots.now in let n = c.args.n in
+put_node-inps-requires t c = let m = c.args.m.now in let u = c.args.u in let i = c.args.i in let w = c.requires.0 in
+    let d = w.arena in let l = c.requires.1 in let t₀ = c.args.table.now in let s₀ = c.args.slots.now in let n = c.args.n in
     let a = c.args.a in let b = c.args.b in let p = c.args.above in
     let room = room_is m u i d l t₀ s₀ p n a b t₀ s₀ w in let r₀ = room.0 in let r₁ = room.1 in let r₂ = room.2 in
     (d, l, omega arith)
 
 pub offset_bounds-slots-n : goal.offset_bounds-slots-n
-offset_bounds-slots-n t c = let m = c.args.m.now in let u = c.args.u in let i = c.args.i in let w = c.requires.1.0 in
-    let d = w.arena in let l = c.requires.1.1 in let t₀ = c.args.table.now in let s₀ = c.args.slots.now in let n = c.args.n in
+offset_bounds-slots-n t c = let m = c.args.m.now in let u = c.args.u in let i = c.args.i in let w = c.requires.0 in
+    let d = w.arena in let l = c.requires.1 in let t₀ = c.args.table.now in let s₀ = c.args.slots.now in let n = c.args.n in
     let a = c.args.a in let b = c.args.b in let p = c.args.above in
     let room = room_is m u i d l t₀ s₀ p n a b t₀ s₀ w in let r₀ = room.0 in let r₁ = room.1 in let r₂ = room.2 in
     omega arith
 
 pub bounds-slots-n : goal.bounds-slots-n
-bounds-slots-n t c = let m = c.args.m.now in let u = c.args.u in let i = c.args.i in let w = c.requires.1.0 in
-    let d = w.arena in let l = c.requires.1.1 in let t₀ = c.args.table.now in let s₀ = c.args.slots.now in let n = c.args.n in
+bounds-slots-n t c = let m = c.args.m.now in let u = c.args.u in let i = c.args.i in let w = c.requires.0 in
+    let d = w.arena in let l = c.requires.1 in let t₀ = c.args.table.now in let s₀ = c.args.slots.now in let n = c.args.n in
     let a = c.args.a in let b = c.args.b in let p = c.args.above in
     let room = room_is m u i d l t₀ s₀ p n a b t₀ s₀ w in let r₀ = room.0 in let r₁ = room.1 in let r₂ = room.2 in
     omega arith
 
 pub child_count-kids-requires : goal.child_count-kids-requires
-child_count-kids-requires t c = let m = c.args.m.now in let u = c.args.u in let i = c.args.i in let w = c.requires.1.0 in
-    let d = w.arena in let l = c.requires.1.1 in let t₀ = c.args.table.now in let s₀ = c.args.slots.now in let n = c.args.n in
+child_count-kids-requires t c = let m = c.args.m.now in let u = c.args.u in let i = c.args.i in let w = c.requires.0 in
+    let d = w.arena in let l = c.requires.1 in let t₀ = c.args.table.now in let s₀ = c.args.slots.now in let n = c.args.n in
     let a = c.args.a in let b = c.args.b in let p = c.args.above in
     let room = room_is m u i d l t₀ s₀ p n a b t₀ s₀ w in let r₀ = room.0 in let r₁ = room.1 in let r₂ = room.2 in
     in_room m u i d l
 
 pub overflow_add-next : goal.overflow_add-next
-overflow_add-next t c = let m = c.args.m.now in let u = c.args.u in let i = c.args.i in let w = c.requires.1.0 in
-    let d = w.arena in let l = c.requires.1.1 in let t₀ = c.args.table.now in let s₀ = c.args.slots.now in let n = c.args.n in
+overflow_add-next t c = let m = c.args.m.now in let u = c.args.u in let i = c.args.i in let w = c.requires.0 in
+    let d = w.arena in let l = c.requires.1 in let t₀ = c.args.table.now in let s₀ = c.args.slots.now in let n = c.args.n in
     let a = c.args.a in let b = c.args.b in let p = c.args.above in
     let room = room_is m u i d l t₀ s₀ p n a b t₀ s₀ w in let r₀ = room.0 in let r₁ = room.1 in let r₂ = room.2 in
     omega arith
 
 pub overflow_add-free : goal.overflow_add-free
-overflow_add-free t c = let m = c.args.m.now in let u = c.args.u in let i = c.args.i in let w = c.requires.1.0 in
-    let d = w.arena in let l = c.requires.1.1 in let t₀ = c.args.table.now in let s₀ = c.args.slots.now in let n = c.args.n in
+overflow_add-free t c = let m = c.args.m.now in let u = c.args.u in let i = c.args.i in let w = c.requires.0 in
+    let d = w.arena in let l = c.requires.1 in let t₀ = c.args.table.now in let s₀ = c.args.slots.now in let n = c.args.n in
     let a = c.args.a in let b = c.args.b in let p = c.args.above in
     let room = room_is m u i d l t₀ s₀ p n a b t₀ s₀ w in let r₀ = room.0 in let r₁ = room.1 in let r₂ = room.2 in
     let e = c.put_node-inps.ensures.0 in omega arith
 
 pub loop-k-init : goal.loop-k-init
-loop-k-init t c = let m = c.args.m.now in let u = c.args.u in let i = c.args.i in let w = c.requires.1.0 in
-    let d = w.arena in let l = c.requires.1.1 in let t₀ = c.args.table.now in let s₀ = c.args.slots.now in let n = c.args.n in
+loop-k-init t c = let m = c.args.m.now in let u = c.args.u in let i = c.args.i in let w = c.requires.0 in
+    let d = w.arena in let l = c.requires.1 in let t₀ = c.args.table.now in let s₀ = c.args.slots.now in let n = c.args.n in
     let a = c.args.a in let b = c.args.b in let p = c.args.above in
     let room = room_is m u i d l t₀ s₀ p n a b t₀ s₀ w in let r₀ = room.0 in let r₁ = room.1 in let r₂ = room.2 in
     let x = c.put_node-inps in let T = x.new.table in let S = set s₀ n i in let L = x.auto.table in let M = length-set s₀ n i in (
@@ -68,22 +68,22 @@ loop-k-init t c = let m = c.args.m.now in let u = c.args.u in let i = c.args.i i
     )
 
 pub child-c-requires : goal.child-c-requires
-child-c-requires t c = let m = c.args.m.now in let u = c.args.u in let i = c.args.i in let w = c.requires.1.0 in
-    let d = w.arena in let l = c.requires.1.1 in let t₀ = c.args.table.now in let s₀ = c.args.slots.now in let n = c.args.n in
+child-c-requires t c = let m = c.args.m.now in let u = c.args.u in let i = c.args.i in let w = c.requires.0 in
+    let d = w.arena in let l = c.requires.1 in let t₀ = c.args.table.now in let s₀ = c.args.slots.now in let n = c.args.n in
     let a = c.args.a in let b = c.args.b in let p = c.args.above in
     let room = room_is m u i d l t₀ s₀ p n a b t₀ s₀ w in let r₀ = room.0 in let r₁ = room.1 in let r₂ = room.2 in
     let q = c.loop-k in let i₀ = q.invariant.0 in let k = c.loop-k-test.true in
     child_asks m u i d l q.k (omega arith)
 
 pub lay-r-requires : goal.lay-r-requires
-lay-r-requires t c = let m = c.args.m.now in let u = c.args.u in let i = c.args.i in let w = c.requires.1.0 in
-    let d = w.arena in let l = c.requires.1.1 in let t₀ = c.args.table.now in let s₀ = c.args.slots.now in let n = c.args.n in
+lay-r-requires t c = let m = c.args.m.now in let u = c.args.u in let i = c.args.i in let w = c.requires.0 in
+    let d = w.arena in let l = c.requires.1 in let t₀ = c.args.table.now in let s₀ = c.args.slots.now in let n = c.args.n in
     let a = c.args.a in let b = c.args.b in let p = c.args.above in
     let room = room_is m u i d l t₀ s₀ p n a b t₀ s₀ w in let r₀ = room.0 in let r₁ = room.1 in let r₂ = room.2 in
     let x = c.put_node-inps in let T = x.new.table in let S = set s₀ n i in let L = x.auto.table in let M = length-set s₀ n i in
     let q = c.loop-k in let i₀ = q.invariant.0 in let i₁ = q.invariant.1 in let i₂ = q.invariant.2 in let i₃ = q.invariant.3 in let g = q.invariant.4 in
     let k = c.loop-k-test.true in let y = (shown m u i d l).count in let k₁ : q.k < length (slot m i).kids = omega arith in
-    let j = c.child-c in let z = child_lower m u i d l q.k k₁ j.result j.ensures in let v = c.requires.0 in (
+    let j = c.child-c in let z = child_lower m u i d l q.k k₁ j.result j.ensures in let v = c.requires in (
       omega arith,
       (
         kid_asks m u i d l T S p n a b t₀ s₀ w q.k k₁ j.result j.ensures q.table q.slots q.next q.free q.out g
@@ -93,8 +93,8 @@ lay-r-requires t c = let m = c.args.m.now in let u = c.args.u in let i = c.args.
     )
 
 pub row-requires : goal.row-requires
-row-requires t c = let m = c.args.m.now in let u = c.args.u in let i = c.args.i in let w = c.requires.1.0 in
-    let d = w.arena in let l = c.requires.1.1 in let t₀ = c.args.table.now in let s₀ = c.args.slots.now in let n = c.args.n in
+row-requires t c = let m = c.args.m.now in let u = c.args.u in let i = c.args.i in let w = c.requires.0 in
+    let d = w.arena in let l = c.requires.1 in let t₀ = c.args.table.now in let s₀ = c.args.slots.now in let n = c.args.n in
     let a = c.args.a in let b = c.args.b in let p = c.args.above in
     let room = room_is m u i d l t₀ s₀ p n a b t₀ s₀ w in let r₀ = room.0 in let r₁ = room.1 in let r₂ = room.2 in
     let q = c.loop-k in let i₀ = q.invariant.0 in let i₁ = q.invariant.1 in let i₂ = q.invariant.2 in let i₃ = q.invariant.3 in let g = q.invariant.4 in
@@ -105,8 +105,8 @@ pub streams-out-requires : goal.streams-out-requires
 streams-out-requires t c = c.row.ensures.1.row
 
 pub overflow_add-out : goal.overflow_add-out
-overflow_add-out t c = let m = c.args.m.now in let u = c.args.u in let i = c.args.i in let w = c.requires.1.0 in
-    let d = w.arena in let l = c.requires.1.1 in let t₀ = c.args.table.now in let s₀ = c.args.slots.now in let n = c.args.n in
+overflow_add-out t c = let m = c.args.m.now in let u = c.args.u in let i = c.args.i in let w = c.requires.0 in
+    let d = w.arena in let l = c.requires.1 in let t₀ = c.args.table.now in let s₀ = c.args.slots.now in let n = c.args.n in
     let a = c.args.a in let b = c.args.b in let p = c.args.above in
     let room = room_is m u i d l t₀ s₀ p n a b t₀ s₀ w in let r₀ = room.0 in let r₁ = room.1 in let r₂ = room.2 in
     let x = c.put_node-inps in let T = x.new.table in let S = set s₀ n i in let L = x.auto.table in let M = length-set s₀ n i in
@@ -117,8 +117,8 @@ overflow_add-out t c = let m = c.args.m.now in let u = c.args.u in let i = c.arg
     (c.streams-out.ensures ∙ ap (λ F. F.streams) c.row.ensures.1.is) in omega arith
 
 pub overflow_add-k : goal.overflow_add-k
-overflow_add-k t c = let m = c.args.m.now in let u = c.args.u in let i = c.args.i in let w = c.requires.1.0 in
-    let d = w.arena in let l = c.requires.1.1 in let t₀ = c.args.table.now in let s₀ = c.args.slots.now in let n = c.args.n in
+overflow_add-k t c = let m = c.args.m.now in let u = c.args.u in let i = c.args.i in let w = c.requires.0 in
+    let d = w.arena in let l = c.requires.1 in let t₀ = c.args.table.now in let s₀ = c.args.slots.now in let n = c.args.n in
     let a = c.args.a in let b = c.args.b in let p = c.args.above in
     let room = room_is m u i d l t₀ s₀ p n a b t₀ s₀ w in let r₀ = room.0 in let r₁ = room.1 in let r₂ = room.2 in
     let q = c.loop-k in let i₀ = q.invariant.0 in let i₁ = q.invariant.1 in let i₂ = q.invariant.2 in let i₃ = q.invariant.3 in let g = q.invariant.4 in
@@ -129,8 +129,8 @@ pub loop-k-smaller : goal.loop-k-smaller
 loop-k-smaller t c = let k = c.loop-k-test.true in omega arith
 
 pub loop-k-preserved : goal.loop-k-preserved
-loop-k-preserved t c = let m = c.args.m.now in let u = c.args.u in let i = c.args.i in let w = c.requires.1.0 in
-    let d = w.arena in let l = c.requires.1.1 in let t₀ = c.args.table.now in let s₀ = c.args.slots.now in let n = c.args.n in
+loop-k-preserved t c = let m = c.args.m.now in let u = c.args.u in let i = c.args.i in let w = c.requires.0 in
+    let d = w.arena in let l = c.requires.1 in let t₀ = c.args.table.now in let s₀ = c.args.slots.now in let n = c.args.n in
     let a = c.args.a in let b = c.args.b in let p = c.args.above in
     let room = room_is m u i d l t₀ s₀ p n a b t₀ s₀ w in let r₀ = room.0 in let r₁ = room.1 in let r₂ = room.2 in
     let x = c.put_node-inps in let T = x.new.table in let S = set s₀ n i in let L = x.auto.table in let M = length-set s₀ n i in
@@ -153,8 +153,8 @@ pub shape_of-slots : goal.shape_of-slots
 shape_of-slots t c = c.loop-k.invariant.3 ∙ length-set c.args.slots.now c.args.n c.args.i
 
 pub returns : goal.returns
-returns t c = let m = c.args.m.now in let u = c.args.u in let i = c.args.i in let w = c.requires.1.0 in
-    let d = w.arena in let l = c.requires.1.1 in let t₀ = c.args.table.now in let s₀ = c.args.slots.now in let n = c.args.n in
+returns t c = let m = c.args.m.now in let u = c.args.u in let i = c.args.i in let w = c.requires.0 in
+    let d = w.arena in let l = c.requires.1 in let t₀ = c.args.table.now in let s₀ = c.args.slots.now in let n = c.args.n in
     let a = c.args.a in let b = c.args.b in let p = c.args.above in
     let room = room_is m u i d l t₀ s₀ p n a b t₀ s₀ w in let r₀ = room.0 in let r₁ = room.1 in let r₂ = room.2 in
     let x = c.put_node-inps in let T = x.new.table in let S = set s₀ n i in let L = x.auto.table in let M = length-set s₀ n i in
