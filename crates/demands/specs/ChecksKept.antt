@@ -1,4 +1,4 @@
--- Beyond the demand: what keeps the order check. Parallelizing and partial sorting do; order-preserving and push do not (walks: examples/Worked).
+-- Beyond the demand: what keeps the order check. Parallelizing and partial sorting do; order-preserving and push do not (walks: Examples/Worked).
 -- Definitions: Plan, well_formed (plan); check (semantics); parallelized, partially_sorted (walks).
 use Rattle.std.specs.Prelude.{◌≡◌, true, ℕ}
 use Rattle.std.proofs.Common.{sym, ◌∙◌, subst}

@@ -59,7 +59,7 @@ common [] q = []
 common (k ∷ p) [] = []
 common (k ∷ p) (l ∷ q) = cond (eq_key k l) (k ∷ common p q) []
 
--- "A wanted order is met when its normal form is a prefix of the known order's": a known order is its own normal form (theorems/canonical)
+-- "A wanted order is met when its normal form is a prefix of the known order's": a known order is its own normal form (Theorems/Canonical)
 abbrev pub met : Facts → List Key → Bool
 met F ks = prefixb (nf F [] ks) (known_order F)
 

@@ -1,2 +1,2 @@
-// The facts of a node, the order check and runs, and their theorems: see specs/.
+// The facts of a node, the order check and runs, and their theorems: see specs/ and proofs/.
 #![tactic(auto)]

@@ -4,8 +4,8 @@
 --   SortPushdown, PushdownSorts: sort_pushdown.rs, in two parts (crate push_literal has the second part again, in the Rust's own form).
 --   Marks: PlanContext, transform_up, and the kinds that the walks treat apart. Counted: the walks as they are called, with their refusals.
 -- Terms: the words that the theorems are stated in.
--- theorems/: for each walk what it keeps and what it makes sure of (common/: what they share; calls/: the calls' answers and refusals).
--- examples/: 01's worked examples (Worked), plans that pin a branch each (Pinned, PinnedPush) and aggregates (Aggregates), by computation.
+-- proofs/Theorems/: for each walk what it keeps and what it makes sure of (Common/: what they share; Calls/: the calls' answers and refusals).
+-- proofs/Examples/: 01's worked examples (Worked), plans that pin a branch each (Pinned, PinnedPush) and aggregates (Aggregates), by computation.
 pub mod Marks
 pub mod Utils
 pub mod OutputRequirements

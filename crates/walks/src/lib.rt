@@ -1,2 +1,2 @@
-// The walks as definitions, and their theorems: see specs/.
+// The walks as definitions, and their theorems: see specs/ and proofs/.
 #![tactic(auto)]
