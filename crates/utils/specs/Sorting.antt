@@ -64,7 +64,7 @@ module _ (m : List ℕ) (u h : ℕ) (ks : List Key) (f : Fetch) (a : Arena m u) 
   merge_fits : (l : List Key) → l ≡ fresh_keys (fact (tree_of m h)) [] ks → 0 < length l → (w : ℕ) → w ≡ (fact (tree_of m h)).width
       → node_ok (merge_op l f) (w ∷ []) ≡ true
   merge_fits [] e n w q = absurd (omega arith)
-  merge_fits (k ∷ l) e n w q = rw q (merge_ok k l f (F.width ∷ []) (fresh_ok (k ∷ l) e) s.fetch (refl, narrow_t T (ok_of m u h a hh)))
+  merge_fits (k ∷ l) e n w q = subst (λ x. node_ok (merge_op (k ∷ l) f) (x ∷ []) ≡ true) (sym q) (merge_ok k l f (F.width ∷ []) (fresh_ok (k ∷ l) e) s.fetch (refl, narrow_t T (ok_of m u h a hh)))
 
   -- the code's keys, from the row of facts b
   module _ (b : List ℕ) (t : Tells (tree_of m h) b) (k : Keys) (q : Keyed (fresh_keys (told (loaded b)) [] ks) k) where

@@ -6,7 +6,7 @@ use Rattle.partial_sort_by_number.specs.ByNumber.{standing, step_past, step_low,
 use Rattle.partial_sort_by_number.proofs.+partially_sorted.Goals as goal
 
 pub replace_node-requires : goal.replace_node-requires
-replace_node-requires t c = c.requires.1
+replace_node-requires t c = c.requires
 
 pub shape_of-m-then-n-eq0 : goal.shape_of-m-then-n-eq0
 shape_of-m-then-n-eq0 t c = c.replace_node.auto.m
@@ -20,31 +20,31 @@ pub overflow_sub-n : goal.overflow_sub-n
 overflow_sub-n t c = let z = c.if-n-eq0.false in omega arith
 
 pub locate-p-requires : goal.locate-p-requires
-locate-p-requires t c = standing c.args.m.now c.args.u c.args.h c.requires.1
+locate-p-requires t c = standing c.args.m.now c.args.u c.args.h c.requires
 
 pub child_count-requires : goal.child_count-requires
-child_count-requires t c = slot_room c.args.m.now c.args.u c.args.h (standing c.args.m.now c.args.u c.args.h c.requires.1)
+child_count-requires t c = slot_room c.args.m.now c.args.u c.args.h (standing c.args.m.now c.args.u c.args.h c.requires)
 
 pub shape_of-m-then-j-child_count : goal.shape_of-m-then-j-child_count
 shape_of-m-then-j-child_count t c = refl
 
 pub returns-then-j-child_count : goal.returns-then-j-child_count
-returns-then-j-child_count t c = step_past c.args.m.now c.args.u c.args.h c.requires.1 c.args.n c.if-n-eq0.false _
+returns-then-j-child_count t c = step_past c.args.m.now c.args.u c.args.h c.requires c.args.n c.if-n-eq0.false _
     c.locate-p.ensures _ c.child_count.ensures c.if-j-child_count.true c.args.m.now
 
 pub child-k-requires : goal.child-k-requires
-child-k-requires t c = kid_asks c.args.m.now c.args.u c.args.h (standing c.args.m.now c.args.u c.args.h c.requires.1) _
-    (step_low c.args.m.now c.args.u c.args.h c.requires.1 c.args.n c.if-n-eq0.false _
+child-k-requires t c = kid_asks c.args.m.now c.args.u c.args.h (standing c.args.m.now c.args.u c.args.h c.requires) _
+    (step_low c.args.m.now c.args.u c.args.h c.requires c.args.n c.if-n-eq0.false _
     c.locate-p.ensures _ c.child_count.ensures c.if-j-child_count.false)
 
 pub enum_told-1 : goal.enum_told-1
-enum_told-1 t c = let q = step_asks c.args.m.now c.args.u c.args.h c.requires.1 c.args.n
+enum_told-1 t c = let q = step_asks c.args.m.now c.args.u c.args.h c.requires c.args.n
     c.if-n-eq0.false _ c.locate-p.ensures _
     c.child_count.ensures c.if-j-child_count.false _ c.child-k.ensures in let q₀ = q.0 in
-    let g = c.requires.0 in (omega arith, q.1)
+    let g = c.decreases in (omega arith, q.1)
 
 pub put_child-top-requires : goal.put_child-top-requires
-put_child-top-requires t c = step_puts c.args.m.now c.args.u c.args.h c.requires.1 c.args.n
+put_child-top-requires t c = step_puts c.args.m.now c.args.u c.args.h c.requires c.args.n
     c.if-n-eq0.false _
     c.locate-p.ensures _
     c.child_count.ensures
@@ -57,7 +57,7 @@ pub shape_of-m-in-NoSuchNode : goal.shape_of-m-in-NoSuchNode
 shape_of-m-in-NoSuchNode t c = c.partially_sorted-below.auto.m
 
 pub returns-in-NoSuchNode : goal.returns-in-NoSuchNode
-returns-in-NoSuchNode t c = step_missing c.args.m.now c.args.u c.args.h c.requires.1 c.args.n
+returns-in-NoSuchNode t c = step_missing c.args.m.now c.args.u c.args.h c.requires c.args.n
     c.if-n-eq0.false _
     c.locate-p.ensures _
     c.child_count.ensures
@@ -69,7 +69,7 @@ shape_of-m-in-Becomes t c = c.put_child-top.auto.m
     ∙ c.partially_sorted-below.auto.m
 
 pub returns-in-Becomes : goal.returns-in-Becomes
-returns-in-Becomes t c = step_became c.args.m.now c.args.u c.args.h c.requires.1 c.args.n
+returns-in-Becomes t c = step_became c.args.m.now c.args.u c.args.h c.requires c.args.n
     c.if-n-eq0.false _ c.locate-p.ensures _ c.child_count.ensures
     c.if-j-child_count.false _
     c.child-k.ensures _ _

@@ -11,7 +11,7 @@ row-own-requires c = let m = c.args.m.now in let u = c.args.u in let h = c.args.
 
 pub fresh_keys-fresh-requires : goal.fresh_keys-fresh-requires
 fresh_keys-fresh-requires c = let f = c.args.fetch in let q = c.requires.1 in
-    (c.row-own.ensures.1.row, few_keys _ c.args.keys f q)
+    record { fact_row = c.row-own.ensures.1.row; len_bound = few_keys _ c.args.keys f q }
 
 pub returns-then-fresh-eq0 : goal.returns-then-fresh-eq0
 returns-then-fresh-eq0 c = let m = c.args.m.now in let u = c.args.u in let h = c.args.h in

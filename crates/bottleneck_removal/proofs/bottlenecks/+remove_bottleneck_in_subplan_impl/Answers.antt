@@ -14,24 +14,24 @@ use Rattle.bottleneck_removal.proofs.bottlenecks.+remove_bottleneck_in_subplan_i
 
 pub returns-then-not-is_marked-removable : goal.returns-then-not-is_marked-removable
 returns-then-not-is_marked-removable t c = stays c.args.m.now c.args.u c.args.h
-    c.requires.1 c.args.removable
+    c.requires c.args.removable
     (sym (ap (λ b. b && c.args.removable) c.is_marked.ensures) ∙ not-true _ (ap not c.if-not-is_marked-removable.true))
 
 pub record_at-requires : goal.record_at-requires
 record_at-requires t c = (own_asks c.args.m.now c.args.u
-    c.args.h c.requires.1).0
+    c.args.h c.requires).0
 
 pub read64-r-requires : goal.read64-r-requires
 read64-r-requires t c = ap length c.record_at.ensures ∙ (own_asks c.args.m.now
     c.args.u c.args.h
-    c.requires.1).1
+    c.requires).1
 
 pub removes_first-requires : goal.removes_first-requires
 removes_first-requires t c = (
   own c.args.m.now
       c.args.u
       c.args.h
-      c.requires.1,
+      c.requires,
   (c.read64-r.ensures ∙ c.record_at.ensures),
 )
 
@@ -39,7 +39,7 @@ pub lift_first-requires : goal.lift_first-requires
 lift_first-requires t c = first_lifts c.args.m.now
     c.args.u
     c.args.h
-    c.requires.1
+    c.requires
     c.args.removable
     (sym (ap (λ b. b && c.args.removable)
     c.is_marked.ensures)
@@ -53,7 +53,7 @@ shape_of-m-then-removes_first t c = c.lift_first.auto.m
 pub returns-then-removes_first : goal.returns-then-removes_first
 returns-then-removes_first t c = first_grown c.args.m.now c.args.u
     c.args.h
-    c.requires.1
+    c.requires
     c.args.removable
     (sym (ap (λ b. b && c.args.removable) c.is_marked.ensures)
     ∙ not-false _ (ap not c.if-not-is_marked-removable.false))
@@ -67,7 +67,7 @@ pub child_count-n-requires : goal.child_count-n-requires
 child_count-n-requires t c = (own_asks c.args.m.now
     c.args.u
     c.args.h
-    c.requires.1).0
+    c.requires).0
 
 pub loop-j-init : goal.loop-j-init
 loop-j-init t c = (
@@ -75,21 +75,21 @@ loop-j-init t c = (
       ∙ (shown c.args.m.now
       c.args.u
       c.args.h
-      c.requires.1).count,
+      c.requires).count,
   omega arith,
   going-none c.args.m.now
       c.args.u
       c.args.h
-      c.requires.1 (replicate 8 0) refl,
+      c.requires (replicate 8 0) refl,
 )
 
 pub child-k-requires : goal.child-k-requires
 child-k-requires t c = let i₀ = c.loop-j.invariant.0 in let i₁ = c.loop-j.invariant.1 in
-    let f = few_kids c.requires.1.arena c.requires.1.here
+    let f = few_kids c.requires.arena c.requires.here
     c.loop-j.invariant.2.made in let f₀ = f.0 in let f₁ = f.1 in let wd = c.loop-j.invariant.2.made.wide in
     let x = c.loop-j-test.true in (
-      node_room c.requires.1.arena
-          c.requires.1.here
+      node_room c.requires.arena
+          c.requires.here
           c.loop-j.invariant.2.made,
       omega arith,
       f.0,
@@ -101,40 +101,40 @@ wants_single-one-requires t c = subst Proper (sym (c.read64-r.ensures
     (node_proper _ _ (own c.args.m.now
     c.args.u
     c.args.h
-    c.requires.1))
+    c.requires))
 
 pub remove_bottleneck_in_subplan_impl-a-requires : goal.remove_bottleneck_in_subplan_impl-a-requires
 remove_bottleneck_in_subplan_impl-a-requires t c = let i₀ = c.loop-j.invariant.0 in
     let x = c.loop-j-test.true in
     let q = going_next c.args.m.now
     c.args.u c.args.h
-    c.requires.1 c.loop-j.j c.loop-j.w
+    c.requires c.loop-j.j c.loop-j.w
     c.loop-j.kids c.loop-j.m
     c.loop-j.invariant.2 (omega arith) c.child-k.result
     c.child-k.ensures in let q₀ = q.0 in
-    let g = c.requires.0 in (omega arith, q.1)
+    let g = c.decreases in (omega arith, q.1)
 
 pub offset_bounds-kids-j : goal.offset_bounds-kids-j
 offset_bounds-kids-j t c = let i₀ = c.loop-j.invariant.0 in
     let i₁ = c.loop-j.invariant.1 in
-    let f = few_kids c.requires.1.arena
-    c.requires.1.here c.loop-j.invariant.2.made in
+    let f = few_kids c.requires.arena
+    c.requires.here c.loop-j.invariant.2.made in
     let f₀ = f.0 in let f₁ = f.1 in let wd = c.loop-j.invariant.2.made.wide in
     let x = c.loop-j-test.true in omega arith
 
 pub bounds-kids-j : goal.bounds-kids-j
 bounds-kids-j t c = let i₀ = c.loop-j.invariant.0 in
     let i₁ = c.loop-j.invariant.1 in
-    let f = few_kids c.requires.1.arena
-    c.requires.1.here c.loop-j.invariant.2.made in
+    let f = few_kids c.requires.arena
+    c.requires.here c.loop-j.invariant.2.made in
     let f₀ = f.0 in let f₁ = f.1 in let wd = c.loop-j.invariant.2.made.wide in
     let x = c.loop-j-test.true in omega arith
 
 pub overflow_add-j : goal.overflow_add-j
 overflow_add-j t c = let i₀ = c.loop-j.invariant.0 in
     let i₁ = c.loop-j.invariant.1 in
-    let f = few_kids c.requires.1.arena
-    c.requires.1.here c.loop-j.invariant.2.made in
+    let f = few_kids c.requires.arena
+    c.requires.here c.loop-j.invariant.2.made in
     let f₀ = f.0 in let f₁ = f.1 in let wd = c.loop-j.invariant.2.made.wide in
     let x = c.loop-j-test.true in omega arith
 
@@ -150,7 +150,7 @@ loop-j-preserved t c = let i₀ = c.loop-j.invariant.0 in
       going_more c.args.m.now
           c.args.u
           c.args.h
-          c.requires.1 c.loop-j.j
+          c.requires c.loop-j.j
           c.loop-j.w
           c.loop-j.kids
           c.loop-j.m
@@ -164,20 +164,20 @@ loop-j-preserved t c = let i₀ = c.loop-j.invariant.0 in
 
 pub slice_bounds-kids-end : goal.slice_bounds-kids-end
 slice_bounds-kids-end t c = let i₀ = c.loop-j.invariant.0 in let i₁ = c.loop-j.invariant.1 in
-    let f = few_kids c.requires.1.arena c.requires.1.here c.loop-j.invariant.2.made in let f₀ = f.0 in let f₁ = f.1 in
+    let f = few_kids c.requires.arena c.requires.here c.loop-j.invariant.2.made in let f₀ = f.0 in let f₁ = f.1 in
     let wd = c.loop-j.invariant.2.made.wide in let x = c.loop-j-test.false in omega arith
 
 pub slice_bounds-without_idle-end-2 : goal.slice_bounds-without_idle-end-2
 slice_bounds-without_idle-end-2 t c = let i₀ = c.loop-j.invariant.0 in
     let i₁ = c.loop-j.invariant.1 in
-    let f = few_kids c.requires.1.arena c.requires.1.here c.loop-j.invariant.2.made in let f₀ = f.0 in let f₁ = f.1 in
+    let f = few_kids c.requires.arena c.requires.here c.loop-j.invariant.2.made in let f₀ = f.0 in let f₁ = f.1 in
     let wd = c.loop-j.invariant.2.made.wide in let x = c.loop-j-test.false in
     sym (length-take-le _ c.loop-j.kids (omega arith))
 
 pub without_idle-requires : goal.without_idle-requires
 without_idle-requires t c = let i₀ = c.loop-j.invariant.0 in let i₁ = c.loop-j.invariant.1 in
     let x = c.loop-j-test.false in
-    end_puts c.args.m.now c.args.u c.args.h c.requires.1 c.loop-j.j c.loop-j.w
+    end_puts c.args.m.now c.args.u c.args.h c.requires c.loop-j.j c.loop-j.w
     c.loop-j.kids c.loop-j.m c.loop-j.invariant.2 _
     (omega arith) i₀ _ (c.read64-r.ensures
     ∙ c.record_at.ensures)
@@ -191,7 +191,7 @@ returns t c = let i₀ = c.loop-j.invariant.0 in
     let x = c.loop-j-test.false in
     end_grown c.args.m.now
     c.args.u c.args.h
-    c.requires.1 c.loop-j.j
+    c.requires c.loop-j.j
     c.loop-j.w c.loop-j.kids
     c.loop-j.m c.loop-j.invariant.2 _
     (omega arith) i₀ _ (c.read64-r.ensures
@@ -199,7 +199,7 @@ returns t c = let i₀ = c.loop-j.invariant.0 in
     c.args.removable
     (others c.args.m.now
     c.args.u c.args.h
-    c.requires.1 c.args.removable
+    c.requires c.args.removable
     (sym (ap (λ b. b && c.args.removable)
     c.is_marked.ensures) ∙ not-false _
     (ap not c.if-not-is_marked-removable.false)) c.removes_first.result

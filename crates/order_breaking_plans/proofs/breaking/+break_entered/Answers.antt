@@ -13,51 +13,51 @@ use Rattle.std.specs.Prelude.{not}
 use Rattle.order_breaking_plans.proofs.breaking.+break_entered.Goals as goal
 
 pub returns-then-not-entered : goal.returns-then-not-entered
-returns-then-not-entered t c = let m = c.args.m.now in let u = c.args.u in let h = c.args.h in let p = c.requires.1 in
+returns-then-not-entered t c = let m = c.args.m.now in let u = c.args.u in let h = c.args.h in let p = c.requires in
     stays m u h p c.args.entered (not-true _ (ap not c.if-not-entered.true))
 
 pub child_count-n-requires : goal.child_count-n-requires
-child_count-n-requires t c = let p = c.requires.1 in (up_to p.arena p.here).slots
+child_count-n-requires t c = let p = c.requires in (up_to p.arena p.here).slots
 
 pub loop-j-init : goal.loop-j-init
 loop-j-init t c = let m = c.args.m.now in let u = c.args.u in let h = c.args.h in
-    let p = c.requires.1 in let g = going-none m u h p (each_of m h) (replicate 8 0) refl in
+    let p = c.requires in let g = going-none m u h p (each_of m h) (replicate 8 0) refl in
     (c.child_count-n.ensures ∙ (few_kids p.arena p.here g.made).1, omega arith, g)
 
 pub child-k-requires : goal.child-k-requires
 child-k-requires t c = let m = c.args.m.now in let u = c.args.u in
-    let h = c.args.h in let p = c.requires.1 in let l = c.loop-j in let i₀ = l.invariant.0 in let i₁ = l.invariant.1 in let g = l.invariant.2 in
+    let h = c.args.h in let p = c.requires in let l = c.loop-j in let i₀ = l.invariant.0 in let i₁ = l.invariant.1 in let g = l.invariant.2 in
     let k = few_kids p.arena p.here g.made in let k₀ = k.0 in let k₁ = k.1 in let x = c.loop-j-test.true in
     ((node_arena p.arena p.here g.made).slots, omega arith, k₀)
 
 pub enters-e-requires : goal.enters-e-requires
 enters-e-requires t c = let m = c.args.m.now in
-    let u = c.args.u in let h = c.args.h in let p = c.requires.1 in let l = c.loop-j in let i₀ = l.invariant.0 in
+    let u = c.args.u in let h = c.args.h in let p = c.requires in let l = c.loop-j in let i₀ = l.invariant.0 in
     let i₁ = l.invariant.1 in let g = l.invariant.2 in let x = c.loop-j-test.true in
     (node_arena p.arena p.here g.made, kid_there p.arena p.here g.made (omega arith))
 
 pub break_entered-r-requires : goal.break_entered-r-requires
-break_entered-r-requires t c = let m = c.args.m.now in let u = c.args.u in let h = c.args.h in let p = c.requires.1 in
+break_entered-r-requires t c = let m = c.args.m.now in let u = c.args.u in let h = c.args.h in let p = c.requires in
     let l = c.loop-j in let i₀ = l.invariant.0 in let i₁ = l.invariant.1 in let g = l.invariant.2 in
     let x = c.loop-j-test.true in
     let q = going_next m u h p (each_of m h) l.j l.w l.kids l.m g (omega arith) _ c.child-k.ensures in let q₀ = q.0 in
-    let z = c.requires.0 in (omega arith, q.1)
+    let z = c.decreases in (omega arith, q.1)
 
 pub offset_bounds-kids-j : goal.offset_bounds-kids-j
-offset_bounds-kids-j t c = let m = c.args.m.now in let u = c.args.u in let h = c.args.h in let p = c.requires.1 in
+offset_bounds-kids-j t c = let m = c.args.m.now in let u = c.args.u in let h = c.args.h in let p = c.requires in
     let l = c.loop-j in let i₀ = l.invariant.0 in let i₁ = l.invariant.1 in
     let g = l.invariant.2 in let k = few_kids p.arena p.here g.made in let k₀ = k.0 in let k₁ = k.1 in
     let x = c.loop-j-test.true in omega arith
 
 pub bounds-kids-j : goal.bounds-kids-j
 bounds-kids-j t c = let m = c.args.m.now in
-    let u = c.args.u in let h = c.args.h in let p = c.requires.1 in
+    let u = c.args.u in let h = c.args.h in let p = c.requires in
     let l = c.loop-j in let i₀ = l.invariant.0 in let i₁ = l.invariant.1 in
     let g = l.invariant.2 in let k = few_kids p.arena p.here g.made in let k₀ = k.0 in let k₁ = k.1 in
     let x = c.loop-j-test.true in let z = g.made.wide in omega arith
 
 pub overflow_add-j : goal.overflow_add-j
-overflow_add-j t c = let m = c.args.m.now in let u = c.args.u in let h = c.args.h in let p = c.requires.1 in
+overflow_add-j t c = let m = c.args.m.now in let u = c.args.u in let h = c.args.h in let p = c.requires in
     let l = c.loop-j in let i₀ = l.invariant.0 in let i₁ = l.invariant.1 in
     let g = l.invariant.2 in let k = few_kids p.arena p.here g.made in let k₀ = k.0 in let k₁ = k.1 in
     let x = c.loop-j-test.true in omega arith
@@ -66,7 +66,7 @@ pub loop-j-smaller : goal.loop-j-smaller
 loop-j-smaller t c = let x = c.loop-j-test.true in omega arith
 
 pub loop-j-preserved : goal.loop-j-preserved
-loop-j-preserved t c = let m = c.args.m.now in let u = c.args.u in let h = c.args.h in let p = c.requires.1 in
+loop-j-preserved t c = let m = c.args.m.now in let u = c.args.u in let h = c.args.h in let p = c.requires in
     let l = c.loop-j in let i₀ = l.invariant.0 in let i₁ = l.invariant.1 in
     let g = l.invariant.2 in let x = c.loop-j-test.true in (
       i₀,
@@ -78,18 +78,18 @@ loop-j-preserved t c = let m = c.args.m.now in let u = c.args.u in let h = c.arg
 
 pub slice_bounds-kids-end : goal.slice_bounds-kids-end
 slice_bounds-kids-end t c = let m = c.args.m.now in
-    let u = c.args.u in let h = c.args.h in let p = c.requires.1 in let l = c.loop-j in let i₀ = l.invariant.0 in let i₁ = l.invariant.1 in
+    let u = c.args.u in let h = c.args.h in let p = c.requires in let l = c.loop-j in let i₀ = l.invariant.0 in let i₁ = l.invariant.1 in
     let g = l.invariant.2 in let k = few_kids p.arena p.here g.made in let k₀ = k.0 in let k₁ = k.1 in let z = g.made.wide in omega arith
 
 pub slice_bounds-break_over-end : goal.slice_bounds-break_over-end
 slice_bounds-break_over-end t c = let m = c.args.m.now in
-    let u = c.args.u in let h = c.args.h in let p = c.requires.1 in let l = c.loop-j in let i₀ = l.invariant.0 in let i₁ = l.invariant.1 in
+    let u = c.args.u in let h = c.args.h in let p = c.requires in let l = c.loop-j in let i₀ = l.invariant.0 in let i₁ = l.invariant.1 in
     let g = l.invariant.2 in let k = few_kids p.arena p.here g.made in let k₀ = k.0 in let k₁ = k.1 in let z = g.made.wide in
     sym (length-take-le _ l.kids (omega arith))
 
 pub break_over-requires : goal.break_over-requires
 break_over-requires t c = let m = c.args.m.now in
-    let u = c.args.u in let h = c.args.h in let p = c.requires.1 in let l = c.loop-j in let i₀ = l.invariant.0 in let i₁ = l.invariant.1 in
+    let u = c.args.u in let h = c.args.h in let p = c.requires in let l = c.loop-j in let i₀ = l.invariant.0 in let i₁ = l.invariant.1 in
     let g = l.invariant.2 in let x = c.loop-j-test.false in (
       break_puts m u h p l.j l.w l.kids l.m g _ (omega arith) i₀,
       going_here m u h p (each_of m h) l.j l.w l.kids l.m g _
@@ -100,7 +100,7 @@ pub shape_of-m : goal.shape_of-m
 shape_of-m t c = c.break_over.auto.m ∙ c.loop-j.invariant.2.made.long
 
 pub returns : goal.returns
-returns t c = let m = c.args.m.now in let u = c.args.u in let h = c.args.h in let p = c.requires.1 in
+returns t c = let m = c.args.m.now in let u = c.args.u in let h = c.args.h in let p = c.requires in
     let l = c.loop-j in let i₀ = l.invariant.0 in let i₁ = l.invariant.1 in let g = l.invariant.2 in
     let x = c.loop-j-test.false in
     break_end m u h p l.j l.w l.kids l.m g _ (omega arith) i₀ c.args.entered

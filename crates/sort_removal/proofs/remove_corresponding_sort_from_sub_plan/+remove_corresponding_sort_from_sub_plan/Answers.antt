@@ -17,22 +17,22 @@ pub is_marked-requires : goal.is_marked-requires
 is_marked-requires t c = tt
 
 pub returns-then-not-is_marked : goal.returns-then-not-is_marked
-returns-then-not-is_marked t c = unmarked c.args.m.now c.args.u c.args.h c.requires.1 c.args.single (sym c.is_marked.ensures ∙ not-true _ (ap not c.if-not-is_marked.true))
+returns-then-not-is_marked t c = unmarked c.args.m.now c.args.u c.args.h c.requires c.args.single (sym c.is_marked.ensures ∙ not-true _ (ap not c.if-not-is_marked.true))
 
 pub record_at-requires : goal.record_at-requires
-record_at-requires t c = slot_room c.args.m.now c.args.u c.args.h (standing c.args.m.now c.args.u c.args.h c.requires.1)
+record_at-requires t c = slot_room c.args.m.now c.args.u c.args.h (standing c.args.m.now c.args.u c.args.h c.requires)
 
 pub read64-r-requires : goal.read64-r-requires
 read64-r-requires t c = ap length c.record_at.ensures ∙ (view c.args.m.now c.args.u c.args.h
-    (standing c.args.m.now c.args.u c.args.h c.requires.1)).long
+    (standing c.args.m.now c.args.u c.args.h c.requires)).long
 
 pub is_sort-requires : goal.is_sort-requires
-is_sort-requires t c = own_proper c.args.m.now c.args.u c.args.h (standing c.args.m.now c.args.u c.args.h c.requires.1) _
+is_sort-requires t c = own_proper c.args.m.now c.args.u c.args.h (standing c.args.m.now c.args.u c.args.h c.requires) _
     (c.read64-r.ensures ∙ c.record_at.ensures)
 
 pub remove_sort-requires : goal.remove_sort-requires
 remove_sort-requires t c = (
-      c.requires.1,
+      c.requires,
       sym c.is_marked.ensures
           ∙ not-false _ (ap not c.if-not-is_marked.false),
       (c.read64-r.ensures ∙ c.record_at.ensures),
@@ -47,45 +47,45 @@ pub returns-then-is_sort : goal.returns-then-is_sort
 returns-then-is_sort t c = c.remove_sort.ensures
 
 pub child_count-n-requires : goal.child_count-n-requires
-child_count-n-requires t c = slot_room c.args.m.now c.args.u c.args.h (standing c.args.m.now c.args.u c.args.h c.requires.1)
+child_count-n-requires t c = slot_room c.args.m.now c.args.u c.args.h (standing c.args.m.now c.args.u c.args.h c.requires)
 
 pub loop-j-init : goal.loop-j-init
-loop-j-init t c = let g = going-none c.args.m.now c.args.u c.args.h c.requires.1 (replicate 8 0) refl in
-    (c.child_count-n.ensures ∙ (few_kids c.requires.1.arena c.requires.1.here g.made).1, omega arith, g)
+loop-j-init t c = let g = going-none c.args.m.now c.args.u c.args.h c.requires (replicate 8 0) refl in
+    (c.child_count-n.ensures ∙ (few_kids c.requires.arena c.requires.here g.made).1, omega arith, g)
 
 pub child-k-requires : goal.child-k-requires
 child-k-requires t c = let l = c.loop-j in
     let i₀ = l.invariant.0 in let i₁ = l.invariant.1 in let x = c.loop-j-test.true in
-    let f = few_kids c.requires.1.arena c.requires.1.here l.invariant.2.made in let f₀ = f.0 in let f₁ = f.1 in let wd = l.invariant.2.made.wide in
-    (node_room c.requires.1.arena c.requires.1.here l.invariant.2.made, omega arith, f.0)
+    let f = few_kids c.requires.arena c.requires.here l.invariant.2.made in let f₀ = f.0 in let f₁ = f.1 in let wd = l.invariant.2.made.wide in
+    (node_room c.requires.arena c.requires.here l.invariant.2.made, omega arith, f.0)
 
 pub wants_single-one-requires : goal.wants_single-one-requires
-wants_single-one-requires t c = own_proper c.args.m.now c.args.u c.args.h (standing c.args.m.now c.args.u c.args.h c.requires.1) _
+wants_single-one-requires t c = own_proper c.args.m.now c.args.u c.args.h (standing c.args.m.now c.args.u c.args.h c.requires) _
     (c.read64-r.ensures
     ∙ c.record_at.ensures)
 
 pub remove_corresponding_sort_from_sub_plan-a-requires : goal.remove_corresponding_sort_from_sub_plan-a-requires
 remove_corresponding_sort_from_sub_plan-a-requires t c = let l = c.loop-j in let i₀ = l.invariant.0 in let i₁ = l.invariant.1 in
     let x = c.loop-j-test.true in
-    let q = going_next c.args.m.now c.args.u c.args.h c.requires.1 l.j l.w l.kids l.m l.invariant.2 (omega arith) _
-    c.child-k.ensures in let q₀ = q.0 in let g = c.requires.0 in (omega arith, q.1)
+    let q = going_next c.args.m.now c.args.u c.args.h c.requires l.j l.w l.kids l.m l.invariant.2 (omega arith) _
+    c.child-k.ensures in let q₀ = q.0 in let g = c.decreases in (omega arith, q.1)
 
 pub offset_bounds-kids-j : goal.offset_bounds-kids-j
 offset_bounds-kids-j t c = let l = c.loop-j in let i₀ = l.invariant.0 in
     let i₁ = l.invariant.1 in let x = c.loop-j-test.true in
-    let f = few_kids c.requires.1.arena c.requires.1.here l.invariant.2.made in let f₀ = f.0 in let f₁ = f.1 in let wd = l.invariant.2.made.wide in
+    let f = few_kids c.requires.arena c.requires.here l.invariant.2.made in let f₀ = f.0 in let f₁ = f.1 in let wd = l.invariant.2.made.wide in
     omega arith
 
 pub bounds-kids-j : goal.bounds-kids-j
 bounds-kids-j t c = let l = c.loop-j in let i₀ = l.invariant.0 in
     let i₁ = l.invariant.1 in let x = c.loop-j-test.true in
-    let f = few_kids c.requires.1.arena c.requires.1.here l.invariant.2.made in let f₀ = f.0 in let f₁ = f.1 in let wd = l.invariant.2.made.wide in
+    let f = few_kids c.requires.arena c.requires.here l.invariant.2.made in let f₀ = f.0 in let f₁ = f.1 in let wd = l.invariant.2.made.wide in
     omega arith
 
 pub overflow_add-j : goal.overflow_add-j
 overflow_add-j t c = let l = c.loop-j in let i₀ = l.invariant.0 in
     let i₁ = l.invariant.1 in let x = c.loop-j-test.true in
-    let f = few_kids c.requires.1.arena c.requires.1.here l.invariant.2.made in let f₀ = f.0 in let f₁ = f.1 in let wd = l.invariant.2.made.wide in
+    let f = few_kids c.requires.arena c.requires.here l.invariant.2.made in let f₀ = f.0 in let f₁ = f.1 in let wd = l.invariant.2.made.wide in
     omega arith
 
 pub loop-j-smaller : goal.loop-j-smaller
@@ -97,7 +97,7 @@ loop-j-preserved t c = let l = c.loop-j in let i₀ = l.invariant.0 in
     let i₁ = l.invariant.1 in let x = c.loop-j-test.true in (
       i₀,
       omega arith,
-      going_more c.args.m.now c.args.u c.args.h c.requires.1 l.j l.w l.kids l.m l.invariant.2 (omega arith) _
+      going_more c.args.m.now c.args.u c.args.h c.requires l.j l.w l.kids l.m l.invariant.2 (omega arith) _
           c.child-k.ensures _ (c.wants_single-one.ensures
           ∙ ap (λ y. singles (decode y) l.j)
           (c.read64-r.ensures
@@ -108,20 +108,20 @@ loop-j-preserved t c = let l = c.loop-j in let i₀ = l.invariant.0 in
 
 pub slice_bounds-kids-end : goal.slice_bounds-kids-end
 slice_bounds-kids-end t c = let l = c.loop-j in let i₀ = l.invariant.0 in let i₁ = l.invariant.1 in let x = c.loop-j-test.false in
-    let f = few_kids c.requires.1.arena c.requires.1.here l.invariant.2.made in let f₀ = f.0 in let f₁ = f.1 in let wd = l.invariant.2.made.wide in
+    let f = few_kids c.requires.arena c.requires.here l.invariant.2.made in let f₀ = f.0 in let f₁ = f.1 in let wd = l.invariant.2.made.wide in
     omega arith
 
 pub slice_bounds-remove_by-end-2 : goal.slice_bounds-remove_by-end-2
 slice_bounds-remove_by-end-2 t c = let l = c.loop-j in let i₀ = l.invariant.0 in let i₁ = l.invariant.1 in let x = c.loop-j-test.false in
-    let f = few_kids c.requires.1.arena c.requires.1.here l.invariant.2.made in let f₀ = f.0 in let f₁ = f.1 in let wd = l.invariant.2.made.wide in
+    let f = few_kids c.requires.arena c.requires.here l.invariant.2.made in let f₀ = f.0 in let f₁ = f.1 in let wd = l.invariant.2.made.wide in
     sym (length-take-le _ l.kids (omega arith))
 
 pub remove_by-x-requires : goal.remove_by-x-requires
 remove_by-x-requires t c = let l = c.loop-j in let i₀ = l.invariant.0 in let i₁ = l.invariant.1 in let x = c.loop-j-test.false in (
-      going_rems c.args.m.now c.args.u c.args.h c.requires.1 l.j l.w l.kids l.m l.invariant.2 _ (omega arith) i₀,
+      going_rems c.args.m.now c.args.u c.args.h c.requires l.j l.w l.kids l.m l.invariant.2 _ (omega arith) i₀,
       (c.read64-r.ensures
           ∙ c.record_at.ensures)
-          ∙ ap (λ k. k.rec) (sym (same_slot c.requires.1.arena c.requires.1.here l.invariant.2.made)),
+          ∙ ap (λ k. k.rec) (sym (same_slot c.requires.arena c.requires.here l.invariant.2.made)),
       not_code (decode c.read64-r.result) 7 _
           c.is_sort.ensures
           c.if-is_sort.false,
@@ -130,7 +130,7 @@ remove_by-x-requires t c = let l = c.loop-j in let i₀ = l.invariant.0 in let i
 pub with_single_stream-requires : goal.with_single_stream-requires
 with_single_stream-requires t c = let l = c.loop-j in let i₀ = l.invariant.0 in
     let i₁ = l.invariant.1 in let x = c.loop-j-test.false in
-    end_asks c.args.m.now c.args.u c.args.h c.requires.1 l.j l.w l.kids l.m l.invariant.2 _ (omega arith) i₀ c.args.single
+    end_asks c.args.m.now c.args.u c.args.h c.requires l.j l.w l.kids l.m l.invariant.2 _ (omega arith) i₀ c.args.single
     (sym c.is_marked.ensures ∙ not-false _
     (ap not c.if-not-is_marked.false)) _ c.remove_by-x.auto.m c.remove_by-x.result
     c.remove_by-x.ensures
@@ -143,7 +143,7 @@ shape_of-m t c = c.with_single_stream.auto.m
 pub returns : goal.returns
 returns t c = let l = c.loop-j in let i₀ = l.invariant.0 in
     let i₁ = l.invariant.1 in let x = c.loop-j-test.false in
-    going_end c.args.m.now c.args.u c.args.h c.requires.1 l.j l.w l.kids l.m l.invariant.2 _ (omega arith) i₀ c.args.single
+    going_end c.args.m.now c.args.u c.args.h c.requires l.j l.w l.kids l.m l.invariant.2 _ (omega arith) i₀ c.args.single
     (sym c.is_marked.ensures
     ∙ not-false _ (ap not c.if-not-is_marked.false)) _ c.remove_by-x.auto.m
     c.remove_by-x.result
