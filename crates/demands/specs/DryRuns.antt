@@ -32,7 +32,7 @@ use Rattle.stepping.proofs.Theorems.EveryState.{never_out_of_order}
 use Rattle.step_answers.specs.Answers.{returned, output_after}
 use Rattle.stepping.proofs.Theorems.FirstJoin.{NoJoin, none_steps}
 use Rattle.stepping.proofs.Theorems.OrderOfAnswers.{RowsKeep, row_count, delivered_bytes}
-use Rattle.step_answers.specs.FileAnswers.{returns_plan, returns_0}
+use Rattle.step_answers.proofs.FileAnswers.{returns_plan, returns_0}
 use Rattle.step_answers.proofs.Outputs.{writes_delivered, delivered_fits}
 use Rattle.call_answers.specs.Answers.{check_answer}
 use Rattle.demands.specs.OrderKept.{AllFed, sorted_fed, order_kept}

@@ -1,2 +1,4 @@
 pub mod InOrder
 pub mod Outputs
+pub mod FileAnswers
+pub mod FileNumbers

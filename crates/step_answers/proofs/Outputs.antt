@@ -12,7 +12,7 @@ use Rattle.stepping.specs.Answers.{Answer, number, output}
 use Rattle.stepping.proofs.Theorems.AnswerOutputs.{left_alone, written_first, written_past}
 use Rattle.step_answers.specs.Answers.{stepped, returned, output_after}
 use Rattle.stepping.proofs.Theorems.OrderOfAnswers.{delivered_bytes, answer_writes}
-use Rattle.step_answers.specs.FileAnswers.{returns_plan, steps_plan, returns_0}
+use Rattle.step_answers.proofs.FileAnswers.{returns_plan, steps_plan, returns_0}
 
 module _ (s rows bytes out : List ℕ) where
   -- Whatever number but 0 is returned, the output is as it was

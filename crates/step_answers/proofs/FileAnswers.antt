@@ -13,7 +13,7 @@ use Rattle.stepping.specs.Answers.{answer, number}
 use Rattle.step_answers.specs.Answers.{after_reading, stepped, returned}
 use Rattle.stepping.proofs.Theorems.FirstJoin.{NoJoin, FirstJoin}
 use Rattle.stepping.proofs.Theorems.OrderOfAnswers.{RowsKeep, row_count, delivered_bytes, answer_256, answer_26, answer_27, answer_24, answer_0, answer-past_8}
-use Rattle.step_answers.specs.FileNumbers.{refused_number, same_refusal}
+use Rattle.step_answers.proofs.FileNumbers.{refused_number, same_refusal}
 
 -- s: the file; rows: the rows' bytes; bytes: the caller's list; out: the lent output
 module _ (s rows bytes out : List ℕ) where
