@@ -30,7 +30,7 @@ pub returns-then-not-s : goal.returns-then-not-s
 returns-then-not-s c = (
   bounded c.args.m.now c.args.u c.args.h c.requires _ c.record_at-r.ensures _
       c.is_sort.ensures (not-false _ (ap not c.if-not-is_sort.false)) _
-      c.child-k.ensures _ c.summary-s.ensures (not-true _ (ap not c.if-not-s.true)),
+      c.child-k.ensures _ c.summary-s.ensures (not-true _ c.if-not-s.true),
   tt,
 )
 
@@ -51,7 +51,7 @@ returns-then-n-own c = (
       c.is_sort.ensures
       (not-false _ (ap not c.if-not-is_sort.false)) _
       c.child-k.ensures _
-      c.summary-s.ensures (not-false _ (ap not c.if-not-s.false)) _
+      c.summary-s.ensures (not-false _ c.if-not-s.false) _
       c.row.ensures.1 _ c.keys-own.ensures _ c.met_keys-n.ensures
       c.if-n-own.true,
   tt,
@@ -63,6 +63,6 @@ returns c = some_met c.args.m.now c.args.u c.args.h c.requires _
     c.is_sort.ensures
     (not-false _ (ap not c.if-not-is_sort.false)) _
     c.child-k.ensures _
-    c.summary-s.ensures (not-false _ (ap not c.if-not-s.false)) _
+    c.summary-s.ensures (not-false _ c.if-not-s.false) _
     c.row.ensures.1 _ c.keys-own.ensures _ c.met_keys-n.ensures
     c.if-n-own.false
