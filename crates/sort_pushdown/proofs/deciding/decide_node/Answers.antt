@@ -96,11 +96,11 @@ returns-then-needs_merge c = let n = decode c.args.r.now in let F = told c.args.
 
 pub sort_added-requires : goal.sort_added-requires
 sort_added-requires c = (
-      c.requires.proper,
-      c.requires.here,
-      requirement_few c.args.v.req.order _ c.requires.real
-          c.in-By.is,
-    )
+  c.requires.proper,
+  c.requires.here,
+  requirement_few c.args.v.req.order _ c.requires.real
+      c.in-By.is,
+)
 
 pub returns : goal.returns
 returns c = let n = decode c.args.r.now in let F = told c.args.own.now in let L = told c.args.a.now in let R = told c.args.b.now in
