@@ -9,8 +9,8 @@ passes-requires c = here _ c.args.u c.args.h c.settle_all.ensures.0 c.requires.1
 
 pub returns : goal.returns
 returns c = λ out short. (
-      refl,
-      c.passes.ensures ∙ ap (λ t. check (plan_t t)) (tree-held c.args.m.now c.settle_all.new.m
-          c.args.h c.settle_all.ensures.1),
-      refl,
-    )
+  refl,
+  c.passes.ensures ∙ ap (λ t. check (plan_t t)) (tree-held c.args.m.now c.settle_all.new.m
+      c.args.h c.settle_all.ensures.1),
+  refl,
+)
