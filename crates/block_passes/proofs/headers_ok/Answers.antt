@@ -29,11 +29,11 @@ returns-then-not-header_ok c = let b = c.args.s.now in let pre = c.requires in l
 
 pub loop-k-preserved : goal.loop-k-preserved
 loop-k-preserved c = let b = c.args.s.now in let pre = c.requires in let l = c.loop-k in let k = l.k in (
-      search rules,
-      all_more (λ k. header_ok (block_count b) k (block b k)) k l.invariant.1
-          (holds (header_ok (block_count b) k) b (k * 512) 512 c.header_ok.result
-          (c.header_ok.ensures ∙ ap (λ (n : ℕ). header_ok n k (take (k * 512 + 512 - k * 512) (drop (k * 512) b))) pre) (ap not c.if-not-header_ok.false)),
-    )
+  search rules,
+  all_more (λ k. header_ok (block_count b) k (block b k)) k l.invariant.1
+      (holds (header_ok (block_count b) k) b (k * 512) 512 c.header_ok.result
+      (c.header_ok.ensures ∙ ap (λ (n : ℕ). header_ok n k (take (k * 512 + 512 - k * 512) (drop (k * 512) b))) pre) (ap not c.if-not-header_ok.false)),
+)
 
 pub returns : goal.returns
 unfolding headers_ok

@@ -28,10 +28,10 @@ returns-then-not-sum_ok c = let b = c.args.s.now in let pre = c.requires in let 
 
 pub loop-k-preserved : goal.loop-k-preserved
 loop-k-preserved c = let b = c.args.s.now in let pre = c.requires in let l = c.loop-k in let k = l.k in (
-      search rules,
-      all_more (λ k. sum_ok (block b k)) k l.invariant.1
-          (holds (sum_ok) b (k * 512) 512 c.sum_ok.result c.sum_ok.ensures (ap not c.if-not-sum_ok.false)),
-    )
+  search rules,
+  all_more (λ k. sum_ok (block b k)) k l.invariant.1
+      (holds (sum_ok) b (k * 512) 512 c.sum_ok.result c.sum_ok.ensures (ap not c.if-not-sum_ok.false)),
+)
 
 pub returns : goal.returns
 unfolding sums_ok

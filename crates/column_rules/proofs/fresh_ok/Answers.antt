@@ -21,10 +21,10 @@ returns-then-l-j c = let b = c.args.l.now in let k = c.loop-j.j in
 
 pub loop-j-preserved : goal.loop-j-preserved
 loop-j-preserved c = let b = c.args.l.now in let l = c.loop-j in let k = l.j in (
-      search rules,
-      all_more (λ j. not (eqb (get_or b j 0) (get_or b c.args.i 0))) k l.invariant.1
-          (ap not (ne_eqb (get_or b k 0) (get_or b c.args.i 0) c.if-l-j.false)),
-    )
+  search rules,
+  all_more (λ j. not (eqb (get_or b j 0) (get_or b c.args.i 0))) k l.invariant.1
+      (ap not (ne_eqb (get_or b k 0) (get_or b c.args.i 0) c.if-l-j.false)),
+)
 
 pub returns : goal.returns
 unfolding fresh_ok

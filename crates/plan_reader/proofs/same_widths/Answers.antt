@@ -21,10 +21,10 @@ returns-then-ws-i c = let b = c.args.ws.now in let k = c.loop-i.i in
 
 pub loop-i-preserved : goal.loop-i-preserved
 loop-i-preserved c = let b = c.args.ws.now in let l = c.loop-i in let k = l.i in (
-      search rules,
-      all_more (λ i. eqb (get_or b i 0) (get_or b 0 0)) k l.invariant.1
-          (eq-eqb (get_or b k 0) (get_or b 0 0) (c.if-ws-i.false ∙ c.at_or_zero-x.ensures)),
-    )
+  search rules,
+  all_more (λ i. eqb (get_or b i 0) (get_or b 0 0)) k l.invariant.1
+      (eq-eqb (get_or b k 0) (get_or b 0 0) (c.if-ws-i.false ∙ c.at_or_zero-x.ensures)),
+)
 
 pub returns : goal.returns
 unfolding same_widths

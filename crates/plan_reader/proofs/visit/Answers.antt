@@ -5,7 +5,7 @@ use Rattle.plan_reader.proofs.visit.Goals as goal
 
 pub returns : goal.returns
 returns c = record {
-      is = c.node_refusal-x.ensures;
-      wide = c.width_of-width.ensures ∙ ap (λ (g : Fields). width_of g c.args.r.now c.args.ws.now)
-          c.fields_of-f.ensures;
-    }
+  is = c.node_refusal-x.ensures;
+  wide = c.width_of-width.ensures ∙ ap (λ (g : Fields). width_of g c.args.r.now c.args.ws.now)
+      c.fields_of-f.ensures;
+}
