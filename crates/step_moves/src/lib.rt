@@ -78,10 +78,10 @@ pub fn step(
     flags: &mut [bool],
 ) -> Progress
     requires { Ready m.now u slots.now nodes.now n gone waiter b (length flags.old)
-        (record { cells = cells.now; nulls = nulls.old; widths = widths.old; places = places.old; order = order.old; counts = counts.old; held = held.old; queued = queued.old }) }
+        (record { cells = cells.old; nulls = nulls.old; widths = widths.old; places = places.old; order = order.old; counts = counts.old; held = held.old; queued = queued.old }) }
     ensures { StepsOn m.now u slots.now nodes.now n gone (length flags.old)
-        (record { cells = cells.entry.now; nulls = nulls.old; widths = widths.old; places = places.old; order = order.old; counts = counts.old; held = held.old; queued = queued.old })
-        (record { cells = cells.exit.now; nulls = nulls.new; widths = widths.new; places = places.new; order = order.new; counts = counts.new; held = held.new; queued = queued.new })
+        (record { cells = cells.old; nulls = nulls.old; widths = widths.old; places = places.old; order = order.old; counts = counts.old; held = held.old; queued = queued.old })
+        (record { cells = cells.new; nulls = nulls.new; widths = widths.new; places = places.new; order = order.new; counts = counts.new; held = held.new; queued = queued.new })
         bytes.now b result.moved result.next }
 {
     let o = next_operator(flags, held, queued, nodes, n, waiter, bytes, b);
@@ -143,10 +143,10 @@ pub fn run(
     flags: &mut [bool],
 )
     requires { Begun m.now u slots.now nodes.now n gone (length flags.old)
-        (record { cells = cells.now; nulls = nulls.old; widths = widths.old; places = places.old; order = order.old; counts = counts.old; held = held.old; queued = queued.old }) }
+        (record { cells = cells.old; nulls = nulls.old; widths = widths.old; places = places.old; order = order.old; counts = counts.old; held = held.old; queued = queued.old }) }
     ensures { RunsOn m.now u slots.now nodes.now n gone (length flags.old)
         (record {
-          cells = cells.entry.now;
+          cells = cells.old;
           nulls = nulls.old;
           widths = widths.old;
           places = places.old;
@@ -156,7 +156,7 @@ pub fn run(
           queued = queued.old;
         })
         (record {
-          cells = cells.exit.now;
+          cells = cells.new;
           nulls = nulls.new;
           widths = widths.new;
           places = places.new;
