@@ -15,21 +15,21 @@ use Prim.Native.Nat.{ℕ}
 use Rattle.pushdown_sorts.proofs.walking.+push_at.Goals as goal
 
 pub decide_at-d-requires : goal.decide_at-d-requires
-decide_at-d-requires t c = let p = c.requires.1 in p.visits
+decide_at-d-requires t c = let p = c.requires in p.visits
 
 pub record_at-requires : goal.record_at-requires
 record_at-requires t c = let a = c.args.a.now in let ua = c.args.ua in let h = c.args.h in
-    let b = c.args.b.now in let v = c.args.v in let vi = c.args.visit in let n = c.args.count in let p = c.requires.1 in let q₁ = p.visits.here in
+    let b = c.args.b.now in let v = c.args.v in let vi = c.args.visit in let n = c.args.count in let p = c.requires in let q₁ = p.visits.here in
     let q₂ = p.visits.from.slots in omega arith
 
 pub kept_at-requires : goal.kept_at-requires
 kept_at-requires t c = let a = c.args.a.now in let ua = c.args.ua in let h = c.args.h in
-    let b = c.args.b.now in let v = c.args.v in let vi = c.args.visit in let n = c.args.count in let p = c.requires.1 in let q₁ = p.visits.here in
+    let b = c.args.b.now in let v = c.args.v in let vi = c.args.visit in let n = c.args.count in let p = c.requires in let q₁ = p.visits.here in
     let q₂ = p.visits.from.slots in omega arith
 
 pub step_at-s-requires : goal.step_at-s-requires
 step_at-s-requires t c = let a = c.args.a.now in let ua = c.args.ua in
-    let h = c.args.h in let b = c.args.b.now in let v = c.args.v in let vi = c.args.visit in let n = c.args.count in let p = c.requires.1 in
+    let h = c.args.h in let b = c.args.b.now in let v = c.args.v in let vi = c.args.visit in let n = c.args.count in let p = c.requires in
     let d = c.decide_at-d.ensures in let lo = p.low in let hi = p.high in (
       subst⁻¹ Proper c.record_at.ensures (proper_at a ua (h / 2) p.visits.from (low_i a ua h b v vi n p)),
       (own_tells a ua (h / 2)
@@ -43,7 +43,7 @@ step_at-s-requires t c = let a = c.args.a.now in let ua = c.args.ua in
 pub returns-in_default : goal.returns-in_default
 returns-in_default t c = let a = c.args.a.now in
     let ua = c.args.ua in let h = c.args.h in let b = c.args.b.now in let v = c.args.v in let vi = c.args.visit in let n = c.args.count in
-    let p = c.requires.1 in step_ends a ua h b v vi n p c.decide_at-d.result
+    let p = c.requires in step_ends a ua h b v vi n p c.decide_at-d.result
     c.decide_at-d.ensures _ _ c.record_at.ensures
     c.kept_at.ensures c.step_at-s.result c.step_at-s.ensures _
     c.in_default.is c.refused.result c.refused.ensures b
@@ -51,12 +51,12 @@ returns-in_default t c = let a = c.args.a.now in
 pub child_count-n-requires : goal.child_count-n-requires
 child_count-n-requires t c = let a = c.args.a.now in
     let ua = c.args.ua in let h = c.args.h in let b = c.args.b.now in let v = c.args.v in let vi = c.args.visit in let n = c.args.count in
-    let p = c.requires.1 in let q₁ = p.visits.here in let q₂ = p.visits.from.slots in omega arith
+    let p = c.requires in let q₁ = p.visits.here in let q₂ = p.visits.from.slots in omega arith
 
 pub loop-j-init : goal.loop-j-init
 loop-j-init t c = let a = c.args.a.now in
     let ua = c.args.ua in let h = c.args.h in let b = c.args.b.now in let v = c.args.v in let vi = c.args.visit in let n = c.args.count in
-    let p = c.requires.1 in let go = goes_on a ua h b v vi n p c.decide_at-d.result
+    let p = c.requires in let go = goes_on a ua h b v vi n p c.decide_at-d.result
     c.decide_at-d.ensures _ _
     c.record_at.ensures c.kept_at.ensures
     c.step_at-s.result c.step_at-s.ensures _ c.in-On.is in (
@@ -69,20 +69,20 @@ loop-j-init t c = let a = c.args.a.now in
 
 pub child-k-requires : goal.child-k-requires
 child-k-requires t c = let a = c.args.a.now in let ua = c.args.ua in let h = c.args.h in let b = c.args.b.now in let v = c.args.v in let vi = c.args.visit in
-    let n = c.args.count in let p = c.requires.1 in let q₁ = p.visits.here in let q₂ = p.visits.from.slots in let l = c.loop-j in
+    let n = c.args.count in let p = c.requires in let q₁ = p.visits.here in let q₂ = p.visits.from.slots in let l = c.loop-j in
     let i₀ = l.invariant.0 in let i₁ = l.invariant.1 in let k = shown a ua (h / 2) p.visits.from (low_i a ua h b v vi n p) in let kf = k.few in
     let kc = k.count in let x = c.loop-j-test.true in (omega arith, omega arith, omega arith)
 
 pub fetch_at-requires : goal.fetch_at-requires
 fetch_at-requires t c = let a = c.args.a.now in let ua = c.args.ua in let h = c.args.h in let b = c.args.b.now in let v = c.args.v in let vi = c.args.visit in
-    let n = c.args.count in let p = c.requires.1 in let q₁ = p.visits.here in let q₂ = p.visits.from.slots in let l = c.loop-j in
+    let n = c.args.count in let p = c.requires in let q₁ = p.visits.here in let q₂ = p.visits.from.slots in let l = c.loop-j in
     let i₀ = l.invariant.0 in let i₁ = l.invariant.1 in let k = shown a ua (h / 2) p.visits.from (low_i a ua h b v vi n p) in let kf = k.few in
     let kc = k.count in let x = c.loop-j-test.true in let e = c.child-k.ensures in
     let bl = below_at (2 * (h / 2)) (slot a (h / 2)).kids l.j k.below (omega arith) in here a ua _ p.visits.from (omega arith)
 
 pub push_at-r-requires : goal.push_at-r-requires
 push_at-r-requires t c = let a = c.args.a.now in let ua = c.args.ua in let h = c.args.h in let b = c.args.b.now in let v = c.args.v in let vi = c.args.visit in
-    let n = c.args.count in let p = c.requires.1 in
+    let n = c.args.count in let p = c.requires in
     let go = goes_on a ua h b v vi n p
     c.decide_at-d.result
     c.decide_at-d.ensures _ _
@@ -99,7 +99,7 @@ push_at-r-requires t c = let a = c.args.a.now in let ua = c.args.ua in let h = c
     c.in-On.after go.1 go.0 l.j l.w l.m l.kids l.b l.invariant.2
     (omega arith) c.child_visit-below.result c.fetch_at.result
     (c.fetch_at.ensures ∙ ap (λ (y : ℕ). fetch_t (tree_of a y)) c.child-k.ensures)
-    c.child_visit-below.ensures.0 c.child_visit-below.ensures.1 in let q₀ = q.0 in let g = c.requires.0 in
+    c.child_visit-below.ensures.0 c.child_visit-below.ensures.1 in let q₀ = q.0 in
     rw c.child-k.ensures (omega arith, q.1)
 
 pub shape_of-b-in_default-r : goal.shape_of-b-in_default-r
@@ -108,7 +108,7 @@ shape_of-b-in_default-r t c = c.push_at-r.auto.b
 
 pub returns-in_default-r : goal.returns-in_default-r
 returns-in_default-r t c = let a = c.args.a.now in let ua = c.args.ua in let h = c.args.h in let b = c.args.b.now in let v = c.args.v in
-    let vi = c.args.visit in let n = c.args.count in let p = c.requires.1 in
+    let vi = c.args.visit in let n = c.args.count in let p = c.requires in
     let go = goes_on a ua h b v vi n p
     c.decide_at-d.result c.decide_at-d.ensures _ _
     c.record_at.ensures c.kept_at.ensures c.step_at-s.result
@@ -130,14 +130,14 @@ returns-in_default-r t c = let a = c.args.a.now in let ua = c.args.ua in let h =
 
 pub offset_bounds-kids-j : goal.offset_bounds-kids-j
 offset_bounds-kids-j t c = let a = c.args.a.now in let ua = c.args.ua in let h = c.args.h in let b = c.args.b.now in
-    let v = c.args.v in let vi = c.args.visit in let n = c.args.count in let p = c.requires.1 in
+    let v = c.args.v in let vi = c.args.visit in let n = c.args.count in let p = c.requires in
     let l = c.loop-j in let i₀ = l.invariant.0 in let i₁ = l.invariant.1 in
     let k = shown a ua (h / 2) p.visits.from (low_i a ua h b v vi n p) in let kf = k.few in let kc = k.count in
     let x = c.loop-j-test.true in omega arith
 
 pub bounds-kids-j : goal.bounds-kids-j
 bounds-kids-j t c = let a = c.args.a.now in let ua = c.args.ua in let h = c.args.h in let b = c.args.b.now in
-    let v = c.args.v in let vi = c.args.visit in let n = c.args.count in let p = c.requires.1 in
+    let v = c.args.v in let vi = c.args.visit in let n = c.args.count in let p = c.requires in
     let l = c.loop-j in let i₀ = l.invariant.0 in let i₁ = l.invariant.1 in
     let k = shown a ua (h / 2) p.visits.from (low_i a ua h b v vi n p) in let kf = k.few in let kc = k.count in
     let x = c.loop-j-test.true in let g = l.invariant.2.made.wide in
@@ -145,7 +145,7 @@ bounds-kids-j t c = let a = c.args.a.now in let ua = c.args.ua in let h = c.args
 
 pub overflow_add-j : goal.overflow_add-j
 overflow_add-j t c = let a = c.args.a.now in let ua = c.args.ua in let h = c.args.h in
-    let b = c.args.b.now in let v = c.args.v in let vi = c.args.visit in let n = c.args.count in let p = c.requires.1 in
+    let b = c.args.b.now in let v = c.args.v in let vi = c.args.visit in let n = c.args.count in let p = c.requires in
     let l = c.loop-j in let i₀ = l.invariant.0 in let i₁ = l.invariant.1 in
     let k = shown a ua (h / 2) p.visits.from (low_i a ua h b v vi n p) in let kf = k.few in let kc = k.count in
     let x = c.loop-j-test.true in omega arith
@@ -155,7 +155,7 @@ loop-j-smaller t c = let x = c.loop-j-test.true in omega arith
 
 pub loop-j-preserved : goal.loop-j-preserved
 loop-j-preserved t c = let a = c.args.a.now in let ua = c.args.ua in let h = c.args.h in let b = c.args.b.now in
-    let v = c.args.v in let vi = c.args.visit in let n = c.args.count in let p = c.requires.1 in
+    let v = c.args.v in let vi = c.args.visit in let n = c.args.count in let p = c.requires in
     let go = goes_on a ua h b v vi n p
     c.decide_at-d.result c.decide_at-d.ensures _ _
     c.record_at.ensures c.kept_at.ensures c.step_at-s.result c.step_at-s.ensures _ c.in-On.is in let l = c.loop-j in let i₀ = l.invariant.0 in
@@ -179,21 +179,21 @@ loop-j-preserved t c = let a = c.args.a.now in let ua = c.args.ua in let h = c.a
 
 pub slice_bounds-kids-end : goal.slice_bounds-kids-end
 slice_bounds-kids-end t c = let a = c.args.a.now in let ua = c.args.ua in let h = c.args.h in let b = c.args.b.now in let v = c.args.v in let vi = c.args.visit in
-    let n = c.args.count in let p = c.requires.1 in let l = c.loop-j in let i₀ = l.invariant.0 in let i₁ = l.invariant.1 in
+    let n = c.args.count in let p = c.requires in let l = c.loop-j in let i₀ = l.invariant.0 in let i₁ = l.invariant.1 in
     let k = shown a ua (h / 2) p.visits.from (low_i a ua h b v vi n p) in let kf = k.few in let kc = k.count in let g = l.invariant.2.made.wide in
     omega arith
 
 pub slice_bounds-carry_out-end : goal.slice_bounds-carry_out-end
 slice_bounds-carry_out-end t c = let a = c.args.a.now in
     let ua = c.args.ua in let h = c.args.h in let b = c.args.b.now in let v = c.args.v in let vi = c.args.visit in let n = c.args.count in
-    let p = c.requires.1 in let l = c.loop-j in let i₀ = l.invariant.0 in let i₁ = l.invariant.1 in
+    let p = c.requires in let l = c.loop-j in let i₀ = l.invariant.0 in let i₁ = l.invariant.1 in
     let k = shown a ua (h / 2) p.visits.from (low_i a ua h b v vi n p) in let kf = k.few in let kc = k.count in let g = l.invariant.2.made.wide in
     sym (length-take-le _ l.kids (omega arith))
 
 pub carry_out-z-requires : goal.carry_out-z-requires
 carry_out-z-requires t c = let a = c.args.a.now in
     let ua = c.args.ua in let h = c.args.h in let b = c.args.b.now in let v = c.args.v in let vi = c.args.visit in let n = c.args.count in
-    let p = c.requires.1 in let go =
+    let p = c.requires in let go =
     goes_on a ua h b v vi n p c.decide_at-d.result
     c.decide_at-d.ensures _ _
     c.record_at.ensures
@@ -212,7 +212,7 @@ shape_of-b t c = c.carry_out-z.auto.b ∙ c.loop-j.invariant.2.made.long
 
 pub returns : goal.returns
 returns t c = let a = c.args.a.now in let ua = c.args.ua in let h = c.args.h in let b = c.args.b.now in let v = c.args.v in let vi = c.args.visit in
-    let n = c.args.count in let p = c.requires.1 in
+    let n = c.args.count in let p = c.requires in
     let go = goes_on a ua h b v vi n p
     c.decide_at-d.result
     c.decide_at-d.ensures _ _
