@@ -38,10 +38,10 @@ child-k-requires c = let l = c.loop-j in let i₀ = l.invariant.0 in let i₁ = 
 
 pub maintains_child-keeps-requires : goal.maintains_child-keeps-requires
 maintains_child-keeps-requires c = let l = c.loop-j in let i₀ = l.invariant.0 in let i₁ = l.invariant.1 in let x = c.loop-j-test.true in (
-      still c.args.m.now c.args.u c.args.h c.requires l.j l.w l.kids l.m l.invariant.2,
-      kid_there c.requires.arena c.requires.here
-          l.invariant.2.made (omega arith),
-    )
+  still c.args.m.now c.args.u c.args.h c.requires l.j l.w l.kids l.m l.invariant.2,
+  kid_there c.requires.arena c.requires.here
+      l.invariant.2.made (omega arith),
+)
 
 pub wants_single-single-requires : goal.wants_single-single-requires
 wants_single-single-requires c = own_proper c.args.m.now c.args.u c.args.h (standing c.args.m.now c.args.u c.args.h c.requires) _

@@ -37,8 +37,8 @@ child-k-requires t c = kid_asks c.args.m.now c.args.u c.args.h (standing c.args.
     (step_low c.args.m.now c.args.u c.args.h c.requires c.args.n c.if-n-eq0.false _
     c.locate-p.ensures _ c.child_count.ensures c.if-j-child_count.false)
 
-pub enum_told-1 : goal.enum_told-1
-enum_told-1 t c = let q = step_asks c.args.m.now c.args.u c.args.h c.requires c.args.n
+pub partially_sorted-below-requires : goal.partially_sorted-below-requires
+partially_sorted-below-requires t c = let q = step_asks c.args.m.now c.args.u c.args.h c.requires c.args.n
     c.if-n-eq0.false _ c.locate-p.ensures _
     c.child_count.ensures c.if-j-child_count.false _ c.child-k.ensures in let q₀ = q.0 in
     let g = c.decreases in (omega arith, q.1)

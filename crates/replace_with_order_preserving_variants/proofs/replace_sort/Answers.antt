@@ -18,8 +18,8 @@ pub fetch-requires : goal.fetch-requires
 fetch-requires c = let m = c.args.m.now in
     let u = c.args.u in let r = c.args.r.now in let h = c.args.h in let i = c.args.i in let p = c.requires in (sorting m u r h i p).proper
 
-pub row-requires-2 : goal.row-requires-2
-row-requires-2 c = let m = c.args.m.now in let u = c.args.u in
+pub plan_with_order_preserving_variants-a-requires : goal.plan_with_order_preserving_variants-a-requires
+plan_with_order_preserving_variants-a-requires c = let m = c.args.m.now in let u = c.args.u in
     let r = c.args.r.now in let h = c.args.h in let i = c.args.i in let p = c.requires in sorting_asks m u r h i p c.args.s _ c.fetch.ensures
 
 pub row-requires-2 : goal.row-requires-2

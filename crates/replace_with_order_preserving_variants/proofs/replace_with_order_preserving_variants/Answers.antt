@@ -4,8 +4,8 @@ use Rattle.scan.specs.Below.{and_left, and_right}
 use Rattle.replace_with_order_preserving_variants.specs.Step.{few, step_updating, step_proper, counted, step_puts, step_hint, step_sorting, step_sort, step_other}
 use Rattle.replace_with_order_preserving_variants.proofs.replace_with_order_preserving_variants.Goals as goal
 
-pub bounds-kids-0 : goal.bounds-kids-0
-bounds-kids-0 c = let m = c.args.m.now in let u = c.args.u in
+pub update_order_preservation_ctx_children_data-c-requires : goal.update_order_preservation_ctx_children_data-c-requires
+update_order_preservation_ctx_children_data-c-requires c = let m = c.args.m.now in let u = c.args.u in
     let r = c.args.r.now in let ks = c.args.ks.now in let i = c.args.i in let p = c.requires in step_updating m u r ks i p
 
 pub is_sort-requires : goal.is_sort-requires
@@ -38,11 +38,11 @@ slice_bounds-put_again-end c = let m = c.args.m.now in let u = c.args.u in let r
 
 pub put_again-requires : goal.put_again-requires
 put_again-requires c = let m = c.args.m.now in let u = c.args.u in let r = c.args.r.now in let ks = c.args.ks.now in let i = c.args.i in let p = c.requires in (
-      step_puts m u r ks i p c.args.s _ _ _
-          c.update_order_preservation_ctx_children_data-c.ensures,
-      step_hint m u r ks i p
-          c.args.s _ _ _ c.update_order_preservation_ctx_children_data-c.ensures,
-    )
+  step_puts m u r ks i p c.args.s _ _ _
+      c.update_order_preservation_ctx_children_data-c.ensures,
+  step_hint m u r ks i p
+      c.args.s _ _ _ c.update_order_preservation_ctx_children_data-c.ensures,
+)
 
 pub returns : goal.returns
 returns c = let m = c.args.m.now in let u = c.args.u in let r = c.args.r.now in let ks = c.args.ks.now in let i = c.args.i in let p = c.requires in

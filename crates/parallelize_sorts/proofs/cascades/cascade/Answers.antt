@@ -86,7 +86,7 @@ returns c = merge_grown c.args.m.now
     c.args.u c.args.r.now c.args.h
     c.requires.0 (is_cascaded c.args.m.now
     c.args.u c.args.r.now c.args.h
-    c.requires.0 c.get_sort_exprs-e.result c.get_sort_exprs-e.ensures c.requires.1).pass _ c.remove_bottleneck_in_subplan-a.kept.0
+    c.requires.0 c.get_sort_exprs-e.result c.get_sort_exprs-e.ensures c.requires.1).pass _ c.remove_bottleneck_in_subplan-a.auto.m
     c.remove_bottleneck_in_subplan-a.result
     c.remove_bottleneck_in_subplan-a.ensures
     c.get_sort_exprs-e.result
