@@ -1,11 +1,7 @@
-pub mod OrderKept
 pub mod Walks
+pub mod OrderKept
+pub mod CheckedFiles
+pub mod DryRuns
 pub mod PlanKept
 pub mod RowsKept
-pub mod EnsurePasses
-pub mod ChecksKept
-pub mod AcceptedRuns
-pub mod CheckedFiles
 pub mod RewrittenFiles
-pub mod SortedAlready
-pub mod DryRuns

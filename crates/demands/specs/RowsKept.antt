@@ -1,23 +1,10 @@
--- Demand 3, rows: where a tree has no join, aggregate, limit or fetch, then for each of the four walks, whatever its settings and whatever rows the
--- sources hold (declared facts kept or not), every run of the tree given and every run of the tree returned, on the same source rows and
--- filter tests, however a source's rows are spread over its streams, deliver the same rows, each as often, over all the root's streams.
--- Definitions: Plan, well_formed (plan); Env, Run, SameInputs (semantics); ensured, parallelized, preserved, pushed, clear (walks).
-use Rattle.std.specs.Prelude.{◌≡◌, true, List, [], ℕ, get_or}
+-- What a run delivers, and how often a row is in it. These are definitions.
+use Rattle.std.specs.Prelude.{List, [], ℕ, get_or}
 use Rattle.row_order.specs.Iso.{Row}
 use Rattle.row_order.specs.RowLists.{row_discrete}
 use Rattle.row_order.specs.Lists.{concat, sum, one}
-use Rattle.row_order.specs.ListLaws.{same_refl}
 use Rattle.plan.specs.Forest.{Forest, roots}
-use Rattle.plan.specs.Op.{Plan}
-use Rattle.plan.specs.WellFormed.{well_formed}
-use Rattle.semantics.specs.Runs.{Env, Run, SameInputs, Streams}
-use Rattle.semantics.proofs.Theorems.Common.Streams.{each_at}
-use Rattle.walks.specs.Counted.{answered}
-use Rattle.walks.specs.Terms.{clear}
-use Rattle.walks.proofs.Theorems.Common.Rows.{same_plan_rows}
-use Rattle.walks.proofs.Theorems.Calls.Answers.{well_fit}
-use Rattle.demands.specs.Walks.{answer, Walk}
-use Rattle.demands.specs.PlanKept.{answer_plan}
+use Rattle.semantics.specs.Runs.{Streams}
 
 -- What the root of a run delivers: the rows of all its streams
 abbrev pub delivered : Forest Streams → List Row
@@ -26,8 +13,3 @@ delivered out = concat (get_or (roots out) 0 [])
 -- How often a row stands in a list
 abbrev pub times : Row → List Row → ℕ
 times r l = sum (λ x. one (row_discrete x r)) l
-
-pub rows_kept : (w : Walk) (f g : Plan) → well_formed f ≡ true → clear f ≡ true → answer w f ≡ answered g → (E E' : Env) → SameInputs E E' f
-    → (a b : Forest Streams) → Run E 0 0 f a → Run E' 0 0 g b → (r : Row) → times r (delivered a) ≡ times r (delivered b)
-rows_kept w f g e c h E E' d a b x y r = (each_at [] [] (same_refl []) (same_plan_rows f g d (well_fit f e) c (answer_plan w f g e h) x y) 0).sums
-    (λ z. one (row_discrete z r))

@@ -4,7 +4,7 @@ use Prim.Native.Nat.{ℕ}
 use native.Mathlib.Omega.{arith}
 use borrow.Author.Tests.{eqb-true, ne_eqb}
 use Rattle.scan.specs.Bytes.{AllBytes}
-use Rattle.demands.specs.CheckedFiles.{checked_feeds, told, told-refused}
+use Rattle.demands.proofs.CheckedFiles.{checked_feeds, told, told-refused}
 use Rattle.feeds_in_order.proofs.feeds_in_order.Goals as goal
 
 pub returns-then-number-eq0 : goal.returns-then-number-eq0

@@ -13,9 +13,10 @@ use Rattle.walks.specs.Counted.{answered, ensured}
 use Rattle.walks.proofs.Theorems.Ensure.Passes.{ensure_passes as ensure-check}
 use Rattle.walks.proofs.Theorems.Ensure.Sound.{sources_kept}
 use Rattle.walks.proofs.Theorems.Calls.Answers.{ensured_is, up_answers, well_fit}
-use Rattle.demands.specs.OrderKept.{AllFed, order_kept}
+use Rattle.demands.specs.OrderKept.{AllFed}
+use Rattle.demands.proofs.OrderKept.{order_kept}
 use Rattle.demands.specs.Walks.{ensuring}
-use Rattle.demands.specs.PlanKept.{answer_plan}
+use Rattle.demands.proofs.PlanKept.{answer_plan}
 
 pub ensure_passes : (f g : Plan) → well_formed f ≡ true → ensured f ≡ answered g → check g ≡ true
 ensure_passes f g e h =

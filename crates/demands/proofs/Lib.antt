@@ -1,0 +1,10 @@
+pub mod OrderKept
+pub mod EnsurePasses
+pub mod RowsKept
+pub mod CheckedFiles
+pub mod RewrittenFiles
+pub mod SortedAlready
+pub mod AcceptedRuns
+pub mod ChecksKept
+pub mod DryRuns
+pub mod PlanKept
