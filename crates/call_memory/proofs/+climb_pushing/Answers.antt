@@ -8,25 +8,25 @@ use Rattle.call_memory.proofs.+climb_pushing.Goals as goal
 
 -- what the rung answered, and left in the output
 pub push_in_126-requires : goal.push_in_126-requires
-push_in_126-requires t c = c.requires.1.1
+push_in_126-requires t c = c.requires.1
 
 pub returns-then-slots-gt63 : goal.returns-then-slots-gt63
 returns-then-slots-gt63 t c = c.push_in_126.ensures
 
 pub push_in_7-r-requires : goal.push_in_7-r-requires
-push_in_7-r-requires t c = let p = c.requires.1.2 in let x = c.if-slots-lt8.true in omega arith
+push_in_7-r-requires t c = let p = c.requires.2 in let x = c.if-slots-lt8.true in omega arith
 
 pub push_in_21-r-requires : goal.push_in_21-r-requires
-push_in_21-r-requires t c = let p = c.requires.1.2 in let x = c.if-slots-lt22.true in omega arith
+push_in_21-r-requires t c = let p = c.requires.2 in let x = c.if-slots-lt22.true in omega arith
 
 pub push_in_63-r-requires : goal.push_in_63-r-requires
-push_in_63-r-requires t c = let p = c.requires.1.2 in let x = c.if-slots-gt63.false in omega arith
+push_in_63-r-requires t c = let p = c.requires.2 in let x = c.if-slots-gt63.false in omega arith
 
 pub overflow_mul-slots : goal.overflow_mul-slots
 overflow_mul-slots t c = let x = c.if-slots-gt63.false in omega arith
 
 pub climb_pushing-requires : goal.climb_pushing-requires
-climb_pushing-requires t c = let p = c.requires.1 in let m = c.requires.0 in let x = c.if-slots-gt63.false in let y = p.0 in let z = p.2 in
+climb_pushing-requires t c = let p = c.requires in let m = c.decreases in let x = c.if-slots-gt63.false in let y = p.0 in let z = p.2 in
     (omega arith, (p.0, p.1, omega arith))
 
 pub shape_of-out-in_default-r : goal.shape_of-out-in_default-r

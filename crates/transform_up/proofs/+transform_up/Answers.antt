@@ -12,20 +12,20 @@ use Rattle.transform_up.specs.Frame.{Walking, Outcome, shown, slot_is, walking_n
 use Rattle.transform_up.proofs.+transform_up.Goals as goal
 
 pub child_count-count-requires : goal.child_count-count-requires
-child_count-count-requires t c = let p = c.requires.1 in let w = c.args.w in let m₀ = c.args.m.now in
+child_count-count-requires t c = let p = c.requires in let w = c.args.w in let m₀ = c.args.m.now in
     let v = c.args.v in let i = c.args.i in let n = c.args.n in let k = c.args.c.now in let a = p.arena.slots in let b = p.here in omega arith
 
 pub overflow_mul-i : goal.overflow_mul-i
-overflow_mul-i t c = let p = c.requires.1 in let w = c.args.w in let m₀ = c.args.m.now in
+overflow_mul-i t c = let p = c.requires in let w = c.args.w in let m₀ = c.args.m.now in
     let v = c.args.v in let i = c.args.i in let n = c.args.n in let k = c.args.c.now in let a = p.arena.small in let b = p.here in omega arith
 
 pub nodes-was-requires : goal.nodes-was-requires
-nodes-was-requires t c = let p = c.requires.1 in let w = c.args.w in
+nodes-was-requires t c = let p = c.requires in let w = c.args.w in
     let m₀ = c.args.m.now in let v = c.args.v in let i = c.args.i in let n = c.args.n in let k = c.args.c.now in let b = p.here in
     here _ _ _ p.arena (omega arith)
 
 pub loop-left-init : goal.loop-left-init
-loop-left-init t c = let p = c.requires.1 in let w = c.args.w in
+loop-left-init t c = let p = c.requires in let w = c.args.w in
     let m₀ = c.args.m.now in let v = c.args.v in let i = c.args.i in let n = c.args.n in let k = c.args.c.now in
     let zero_is : 0 ≡ c.child_count-count.result - c.child_count-count.result = omega arith in (
       c.child_count-count.ensures,
@@ -39,7 +39,7 @@ pub overflow_sub-j : goal.overflow_sub-j
 overflow_sub-j t c = let l = c.loop-left in let jl = l.invariant.3 in jl
 
 pub child-h-requires : goal.child-h-requires
-child-h-requires t c = let p = c.requires.1 in
+child-h-requires t c = let p = c.requires in
     let w = c.args.w in let m₀ = c.args.m.now in let v = c.args.v in let i = c.args.i in let n = c.args.n in let k = c.args.c.now in
     let l = c.loop-left in let cn = c.child_count-count.result in let e = l.invariant.0 in let lc = l.invariant.2 in
     let jl = l.invariant.3 in let q = l.invariant.4 in let si = slot_is w m₀ v i n k p (cn - l.left) l.u l.k l.kids l.m q in
@@ -47,13 +47,13 @@ child-h-requires t c = let p = c.requires.1 in
     let x = c.loop-left-test.true in (omega arith, rw (si) (omega arith), rw (si) (omega arith))
 
 pub transform_up-r-requires : goal.transform_up-r-requires
-transform_up-r-requires t c = let p = c.requires.1 in let w = c.args.w in let m₀ = c.args.m.now in let v = c.args.v in let i = c.args.i in let n = c.args.n in
+transform_up-r-requires t c = let p = c.requires in let w = c.args.w in let m₀ = c.args.m.now in let v = c.args.v in let i = c.args.i in let n = c.args.n in
     let k = c.args.c.now in let l = c.loop-left in
     let cn = c.child_count-count.result in let e = l.invariant.0 in let lc = l.invariant.2 in
     let jl = l.invariant.3 in let q = l.invariant.4 in let si = slot_is w m₀ v i n k p (cn - l.left) l.u l.k l.kids l.m q in
     let z = shown w m₀ v i n k p in let zc = z.count in let zf = z.few in let big = p.arena.slots in let ih = p.here in let lo = q.made.long in
-    let ce = (c.child-h.ensures ∙ ap (λ s. get_or c.kids (cn - l.left) 0) si) in
-    let x = c.loop-left-test.true in let g = c.requires.0 in
+    let ce = (c.child-h.ensures ∙ ap (λ s. get_or s.kids (cn - l.left) 0) si) in
+    let x = c.loop-left-test.true in let g = c.decreases in
     let r = walking_next w m₀ v i n k p (cn - l.left) l.u l.k l.kids l.m q (omega arith) _ lc in let r₀ = r.0 in rw ce (omega arith, r.1)
 
 pub shape_of-m-in_default : goal.shape_of-m-in_default
@@ -65,22 +65,22 @@ shape_of-c-in_default t c = let l = c.loop-left in
     let lc = l.invariant.2 in c.transform_up-r.auto.c ∙ lc
 
 pub returns-in_default : goal.returns-in_default
-returns-in_default t c = let p = c.requires.1 in let w = c.args.w in let m₀ = c.args.m.now in let v = c.args.v in let i = c.args.i in let n = c.args.n in
+returns-in_default t c = let p = c.requires in let w = c.args.w in let m₀ = c.args.m.now in let v = c.args.v in let i = c.args.i in let n = c.args.n in
     let k = c.args.c.now in let l = c.loop-left in
     let cn = c.child_count-count.result
     in let e = l.invariant.0 in let lc = l.invariant.2 in let jl = l.invariant.3 in let q = l.invariant.4 in
     let si = slot_is w m₀ v i n k p (cn - l.left) l.u l.k l.kids l.m q in let z = shown w m₀ v i n k p in let zc = z.count in
     let zf = z.few in let big = p.arena.slots in let ih = p.here in let lo = q.made.long in
-    let ce = (c.child-h.ensures ∙ ap (λ s. get_or c.kids (cn - l.left) 0) si) in
-    let x = c.loop-left-test.true in let r = c.enum_told-1.given in
-    subst (λ y. Outcome y w m₀ v i n c.transform_up-r.new.m) (sym r.1)
-    (walking_stops w m₀ v i n k p (cn - l.left) l.u l.k l.kids l.m q (omega arith) r.0.0 _
+    let ce = (c.child-h.ensures ∙ ap (λ s. get_or s.kids (cn - l.left) 0) si) in
+    let x = c.loop-left-test.true in
+    subst (λ y. Outcome y w m₀ v i n c.transform_up-r.new.m) (sym c.in_default.is)
+    (walking_stops w m₀ v i n k p (cn - l.left) l.u l.k l.kids l.m q (omega arith) c.in_default.field-0 _
     (subst (λ y. Outcome y w l.m l.u (get_or (slot m₀ i).kids (cn - l.left) 0 / 2) l.k
-    c.transform_up-r.new.m) r.1
+    c.transform_up-r.new.m) c.in_default.is
     (rw ce at c.transform_up-r.ensures)))
 
 pub offset_bounds-kids-j : goal.offset_bounds-kids-j
-offset_bounds-kids-j t c = let p = c.requires.1 in let w = c.args.w in let m₀ = c.args.m.now in let v = c.args.v in let i = c.args.i in
+offset_bounds-kids-j t c = let p = c.requires in let w = c.args.w in let m₀ = c.args.m.now in let v = c.args.v in let i = c.args.i in
     let n = c.args.n in let k = c.args.c.now in
     let l = c.loop-left in
     let cn = c.child_count-count.result in let e = l.invariant.0 in let lc = l.invariant.2 in let jl = l.invariant.3 in let q = l.invariant.4 in
@@ -89,7 +89,7 @@ offset_bounds-kids-j t c = let p = c.requires.1 in let w = c.args.w in let m₀ 
     let x = c.loop-left-test.true in omega arith
 
 pub bounds-kids-j : goal.bounds-kids-j
-bounds-kids-j t c = let p = c.requires.1 in let w = c.args.w in let m₀ = c.args.m.now in let v = c.args.v in let i = c.args.i in
+bounds-kids-j t c = let p = c.requires in let w = c.args.w in let m₀ = c.args.m.now in let v = c.args.v in let i = c.args.i in
     let n = c.args.n in let k = c.args.c.now in
     let l = c.loop-left in
     let cn = c.child_count-count.result in let e = l.invariant.0 in let lc = l.invariant.2 in let jl = l.invariant.3 in let q = l.invariant.4 in
@@ -99,7 +99,7 @@ bounds-kids-j t c = let p = c.requires.1 in let w = c.args.w in let m₀ = c.arg
     omega arith
 
 pub overflow_sub-left : goal.overflow_sub-left
-overflow_sub-left t c = let p = c.requires.1 in let w = c.args.w in let m₀ = c.args.m.now in let v = c.args.v in let i = c.args.i in
+overflow_sub-left t c = let p = c.requires in let w = c.args.w in let m₀ = c.args.m.now in let v = c.args.v in let i = c.args.i in
     let n = c.args.n in let k = c.args.c.now in
     let l = c.loop-left in
     let cn = c.child_count-count.result in let e = l.invariant.0 in let lc = l.invariant.2 in let jl = l.invariant.3 in let q = l.invariant.4 in
@@ -112,33 +112,32 @@ loop-left-smaller t c = let x = c.loop-left-test.true in
     omega arith
 
 pub loop-left-preserved : goal.loop-left-preserved
-loop-left-preserved t c = let p = c.requires.1 in let w = c.args.w in let m₀ = c.args.m.now in let v = c.args.v in let i = c.args.i in
+loop-left-preserved t c = let p = c.requires in let w = c.args.w in let m₀ = c.args.m.now in let v = c.args.v in let i = c.args.i in
     let n = c.args.n in let k = c.args.c.now in
     let l = c.loop-left in
     let cn = c.child_count-count.result in let e = l.invariant.0 in let lc = l.invariant.2 in let jl = l.invariant.3 in let q = l.invariant.4 in
     let si = slot_is w m₀ v i n k p (cn - l.left) l.u l.k l.kids l.m q in let z = shown w m₀ v i n k p in let zc = z.count in
     let zf = z.few in let big = p.arena.slots in let ih = p.here in let lo = q.made.long in
     let ce = (c.child-h.ensures
-    ∙ ap (λ s. get_or c.kids (cn - l.left) 0) si) in
-    let x = c.loop-left-test.true in
-    let r = c.r-1.given in (
+    ∙ ap (λ s. get_or s.kids (cn - l.left) 0) si) in
+    let x = c.loop-left-test.true in (
       e,
       l.invariant.1,
       c.transform_up-r.auto.c ∙ lc,
       omega arith,
       let one : (cn - l.left) + 1 ≡ cn - (l.left - 1) = omega arith in
-          subst (λ x. Walking w m₀ v i n x r.0.0 r.0.1.1.0 (set l.kids (cn - l.left) r.0.1.0)
+          subst (λ x. Walking w m₀ v i n x c.in-Done.used c.in-Done.total (set l.kids (cn - l.left) c.in-Done.root)
           c.transform_up-r.new.m) one
           (walking_more w m₀ v i n k p (cn - l.left) l.u l.k l.kids l.m q (omega arith)
           c.transform_up-r.new.m
-          c.transform_up-r.auto.m r.0.0 r.0.1.0 r.0.1.1.0
+          c.transform_up-r.auto.m c.in-Done.used c.in-Done.root c.in-Done.total
           (subst (λ y. Outcome y w l.m l.u (get_or (slot m₀ i).kids (cn - l.left) 0 / 2) l.k
-          c.transform_up-r.new.m) r.1
+          c.transform_up-r.new.m) c.in-Done.is
           (rw ce at c.transform_up-r.ensures))),
     )
 
 pub slice_bounds-kids-end : goal.slice_bounds-kids-end
-slice_bounds-kids-end t c = let p = c.requires.1 in
+slice_bounds-kids-end t c = let p = c.requires in
     let w = c.args.w in let m₀ = c.args.m.now in let v = c.args.v in let i = c.args.i in let n = c.args.n in let k = c.args.c.now in
     let l = c.loop-left in let cn = c.child_count-count.result in let e = l.invariant.0 in let lc = l.invariant.2 in
     let jl = l.invariant.3 in let q = l.invariant.4 in let si = slot_is w m₀ v i n k p (cn - l.left) l.u l.k l.kids l.m q in
@@ -146,7 +145,7 @@ slice_bounds-kids-end t c = let p = c.requires.1 in
     let y = q.made.wide in omega arith
 
 pub slice_bounds-finish-end : goal.slice_bounds-finish-end
-slice_bounds-finish-end t c = let p = c.requires.1 in
+slice_bounds-finish-end t c = let p = c.requires in
     let w = c.args.w in let m₀ = c.args.m.now in let v = c.args.v in let i = c.args.i in let n = c.args.n in let k = c.args.c.now in
     let l = c.loop-left in let cn = c.child_count-count.result in let e = l.invariant.0 in
     let lc = l.invariant.2 in let jl = l.invariant.3 in let q = l.invariant.4 in let si = slot_is w m₀ v i n k p (cn - l.left) l.u l.k l.kids l.m q in
@@ -154,7 +153,7 @@ slice_bounds-finish-end t c = let p = c.requires.1 in
     let y = q.made.wide in sym (length-take-le _ l.kids (omega arith))
 
 pub overflow_add-k : goal.overflow_add-k
-overflow_add-k t c = let p = c.requires.1 in
+overflow_add-k t c = let p = c.requires in
     let w = c.args.w in let m₀ = c.args.m.now in let v = c.args.v in let i = c.args.i in let n = c.args.n in let k = c.args.c.now in
     let l = c.loop-left in let cn = c.child_count-count.result in let e = l.invariant.0 in
     let lc = l.invariant.2 in let jl = l.invariant.3 in let q = l.invariant.4 in let si = slot_is w m₀ v i n k p (cn - l.left) l.u l.k l.kids l.m q in
@@ -162,7 +161,7 @@ overflow_add-k t c = let p = c.requires.1 in
     let y = q.many in let g = p.part in let h = l.invariant.1 in let m = p.many in omega arith
 
 pub overflow_sub-k : goal.overflow_sub-k
-overflow_sub-k t c = let p = c.requires.1 in
+overflow_sub-k t c = let p = c.requires in
     let w = c.args.w in let m₀ = c.args.m.now in let v = c.args.v in let i = c.args.i in let n = c.args.n in let k = c.args.c.now in
     let l = c.loop-left in let cn = c.child_count-count.result in let e = l.invariant.0 in
     let lc = l.invariant.2 in let jl = l.invariant.3 in let q = l.invariant.4 in let si = slot_is w m₀ v i n k p (cn - l.left) l.u l.k l.kids l.m q in
@@ -171,7 +170,7 @@ overflow_sub-k t c = let p = c.requires.1 in
     l.invariant.1 in b.1
 
 pub finish-requires : goal.finish-requires
-finish-requires t c = let p = c.requires.1 in let w = c.args.w in let m₀ = c.args.m.now in let v = c.args.v in let i = c.args.i in let n = c.args.n in
+finish-requires t c = let p = c.requires in let w = c.args.w in let m₀ = c.args.m.now in let v = c.args.v in let i = c.args.i in let n = c.args.n in
     let k = c.args.c.now in let l = c.loop-left in
     let cn = c.child_count-count.result in let e = l.invariant.0 in let lc = l.invariant.2 in
     let jl = l.invariant.3 in let q = l.invariant.4 in let si = slot_is w m₀ v i n k p (cn - l.left) l.u l.k l.kids l.m q in
@@ -189,7 +188,7 @@ shape_of-c t c = let l = c.loop-left in let lc = l.invariant.2 in
     c.finish.auto.c ∙ lc
 
 pub returns : goal.returns
-returns t c = let p = c.requires.1 in let w = c.args.w in let m₀ = c.args.m.now in let v = c.args.v in let i = c.args.i in let n = c.args.n in
+returns t c = let p = c.requires in let w = c.args.w in let m₀ = c.args.m.now in let v = c.args.v in let i = c.args.i in let n = c.args.n in
     let k = c.args.c.now in let l = c.loop-left in
     let cn = c.child_count-count.result in let e = l.invariant.0 in
     let lc = l.invariant.2 in let jl = l.invariant.3 in let q = l.invariant.4 in let si = slot_is w m₀ v i n k p (cn - l.left) l.u l.k l.kids l.m q in
