@@ -32,13 +32,13 @@ is_sort-requires t c = own_proper c.args.m.now c.args.u c.args.h (standing c.arg
 
 pub remove_sort-requires : goal.remove_sort-requires
 remove_sort-requires t c = (
-      c.requires,
-      sym c.is_marked.ensures
-          ∙ not-false _ (ap not c.if-not-is_marked.false),
-      (c.read64-r.ensures ∙ c.record_at.ensures),
-      is_code (decode c.read64-r.result) 7 _ c.is_sort.ensures
-          c.if-is_sort.true,
-    )
+  c.requires,
+  sym c.is_marked.ensures
+      ∙ not-false _ (ap not c.if-not-is_marked.false),
+  (c.read64-r.ensures ∙ c.record_at.ensures),
+  is_code (decode c.read64-r.result) 7 _ c.is_sort.ensures
+      c.if-is_sort.true,
+)
 
 pub shape_of-m-then-is_sort : goal.shape_of-m-then-is_sort
 shape_of-m-then-is_sort t c = c.remove_sort.auto.m
@@ -118,14 +118,14 @@ slice_bounds-remove_by-end-2 t c = let l = c.loop-j in let i₀ = l.invariant.0 
 
 pub remove_by-x-requires : goal.remove_by-x-requires
 remove_by-x-requires t c = let l = c.loop-j in let i₀ = l.invariant.0 in let i₁ = l.invariant.1 in let x = c.loop-j-test.false in (
-      going_rems c.args.m.now c.args.u c.args.h c.requires l.j l.w l.kids l.m l.invariant.2 _ (omega arith) i₀,
-      (c.read64-r.ensures
-          ∙ c.record_at.ensures)
-          ∙ ap (λ k. k.rec) (sym (same_slot c.requires.arena c.requires.here l.invariant.2.made)),
-      not_code (decode c.read64-r.result) 7 _
-          c.is_sort.ensures
-          c.if-is_sort.false,
-    )
+  going_rems c.args.m.now c.args.u c.args.h c.requires l.j l.w l.kids l.m l.invariant.2 _ (omega arith) i₀,
+  (c.read64-r.ensures
+      ∙ c.record_at.ensures)
+      ∙ ap (λ k. k.rec) (sym (same_slot c.requires.arena c.requires.here l.invariant.2.made)),
+  not_code (decode c.read64-r.result) 7 _
+      c.is_sort.ensures
+      c.if-is_sort.false,
+)
 
 pub with_single_stream-requires : goal.with_single_stream-requires
 with_single_stream-requires t c = let l = c.loop-j in let i₀ = l.invariant.0 in
