@@ -57,11 +57,16 @@ fn tell(screen: &mut Option<Screen>, line: &str) {
     }
 }
 
-/// The crates that the library is made of: its exports, and all below them in crates.txt.
-fn crates_below(list: &str) -> BTreeSet<String> {
+/// What each crate of crates.txt uses of the others.
+fn uses(list: &str) -> BTreeMap<&str, &str> {
     let lines = list.lines().map(|l| l.split('#').next().unwrap_or_default()).filter_map(|l| l.split_once(':'));
-    let below: BTreeMap<&str, &str> = lines.map(|(name, below)| (name.split_whitespace().next().unwrap_or_default(), below)).collect();
-    let (mut seen, mut open) = (BTreeSet::new(), vec![EXPORTS]);
+    lines.map(|(name, below)| (name.split_whitespace().next().unwrap_or_default(), below)).collect()
+}
+
+/// The crates that are listed at or below some: of the exports, those that the library is made of.
+fn crates_below(list: &str, of: &[&str]) -> BTreeSet<String> {
+    let below = uses(list);
+    let (mut seen, mut open) = (BTreeSet::new(), of.to_vec());
     while let Some(name) = open.pop() {
         if let Some(names) = below.get(name)
             && seen.insert(name.to_string())
@@ -79,15 +84,17 @@ fn proved_at(root: &Path, name: &str) -> Option<SystemTime> {
     made.metadata().and_then(|m| m.modified()).ok()
 }
 
-/// Tells of each crate that is proved, as it is proved, until the command ends.
-fn watch(rt: &mut Child, root: &Path, names: &BTreeSet<String>, screen: &mut Option<Screen>) -> std::io::Result<ExitStatus> {
+/// Tells of each crate that is proved, as it is proved, until the command ends. What stands below it is proved then too, also what was unchanged.
+fn watch(rt: &mut Child, root: &Path, list: &str, screen: &mut Option<Screen>) -> std::io::Result<ExitStatus> {
+    let names = crates_below(list, &[EXPORTS]);
     let (began, before) = (Instant::now(), names.iter().map(|n| proved_at(root, n)).collect::<Vec<_>>());
-    let mut told = BTreeSet::new();
+    let mut told: Vec<&str> = vec![];
     loop {
         let ended = rt.try_wait()?;
         for (name, before) in names.iter().zip(&before) {
-            if proved_at(root, name) > *before && told.insert(name) {
-                let (proved, total) = (told.len(), names.len());
+            if proved_at(root, name) > *before && !told.contains(&name.as_str()) {
+                told.push(name);
+                let (proved, total) = (crates_below(list, &told).len(), names.len());
                 tell(screen, &format!("crate {proved} of {total} proved, {} s so far: {name}", began.elapsed().as_secs()));
             }
         }
@@ -108,13 +115,14 @@ fn prove(root: &Path) -> Result<(), String> {
         _ => format!("rt can't be run: {e}"),
     })?;
     let mut screen = screen();
-    let names = crates_below(&std::fs::read_to_string(root.join("crates.txt")).unwrap_or_default());
+    let list = std::fs::read_to_string(root.join("crates.txt")).unwrap_or_default();
     if !archive(root).exists() {
-        tell(&mut screen, &format!("{} crates are proved first, which takes some ten minutes the first time", names.len()));
+        let total = crates_below(&list, &[EXPORTS]).len();
+        tell(&mut screen, &format!("{total} crates are proved first, which takes some ten minutes the first time"));
     }
     let (out, error) = (rt.stdout.take().expect("it is piped"), rt.stderr.take().expect("it is piped"));
     let (out, error) = (read_on(out), read_on(error));
-    let ended = watch(&mut rt, root, &names, &mut screen);
+    let ended = watch(&mut rt, root, &list, &mut screen);
     let said = error.join().unwrap_or_default() + &out.join().unwrap_or_default();
     match ended {
         Ok(status) if status.success() => Ok(()),
@@ -165,7 +173,7 @@ fn build() -> Result<(), String> {
         println!("cargo:rerun-if-changed={}", root.join(watched).display());
     }
     // not the crates' folders out/, which the prover writes
-    for name in crates_below(&std::fs::read_to_string(root.join("crates.txt")).unwrap_or_default()) {
+    for name in crates_below(&std::fs::read_to_string(root.join("crates.txt")).unwrap_or_default(), &[EXPORTS]) {
         for part in ["src", "specs", "proofs"] {
             let folder = root.join("crates").join(&name).join(part);
             if folder.exists() {

@@ -19,6 +19,7 @@ ROOT = os.path.join(os.path.dirname(os.path.abspath(__file__)), "..")
 WORD = r"[^\s(){}.;,@\"«»\[\]`]+"
 DECLARED = re.compile(r"(?m)^ *((?:" + WORD + r" )*?" + WORD + r")(?: \{[^{}\n]*\}| \([^()\n]*\))* :(?=\s)")
 USED = re.compile(r"(?m)\buse [^\s{;]+\.\{([^{}]*)\}")
+NAME = re.compile(r"(?<![\w'.-])[a-z][\w'-]*|(?<=\.)[a-z][\w'-]*")
 # Words of the library that port.py has respelled, as parts of the repository's own names.
 PARTS = {"getD": "get_or"}
 # A lemma whose left side is a word of the library: bit (bit_or a b) d.
@@ -90,7 +91,15 @@ def words_of(text):
 
 
 def turned(text, table):
-    return re.sub(r"(?<![\w'.-])[a-z][\w'-]*|(?<=\.)[a-z][\w'-]*", lambda m: table.get(m[0], m[0]), text)
+    """The text with its names respelled. Strings stay; in a comment a word that would get _lem is English, as well-formed is."""
+    def name(m):
+        if m[0][0] == '"':
+            return m[0]
+        if m[0].startswith(("--", "//")):
+            return NAME.sub(lambda w: w[0] if table.get(w[0], "").endswith("_lem") else table.get(w[0], w[0]), m[0])
+        return table.get(m[0], m[0])
+
+    return re.sub(r'b?"(?:[^"\\\n]|\\.)*"|(?m:(?:--|//).*$)|' + NAME.pattern, name, text)
 
 
 def lemmas_turned(path, text):

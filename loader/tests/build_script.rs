@@ -75,7 +75,7 @@ fn it_tells_how_far_it_is_and_links_a_copy() {
     let lines: Vec<&str> = told.lines().collect();
     assert_eq!(lines[0], "sort_placement: 3 crates are proved first, which takes some ten minutes the first time");
     assert!(lines[1].starts_with("sort_placement: crate 1 of 3 proved, ") && lines[1].ends_with(" s so far: low"), "{told}");
-    assert!(lines[2].starts_with("sort_placement: crate 2 of 3 proved, ") && lines[2].ends_with(" s so far: sort_placement_c"), "{told}");
+    assert!(lines[2].starts_with("sort_placement: crate 3 of 3 proved, ") && lines[2].ends_with(" s so far: sort_placement_c"), "{told}");
     assert!(out.contains("cargo:rustc-cfg=has_check_order\n") && !out.contains("cargo:rustc-cfg=has_copy_plan\n"));
     // the gate sets out/ aside, and the copy stays
     std::fs::remove_dir_all(room.0.join("crates/sort_placement_c/out")).expect("it goes");

@@ -80,7 +80,7 @@ partial_numbered n f (tree o c r) = tt
 
 -- ---- where an export answers 0: the plan that it was given, the plan that the rewrite g answers, and how long its file is
 
--- Of a rewrite that refuses with no 0 and answers well_formed_lem plans
+-- Of a rewrite that refuses with no 0 and answers well-formed plans
 module _ (g : Plan → Answer) (numbered : (f : Plan) → well_formed f ≡ true → Numbered (g f))
     (well : (f h : Plan) → well_formed f ≡ true → g f ≡ answered h → well_formed h ≡ true) (s out : List ℕ) (bytes : AllBytes s) (n : ℕ) (out' : List ℕ)
     (z : n ≡ 0) where

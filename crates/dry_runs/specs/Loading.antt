@@ -54,7 +54,7 @@ counters gone n h k =
     let l = length-replicate {A = ℕ} n 0 in let m = length-replicate {A = Bool} n false in
     record { past = omega arith; few = omega arith; counts_long = omega arith; held_long = omega arith; counts_none = zeros n; held_none = zeros n }
 
--- ---- a well_formed_lem plan: one root, few nodes
+-- ---- a well-formed plan: one root, few nodes
 module _ (f : Plan) (w : well_formed f ≡ true) where
   pub one_root : length (roots f) ≡ 1
   one_root = eqb-true (length (roots f)) 1 (search and_left)

@@ -27,7 +27,7 @@ pub record Sides (t : JoinType) (a b : Coded) : Type 0 where
   pub right_fits : Fits (known b)
   pub wide : join_width t a.width b.width ≤ 32
 
--- with the key pairs of a well_formed_lem join
+-- with the key pairs of a well-formed join
 pub record Joinable (t : JoinType) (a b : Coded) (lefts rights : List ℕ) : Type 0 where
   pub sides : Sides t a b
   pub pairs : length lefts ≡ length rights

@@ -93,7 +93,7 @@ module _ (w : ℕ) (f : Coded) (ks cs : List ℕ) (g : Coded) (i : ℕ) (n : Lin
   pub link_end : length ks ≤ i → Says (link_all w (on_of ks cs) (known f)) g
   link_end h = record { is = ap (λ on. link_all w on (known g)) (sym (on_end ks cs i h)) ∙ n.leads; fine = n.fine }
 
--- a well_formed_lem join's key pairs
+-- a well-formed join's key pairs
 pub linkable : (w v : ℕ) (on : List On) → on_fit w v on ≡ true → w + v ≤ 32 → All (Linkable w) on
 linkable w v on e l =
     let p = and_left (columnsBelow w (map (λ k. k.key.col) on) && distinct (map (λ k. k.key.col) on)) _ e in

@@ -56,7 +56,7 @@ fn put_kind(out: &mut [u8], at: usize, kind: Kind) -> usize
         Kind::GlobalLimit => put(out, at, b"global-limit"),
         Kind::LocalLimit => put(out, at, b"local-limit"),
         Kind::SortMergeJoin => put(out, at, b"sort-merge-join"),
-        Kind::HashJoin => put(out, at, b"hash_join_lem"),
+        Kind::HashJoin => put(out, at, b"hash-join"),
         Kind::OutputRequirement => put(out, at, b"output-requirement"),
         Kind::PartialSort => put(out, at, b"partial-sort"),
         Kind::Aggregate => put(out, at, b"aggregate"),

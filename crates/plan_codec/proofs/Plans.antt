@@ -1,4 +1,4 @@
--- The records of a well_formed_lem plan are fine, and a fine tree of records is that of a well_formed_lem plan.
+-- The records of a well-formed plan are fine, and a fine tree of records is that of a well-formed plan.
 use Rattle.std.specs.Prelude.{◌≡◌, refl, Bool, true, false, cond, ◌&&◌, leb, eqb, get_or}
 use Rattle.std.proofs.Common.{sym, ◌∙◌, arith}
 use Rattle.std.proofs.Math.Path.{ap, ap₂}
@@ -63,7 +63,7 @@ three_hold true true false e = absurd (omega arith)
 three_hold true false c e = absurd (omega arith)
 three_hold false b c e = absurd (omega arith)
 
--- ---- a well_formed_lem plan
+-- ---- a well-formed plan
 
 module _ (o : Op) (c r : Plan) (e : nodes_ok (tree o c r) ≡ true) where
   here : NodeFine o (widths c)

@@ -48,7 +48,7 @@ read s f e = go (eqb (number_of (refusal_of s)) 0) refl e
 file_same : (f : Plan) → file_of_tree (recorded f) ≡ file_of_plan f
 file_same f = ap file_of (nodes-recorded f)
 
--- The file of a well_formed_lem plan is never refused
+-- The file of a well-formed plan is never refused
 pub written_accepted : (f : Plan) → well_formed f ≡ true → refusal_of (file_of_plan f) ≡ Accepted
 written_accepted f e = ap refusal_of (sym (file_same f)) ∙ tree_accepted (recorded f) (plan_fine f e)
 

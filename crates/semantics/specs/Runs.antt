@@ -96,7 +96,7 @@ pub record GroupRow (ks : List Key) (n : ℕ) (x out : Row) : Type 0 where
 abbrev pub Grouping : List Key → ℕ → List Row → List Row → Type 0
 Grouping ks n s t = Each (GroupRow ks n) (begins ks s) t
 
--- ---- joins: "like_numbered_lem streams (hash: all left)"; "A missing stream is empty."
+-- ---- joins: "like-numbered streams (hash: all left)"; "A missing stream is empty."
 
 abbrev pub Pair : Type 0
 Pair = List Row × List Row

@@ -26,7 +26,7 @@ use Rattle.plan_codec.specs.Reading.{plan_of}
 use Rattle.record_fields.specs.Proper.{Proper}
 use Rattle.record_fields.specs.Encoded.{proper}
 
--- ---- the records of a well_formed_lem plan are proper
+-- ---- the records of a well-formed plan are proper
 
 widths_small : (f : Plan) → nodes_ok f ≡ true → (j : ℕ) → get_or (widths f) j 0 ≤ 32
 widths_small none e j = omega arith

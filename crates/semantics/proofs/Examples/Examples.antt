@@ -44,7 +44,7 @@ pub sql_all_keys : sql Inner (record { key = up 0; other = 0 } ∷ record { key 
     (pair (num (pos 1)) (num (pos 3)) ∷ []) ≡ []
 sql_all_keys = refl
 
--- like_numbered_lem streams; a missing stream is empty
+-- like-numbered streams; a missing stream is empty
 pub like_numbered_lem : (zip_left ((row 1 ∷ []) ∷ (row 2 ∷ []) ∷ []) ((row 3 ∷ []) ∷ []) ≡ (row 1 ∷ [], row 3 ∷ []) ∷ (row 2 ∷ [], []) ∷ [])
     × (zip_right ((row 1 ∷ []) ∷ []) ((row 3 ∷ []) ∷ (row 4 ∷ []) ∷ []) ≡ (row 1 ∷ [], row 3 ∷ []) ∷ ([], row 4 ∷ []) ∷ [])
 like_numbered_lem = (refl, refl)

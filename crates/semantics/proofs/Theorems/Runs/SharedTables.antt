@@ -160,7 +160,7 @@ module _ (E : Env) (l : Has E 0 (lefts ∷ [])) (r : Has E 1 (rights ∷ [])) wh
   pub hash_right_anti : Gets (hash_join RightAnti by_first) (row 6 ∷ row 5 ∷ [])
   hash_right_anti = gets (hash_join RightAnti by_first) _ refl (λ l. refl) (by_right anti)
 
--- ---- like_numbered_lem streams, and all left rows
+-- ---- like-numbered streams, and all left rows
 abbrev one_two : Streams
 one_two = (row 1 ∷ []) ∷ (row 2 ∷ []) ∷ []
 

@@ -1,4 +1,4 @@
--- What the calls answer, as equations; and that the answer to a well_formed_lem plan is well formed again.
+-- What the calls answer, as equations; and that the answer to a well-formed plan is well formed again.
 use Rattle.std.specs.Prelude.{◌≡◌, refl, Bool, true, false, cond, not, ◌&&◌, ◌||◌, List, [], ◌∷◌, ◌++◌, ◌↔◌, ℕ, suc, ◌+◌, ◌-◌, ◌≤◌, length}
 use Rattle.std.proofs.Common.{sym, ap, ap₂, ◌∙◌, subst, arith, eqb-true, eq-eqb, leb-true, le-leb}
 use Rattle.row_order.proofs.Order.{no_bool}
