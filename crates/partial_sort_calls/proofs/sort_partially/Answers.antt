@@ -46,7 +46,7 @@ pub returns-in-NoSuchNode : goal.returns-in-NoSuchNode
 returns-in-NoSuchNode c = let p = c.requires.0 in let w = c.requires.1 in let m = c.args.m.now in let u = c.args.u in let h = c.args.h in let n = c.args.n in
     let out = c.args.out.now in let t = c.settle_all in
     let m' = t.new.m in let l = t.auto.m in let a = t.ensures.0 in let f = t.ensures.1 in
-    let y = c.partially_sorted in 
+    let y = c.partially_sorted in
     partial_refuses m u h p w m' l a f _ c.nodes-k.ensures n out refusals.NoSuchNode
     (subst (λ o. AnswersPartial m' u y.new.m h n o) c.in-NoSuchNode.is y.ensures).0 _ c.number.ensures
 

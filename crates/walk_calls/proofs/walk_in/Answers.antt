@@ -40,7 +40,6 @@ write_out-requires c = let p = c.requires in let m = c.args.m.now in let u = c.a
     let eb = c.has_partial_sort.ensures in let z = c.if-has_partial_sort.false in
     let en = c.nodes-n.ensures in
     let y = c.transform_up in let m'' = y.new.m in
-    
     let d = subst (λ o. Outcome o w m' u (h / 2)
     c.nodes-n.result m'') c.in-Done.is y.ensures in
     let q = walk_count m u h k p m' l a f w out _ eb z _ en m'' y.auto.m c.in-Done.used c.in-Done.root c.in-Done.total d in
@@ -52,7 +51,7 @@ returns-in-Done c = let p = c.requires in let m = c.args.m.now in
     let t = c.settle_all in let m' = t.new.m in let l = t.auto.m in let a = t.ensures.0 in let f = t.ensures.1 in
     let eb = c.has_partial_sort.ensures in
     let z = c.if-has_partial_sort.false in let en = c.nodes-n.ensures in let y = c.transform_up in
-    let m'' = y.new.m in 
+    let m'' = y.new.m in
     let d = subst (λ o. Outcome o w m' u (h / 2)
     c.nodes-n.result m'') c.in-Done.is
     y.ensures in walk_wrote m u h k p m' l a f w out _ eb z _ en m'' y.auto.m c.in-Done.used c.in-Done.root c.in-Done.total d
@@ -66,7 +65,6 @@ returns-in-Stopped c = let p = c.requires in let m = c.args.m.now in let u = c.a
     let z = c.if-has_partial_sort.false in
     let en = c.nodes-n.ensures in
     let y = c.transform_up in let m'' = y.new.m in
-    
     walk_stopped m u h k p m' l a f w out _ eb z _ en m'' y.auto.m c.in-Stopped.s
     (subst (λ o. Outcome o w m' u (h / 2) c.nodes-n.result m'')
     c.in-Stopped.is y.ensures) _ c.stopped.ensures
