@@ -18,7 +18,7 @@ ROOT = os.path.join(os.path.dirname(os.path.abspath(__file__)), "..")
 TRUST = "docs/TRUST.md"
 # Where it starts: the contracts, and the theorems that docs/DEMANDS.md ends in.
 STARTS = [f"crates/{p}/src/lib.rt" for p in ("sort_placement", "row_order", "feeds_in_order")]
-STARTS += [f"crates/demands/proofs/{p}.antt" for p in ("OrderKept", "EnsurePasses", "RowsKept", "CheckedFiles", "RewrittenFiles", "SortedAlready")]
+STARTS += [f"crates/demands/proofs/{p}.antt" for p in ("OrderKept", "EnsurePasses", "RowsKept", "CheckedFiles", "RewrittenFiles", "RewrittenPlans", "AfterEnsuring", "SortedAlready")]
 STARTS += ["crates/push_literal/proofs/SameAnswers.antt", "crates/walks/proofs/Theorems/PartialSort/Earlier.antt"]
 ROW = re.compile(r"(\| `(crates/[\w/]+\.(?:antt|rt))` \| )(\d+)( \|)")
 ITEM = re.compile(r"(- `(crates/[\w/]+\.antt)` \()(\d+)(\))")

@@ -3,26 +3,15 @@
 -- Definitions: Plan, well_formed (plan); check, Env, Sources, Run (semantics); ensured (walks).
 use Rattle.std.specs.Prelude.{◌≡◌, true}
 use Rattle.std.proofs.Common.{sym, ◌∙◌, subst}
-use Rattle.plan.specs.Forest.{Forest}
 use Rattle.plan.specs.Op.{Plan}
 use Rattle.plan.specs.WellFormed.{well_formed}
 use Rattle.semantics.specs.Check.{check}
-use Rattle.semantics.specs.Runs.{Env, Run, Sources, Streams}
 use Rattle.walks.specs.EnsureSorting.{ensure_sorting}
 use Rattle.walks.specs.Counted.{answered, ensured}
 use Rattle.walks.proofs.Theorems.Ensure.Passes.{ensure_passes as ensure-check}
-use Rattle.walks.proofs.Theorems.Ensure.Sound.{sources_kept}
 use Rattle.walks.proofs.Theorems.Calls.Answers.{ensured_is, up_answers, well_fit}
-use Rattle.demands.specs.OrderKept.{AllFed}
-use Rattle.demands.proofs.OrderKept.{order_kept}
-use Rattle.demands.specs.Walks.{ensuring}
-use Rattle.demands.proofs.PlanKept.{answer_plan}
 
 pub ensure_passes : (f g : Plan) → well_formed f ≡ true → ensured f ≡ answered g → check g ≡ true
 ensure_passes f g e h =
     let p = up_answers ensure_sorting f g (sym (ensured_is f) ∙ h) in
     subst (λ (x : Plan). check x ≡ true) (sym p.1) (ensure-check f (well_fit f e))
-
-pub ensure_feeds : (f g : Plan) → well_formed f ≡ true → ensured f ≡ answered g → (E : Env) → Sources E 0 f → (out : Forest Streams)
-    → Run E 0 0 g out → AllFed g out
-ensure_feeds f g e h E d out r = order_kept g (ensure_passes f g e h) E (sources_kept E f g (answer_plan ensuring f g e h) d) out r

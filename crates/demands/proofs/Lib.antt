@@ -8,3 +8,6 @@ pub mod AcceptedRuns
 pub mod ChecksKept
 pub mod DryRuns
 pub mod PlanKept
+pub mod AfterEnsuring
+pub mod RewrittenPlans
+pub mod DryRunLaws

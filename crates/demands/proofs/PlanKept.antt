@@ -4,12 +4,11 @@ use Rattle.std.specs.Prelude.{◌≡◌, Bool, true, false, map}
 use Rattle.std.proofs.Common.{sym, ◌∙◌, subst}
 use Rattle.plan.specs.Op.{Plan}
 use Rattle.plan.specs.WellFormed.{well_formed}
-use Rattle.plan.specs.declared.Refusal.TheVariants.{ConstantSort}
 use Rattle.semantics.specs.Facts.{facts}
 use Rattle.walks.specs.EnsureSorting.{ensure_sorting}
 use Rattle.walks.specs.ParallelizeSorts.{parallelize_sorts}
 use Rattle.walks.specs.OrderPreserving.{replace_with_order_preserving_variants}
-use Rattle.walks.specs.Counted.{answered, ensured, pushed, refused}
+use Rattle.walks.specs.Counted.{answered, ensured}
 use Rattle.walks.specs.Terms.{Added, blank, easing, Live, prune, skel}
 use Rattle.walks.proofs.Theorems.Common.Skeleton.{added_none, eased}
 use Rattle.walks.proofs.Theorems.Common.Rows.{ensure_plan, SamePlan}
@@ -17,7 +16,7 @@ use Rattle.walks.proofs.Theorems.Preserve.Kept.{preserve_plan}
 use Rattle.walks.proofs.Theorems.Parallelize.Kept.{parallelize_plan}
 use Rattle.walks.proofs.Theorems.Push.WellFormed.{push_plan}
 use Rattle.walks.proofs.Theorems.Ensure.Live.{ensure_live as ensured-live}
-use Rattle.walks.proofs.Theorems.Calls.Answers.{down_answers, ensured_is, ensured_well, live_pushed, parallelized_is, parallelized_well, preserved_is, preserved_well, pushed_is, pushed_well, up_answers, well_fit}
+use Rattle.walks.proofs.Theorems.Calls.Answers.{down_answers, ensured_is, ensured_well, parallelized_is, parallelized_well, preserved_is, preserved_well, pushed_is, pushed_well, up_answers, well_fit}
 use Rattle.demands.specs.Walks.{answer, ensuring, parallelizing, preserving, pushing, Walk}
 use Rattle.demands.specs.PlanKept.{may_add_limits}
 
@@ -53,9 +52,6 @@ live_kept w f g e h = (answer_plan w f g e h).live
 -- No sort has all-constant keys after ensuring; then pushing never answers 25
 pub ensure_live : (f g : Plan) → well_formed f ≡ true → ensured f ≡ answered g → Live g
 ensure_live f g e h = subst Live (sym (up_answers ensure_sorting f g (sym (ensured_is f) ∙ h)).1) (ensured-live f (well_fit f e))
-
-pub push_after_ensure : (f g : Plan) → well_formed f ≡ true → ensured f ≡ answered g → ¬ (pushed g ≡ refused ConstantSort)
-push_after_ensure f g e h = live_pushed g (answer_plan ensuring f g e h).fit (ensure_live f g e h)
 
 -- The answer of a walk is well formed again
 pub well_formed_again : (w : Walk) (f g : Plan) → well_formed f ≡ true → answer w f ≡ answered g → well_formed g ≡ true

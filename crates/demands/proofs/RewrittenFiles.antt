@@ -8,8 +8,7 @@ use Rattle.std.proofs.Common.{sym, ap, ◌∙◌, subst, arith}
 use Rattle.std.proofs.lemmas.Bool.{eqb-false}
 use Rattle.std.proofs.lemmas.List.{take-append-le}
 use Rattle.std.proofs.Math.Seq.{take-length}
-use Rattle.row_order.specs.Iso.{Row}
-use Rattle.plan.specs.Forest.{Forest, none, tree}
+use Rattle.plan.specs.Forest.{none, tree}
 use Rattle.plan.specs.Op.{Plan}
 use Rattle.plan.specs.Numbers.{number_of}
 use Rattle.plan.specs.WellFormed.{every, well_formed}
@@ -20,8 +19,6 @@ use Rattle.plan_codec.specs.Reading as codec
 use Rattle.plan_codec.specs.Reading.{plan, plan_of, reading}
 use Rattle.plan_codec.specs.Writing.{file_of_plan}
 use Rattle.plan_codec.proofs.RoundTrip.{read_well_formed, read_written}
-use Rattle.semantics.specs.Check.{check}
-use Rattle.semantics.specs.Runs.{Env, Run, SameInputs, Sources, Streams}
 use Rattle.walks.specs.Marks.{strip, transform_up, Tree}
 use Rattle.walks.specs.EnsureSorting.{ensure_sorting}
 use Rattle.walks.specs.ParallelizeSorts.{parallelize_sorts}
@@ -29,18 +26,12 @@ use Rattle.walks.specs.OrderPreserving.{replace_with_order_preserving_variants}
 use Rattle.walks.specs.PushdownSorts.{at_root, push}
 use Rattle.walks.specs.PartialSort.{from_node}
 use Rattle.walks.specs.Counted.{Answer, answered, has_partial_sort, partial_at, partially_sorted, refused}
-use Rattle.walks.specs.Terms.{answer_down, answer_up, clear, has_constant_sort, sizes_down, sizes_up, small}
+use Rattle.walks.specs.Terms.{answer_down, answer_up, has_constant_sort, sizes_down, sizes_up, small}
 use Rattle.walks.proofs.Theorems.Calls.Answers.{ensured_is, parallelized_is, preserved_is, pushed_is, well_fit}
-use Rattle.walks.proofs.Theorems.PartialSort.Kept.{partial_sources, partial_well}
+use Rattle.walks.proofs.Theorems.PartialSort.Kept.{partial_well}
 use Rattle.call_answers.specs.Answers.{after_reading, output_in, refusal_in, rewrites, rewritten, too_short}
-use Rattle.demands.specs.OrderKept.{AllFed}
-use Rattle.demands.proofs.OrderKept.{order_kept}
 use Rattle.demands.specs.Walks.{answer, ensuring, parallelizing, preserving, pushing, Walk}
 use Rattle.demands.proofs.PlanKept.{well_formed_again}
-use Rattle.demands.proofs.ChecksKept.{partial_sort_passes}
-use Rattle.demands.specs.RowsKept.{delivered, times}
-use Rattle.demands.proofs.RowsKept.{rows_kept}
-use Rattle.demands.proofs.EnsurePasses.{ensure_feeds, ensure_passes}
 use Rattle.demands.specs.RewrittenFiles.{Rewriting}
 
 -- ---- no walk refuses with the number 0
@@ -127,24 +118,6 @@ module _ (w : Walk) (s out : List ℕ) (bytes : AllBytes s) (n : ℕ) (out' : Li
   unfolding reading
   rewriting z = read_as (answer w) (answer_numbered w) (well_formed_again w) s out bytes n out' z (eqb (number_of (refusal_of s)) 0) refl refl first second
 
-  -- Where the given tree has no join, aggregate, limit or fetch, every run of the plan read from the output delivers the rows of every run of the plan given
-  pub rewritten_rows : (z : n ≡ 0) → let r = rewriting z in clear r.given ≡ true → (E E' : Env) → SameInputs E E' r.given → (a b : Forest Streams)
-      → Run E 0 0 r.given a → Run E' 0 0 r.made b
-      → (x : Row) → times x (delivered a) ≡ times x (delivered b)
-  rewritten_rows z c E E' d a b x y t = let r = rewriting z in rows_kept w r.given r.made r.formed c r.answers E E' d a b x y t
-
--- What `ensure_sorting` writes passes the order check, and no run of it, over source rows that keep what the given plan declares, feeds an operator out of
--- order
-module _ (s out : List ℕ) (bytes : AllBytes s) (n : ℕ) (out' : List ℕ) (first : n ≡ number_of (refusal_in (rewrites (answer ensuring) s) out))
-    (second : out' ≡ output_in (rewrites (answer ensuring) s) out) where
-  pub ensured_passes : (z : n ≡ 0) → check (rewriting ensuring s out bytes n out' first second z).made ≡ true
-  ensured_passes z = let r = rewriting ensuring s out bytes n out' first second z in ensure_passes r.given r.made r.formed r.answers
-
-  pub ensured_feeds : (z : n ≡ 0) → let r = rewriting ensuring s out bytes n out' first second z in
-      (E : Env) → Sources E 0 r.given → (a : Forest Streams) → Run E 0 0 r.made a → AllFed r.made a
-  ensured_feeds z E d a x = let r = rewriting ensuring s out bytes n out' first second z in
-      ensure_feeds r.given r.made r.formed r.answers E d a x
-
 -- ---- partial sorting of node number k: `replace_with_partial_sort`, by its contract
 
 module _ (k : ℕ) (s out : List ℕ) (bytes : AllBytes s) (n : ℕ) (out' : List ℕ) (first : n ≡ number_of (refusal_in (rewrites (partially_sorted k) s) out))
@@ -154,13 +127,3 @@ module _ (k : ℕ) (s out : List ℕ) (bytes : AllBytes s) (n : ℕ) (out' : Lis
   partial_rewriting z =
       read_as (partially_sorted k) (λ f e. partial_numbered k f (from_node k f)) (partial_well k) s out bytes n out' z (eqb (number_of (refusal_of s)) 0) refl refl
       first second
-
-  -- Where the given plan passes the order check, what is written passes it too, and no run of it, over source rows that keep what the given plan declares,
-  -- feeds an operator out of order
-  pub partially_passes : (z : n ≡ 0) → let r = partial_rewriting z in check r.given ≡ true → check r.made ≡ true
-  partially_passes z e = let r = partial_rewriting z in partial_sort_passes k r.given r.made e r.answers
-
-  pub partially_feeds : (z : n ≡ 0) → let r = partial_rewriting z in check r.given ≡ true
-      → (E : Env) → Sources E 0 r.given → (a : Forest Streams) → Run E 0 0 r.made a → AllFed r.made a
-  partially_feeds z e E d a x = let r = partial_rewriting z in
-      order_kept r.made (partially_passes z e) E (partial_sources k r.given r.made r.answers E d) a x

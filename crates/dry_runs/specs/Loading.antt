@@ -29,7 +29,7 @@ use Rattle.step_tables.specs.Complete.{Complete}
 use Rattle.step_tables.specs.Rows.{Room}
 use Rattle.step_tables.specs.Passes.{node_in, Laid}
 use Rattle.step_tables.specs.Layout.{length_nodes, NodesAre, listed_nodes, laid}
-use Rattle.step_tables.specs.FirstRows.{all_rows, move_by}
+use Rattle.step_tables.proofs.FirstRows.{all_rows, move_by}
 use Rattle.step_tables.specs.Holding.{HeldAre}
 use Rattle.step_tables.specs.Queueing.{QueuedAre}
 use Rattle.step_nodes.specs.FewPlaces.{leaves, root_places}

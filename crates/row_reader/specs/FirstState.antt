@@ -13,7 +13,7 @@ use Rattle.step_tables.specs.Rows.{row_in}
 use Rattle.step_tables.specs.Found.{Known}
 use Rattle.step_tables.specs.Complete.{Complete}
 use Rattle.step_tables.specs.Passes.{node_in, Laid}
-use Rattle.step_tables.specs.FirstRows.{Of, rows_of, first_shown, nowhere, listed_begins}
+use Rattle.step_tables.proofs.FirstRows.{Of, rows_of, first_shown, nowhere, listed_begins}
 use Rattle.row_reader.specs.Reading.{RowTables}
 use Rattle.row_reader.specs.Plans.{row_count, plan_rows, AllRead}
 use Rattle.row_reader.specs.Counts.{Zeros}

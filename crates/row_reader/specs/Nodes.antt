@@ -19,7 +19,7 @@ use Rattle.source_rows.specs.Declared.{past_in, past_is, Stand, stand_here, stan
 use Rattle.step_tables.specs.Places.{total, inner, Node, nodes_at}
 use Rattle.step_tables.specs.Passes.{node_in, Listed}
 use Rattle.step_tables.specs.Layout.{NodesAre, listed_nodes}
-use Rattle.step_tables.specs.FirstRows.{move_by, all_rows}
+use Rattle.step_tables.proofs.FirstRows.{move_by, all_rows}
 use Rattle.row_reader.specs.Streams.{source_rows}
 
 -- ---- a forest's rows are those of its nodes, one after another. O: the place of each node's first output; i: the number of the next source,

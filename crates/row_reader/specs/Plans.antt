@@ -19,7 +19,7 @@ use Rattle.step_tables.specs.Places.{total, nodes_at}
 use Rattle.step_tables.specs.Passes.{node_in, Listed}
 use Rattle.step_tables.specs.Layout.{length_nodes}
 use Rattle.step_tables.specs.Rows.{row_in, Room}
-use Rattle.step_tables.specs.FirstRows.{all_rows, nowhere}
+use Rattle.step_tables.proofs.FirstRows.{all_rows, nowhere}
 use Rattle.row_reader.specs.Reading.{RowTables, Space, AsLong, as_long, as_long_too, Reading, Adds}
 use Rattle.row_reader.specs.Streams.{source_rows}
 use Rattle.row_reader.specs.Nodes.{rows_from, rows_none, rows_start, rows_step}

@@ -8,7 +8,7 @@ use Rattle.scan.specs.Words.{value}
 use Rattle.stepping.specs.Outlets.{Placed, place}
 use Rattle.stepping.specs.RowBytes.{signed, numbers_at}
 use Rattle.row_bytes.specs.Cells.{tab_more}
-use Rattle.step_tables.specs.FirstRows.{nowhere}
+use Rattle.step_tables.proofs.FirstRows.{nowhere}
 use Rattle.step_tables.specs.Rows.{row_in}
 
 -- Of each row 32 numbers, its null set, its width and the place where it waits

@@ -10,7 +10,7 @@ use Rattle.stepping.specs.RowBytes.{row_at, row_place, stream_end, stream_at, st
 use Rattle.row_bytes.specs.Cells.{tab_more}
 use Rattle.row_bytes.specs.Rows.{row_inside}
 use Rattle.row_bytes.specs.Streams.{alike, streams_fit, stream_room, alike_step, alike_none, fit_here, fit_next, count_more, count_end}
-use Rattle.step_tables.specs.FirstRows.{move_by}
+use Rattle.step_tables.proofs.FirstRows.{move_by}
 use Rattle.row_reader.specs.Reading.{RowTables, AsLong, as_long, as_long_too, Reading, Adds, Leads, leads_none, leads_adds}
 
 -- ---- a stream

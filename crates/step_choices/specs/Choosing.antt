@@ -11,8 +11,8 @@ use Rattle.step_tables.specs.Choosing.{any_from, chosen_from}
 use Rattle.step_tables.specs.Draws.{drawn_value, drawn_next, one_choice}
 use Rattle.step_tables.specs.Opened.{Fits, fill_all}
 use Rattle.step_tables.specs.Passes.{node_in, held_at, may_by, node_may}
-use Rattle.step_tables.specs.ChosenMoves.{drawn_below}
-use Rattle.step_tables.specs.Stepped.{output_of}
+use Rattle.step_tables.proofs.ChosenMoves.{drawn_below}
+use Rattle.step_tables.proofs.Stepped.{output_of}
 
 -- Node j waits for open streams: it merges or sorts
 abbrev pub waits_for : List ℕ → ℕ → Bool

@@ -12,12 +12,12 @@ use Rattle.step_tables.specs.Rows.{row_in, Room}
 use Rattle.step_tables.specs.Complete.{Complete}
 use Rattle.step_tables.specs.Choosing.{waits_at, any_from}
 use Rattle.step_tables.specs.Draws.{drawn_value, drawn_next}
-use Rattle.step_tables.specs.Standing.{outs_of, ins_of, spot_formed, Range, range}
+use Rattle.step_tables.proofs.Standing.{outs_of, ins_of, spot_formed, Range, range}
 use Rattle.step_tables.specs.Holding.{held_some, held_inside, held_few}
 use Rattle.step_tables.specs.Opened.{way_fits}
 use Rattle.step_tables.specs.Queueing.{requeued, above_few, above_queued, queued_some}
 use Rattle.step_tables.specs.Layout.{laid}
-use Rattle.step_tables.specs.OneStep.{choices_in}
+use Rattle.step_tables.proofs.OneStep.{choices_in}
 use Rattle.step_rows.specs.Heads.{Tells}
 use Rattle.step_nodes.specs.Laying.{op_in, below_in}
 use Rattle.step_choices.specs.Choosing.{any_waiter, movable, SentTo, Outgoes, outgoes}

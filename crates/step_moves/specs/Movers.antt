@@ -17,12 +17,12 @@ use Rattle.step_tables.specs.Opened.{Opened, fill_all, all_open}
 use Rattle.step_tables.specs.Movers.{may_move, may_move_lem, movers}
 use Rattle.step_tables.specs.Passes.{node_in, held_at, node_may}
 use Rattle.step_tables.specs.Draws.{drawn_value}
-use Rattle.step_tables.specs.Spots.{Spot, Stands, stands_here, stands_below, stands_beside, choices_of, can, numbers_from, can-moves, Chosen, nth}
-use Rattle.step_tables.specs.Standing.{outs_of, ins_of, spot_shows, spot_opened, can-movers, numbers_chosen}
-use Rattle.step_tables.specs.ChosenMoves.{drawn_below}
+use Rattle.step_tables.proofs.Spots.{Spot, Stands, stands_here, stands_below, stands_beside, choices_of, can, numbers_from, can-moves, Chosen, nth}
+use Rattle.step_tables.proofs.Standing.{outs_of, ins_of, spot_shows, spot_opened, can-movers, numbers_chosen}
+use Rattle.step_tables.proofs.ChosenMoves.{drawn_below}
 use Rattle.step_tables.specs.Waiting.{held_waits}
 use Rattle.step_tables.specs.Layout.{length_nodes, listed_are}
-use Rattle.step_tables.specs.NodeMay.{may_node_lem}
+use Rattle.step_tables.proofs.NodeMay.{may_node_lem}
 use Rattle.step_nodes.specs.Layout.{subtrees}
 use Rattle.step_nodes.specs.Slots.{NodeAt, slot_at}
 use Rattle.step_choices.specs.Choosing.{opened, movable}

@@ -11,7 +11,7 @@ use Rattle.stepping.specs.Stepping.{byte_at, Drawn, draw, chosen, start, after, 
 use Rattle.step_tables.specs.Places.{total, inner, nodes_at}
 use Rattle.step_tables.specs.Passes.{Listed}
 use Rattle.step_tables.specs.Layout.{length_nodes}
-use Rattle.step_tables.specs.LastState.{enough, one_more, no_more}
+use Rattle.step_tables.proofs.LastState.{enough, one_more, no_more}
 use Rattle.step_choices.specs.Choosing.{any_waiter}
 use Rattle.step_moves.specs.Running.{Book, Seated, Running}
 use Rattle.step_moves.specs.Stepping.{Ready, Goes, Rests, StepsTo, StepsOn}

@@ -14,17 +14,17 @@ use Rattle.stepping.proofs.Theorems.Formed.{Formed}
 use Rattle.stepping.specs.Stepping.{Drawn, chosen}
 use Rattle.step_tables.specs.Places.{within, taken_out, is_straight, kind_of, total, inner, node_of, Tables, Shows, Once}
 use Rattle.step_tables.specs.Shown.{Only, once_kept, within-true}
-use Rattle.step_tables.specs.Moved.{Moved}
+use Rattle.step_tables.proofs.Moved.{Moved}
 use Rattle.step_tables.specs.Found.{Known}
 use Rattle.step_tables.specs.Rows.{row_in, Room}
 use Rattle.step_tables.specs.Opened.{Fits, way_fits}
 use Rattle.step_tables.specs.Passes.{node_in}
 use Rattle.step_tables.specs.Draws.{drawn_value, drawn_next}
-use Rattle.step_tables.specs.ChosenMoves.{drawn_below}
-use Rattle.step_tables.specs.Spots.{Spot, choices_of, Chosen}
-use Rattle.step_tables.specs.Standing.{outs_of, ins_of, spot_formed, Range, range}
-use Rattle.step_tables.specs.Stepped.{Finds, Steps, output_of, was_input}
-use Rattle.step_tables.specs.OneStep.{choices_in, choices_are, step_is}
+use Rattle.step_tables.proofs.ChosenMoves.{drawn_below}
+use Rattle.step_tables.proofs.Spots.{Spot, choices_of, Chosen}
+use Rattle.step_tables.proofs.Standing.{outs_of, ins_of, spot_formed, Range, range}
+use Rattle.step_tables.proofs.Stepped.{Finds, Steps, output_of, was_input}
+use Rattle.step_tables.proofs.OneStep.{choices_in, choices_are, step_is}
 use Rattle.step_tables.specs.Complete.{Complete, complete_kept, known_kept}
 use Rattle.step_tables.specs.Holding.{HeldAre, held_moved, rehold, length-rehold}
 use Rattle.step_tables.specs.Queueing.{QueuedAre, requeued, length-requeued, Sent, queued_moved, ends_moved}

@@ -1,4 +1,4 @@
-pub mod Walking
 pub mod Counting
 pub mod Finishing
+pub mod Walking
 pub mod Frame

@@ -8,7 +8,8 @@ use Rattle.arena.specs.Arena.{slot}
 use Rattle.arena.specs.Laws.{index_even}
 use Rattle.plan_context.specs.View.{tree_in}
 use Rattle.plan_context.specs.Laws.{here}
-use Rattle.transform_up.specs.Frame.{Walking, Outcome, shown, slot_is, walking_none, walking_next, walking_more, walking_stops, before_is, walking_end, walking_done}
+use Rattle.transform_up.specs.Frame.{Walking, Outcome}
+use Rattle.transform_up.proofs.Frame.{shown, slot_is, walking_none, walking_next, walking_more, walking_stops, before_is, walking_end, walking_done}
 use Rattle.transform_up.proofs.+transform_up.Goals as goal
 
 pub child_count-count-requires : goal.child_count-count-requires

@@ -19,10 +19,10 @@ use Rattle.step_tables.specs.Shown.{inputs_are}
 use Rattle.step_tables.specs.Choosing.{waits_at, streams_at, flags_at, chosen_from, with_rows_are}
 use Rattle.step_tables.specs.Opened.{Opened}
 use Rattle.step_tables.specs.Draws.{drawn_value, drawn_next}
-use Rattle.step_tables.specs.Spots.{Spot, Stands, put_back, choices_of, moves_by, Chosen}
-use Rattle.step_tables.specs.Standing.{ins_of, spot_shows, spot_opened}
-use Rattle.step_tables.specs.ChosenMoves.{chosen_is}
-use Rattle.step_tables.specs.Stepped.{Steps, steps_on}
+use Rattle.step_tables.proofs.Spots.{Spot, Stands, put_back, choices_of, moves_by, Chosen}
+use Rattle.step_tables.proofs.Standing.{ins_of, spot_shows, spot_opened}
+use Rattle.step_tables.proofs.ChosenMoves.{chosen_is}
+use Rattle.step_tables.proofs.Stepped.{Steps, steps_on}
 
 -- ---- the input streams that an operator which can move chooses from; g, n: its inputs
 abbrev pub choices_in : Manner → (ℕ → Row) → List ℕ → List ℕ → ℕ → ℕ → List ℕ

@@ -15,7 +15,7 @@ use Rattle.step_tables.specs.Places.{within, waiting_in, without, taken_out, tot
 use Rattle.step_tables.specs.Shown.{within-true, is_within, Only}
 use Rattle.step_tables.specs.Found.{better, first_by, pick_at, least_first}
 use Rattle.step_tables.specs.Turns.{one_place}
-use Rattle.step_tables.specs.Moved.{Moved, was, Outside, Apart, apart_own, apart_down, apart_right, counts_past, list_past, list_out, list_in, shows_past}
+use Rattle.step_tables.proofs.Moved.{Moved, was, Outside, Apart, apart_own, apart_down, apart_right, counts_past, list_past, list_out, list_in, shows_past}
 
 -- the row found is at one of the places
 pub first_within : (ks : List Key) (rows : ℕ → Row) (pl : List ℕ) (g m : ℕ) (l : List ℕ) → first_by ks rows pl g m l < length l →

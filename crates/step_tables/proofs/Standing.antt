@@ -15,8 +15,8 @@ use Rattle.step_tables.specs.Shown.{tab_ext, inputs_are}
 use Rattle.step_tables.specs.Choosing.{waits_at, flags_at, any_from, chosen_from}
 use Rattle.step_tables.specs.Opened.{Opened, opened_none, opened_tree, opened_roots}
 use Rattle.step_tables.specs.Movers.{may_move_lem, movers}
-use Rattle.step_tables.specs.Moved.{Moved, was, Outside, Apart, apart_own, counts_past, list_past, shows_past}
-use Rattle.step_tables.specs.Spots.{Spot, Stands, stands_here, stands_below, stands_beside, put_back, can, numbers_from}
+use Rattle.step_tables.proofs.Moved.{Moved, was, Outside, Apart, apart_own, counts_past, list_past, shows_past}
+use Rattle.step_tables.proofs.Spots.{Spot, Stands, stands_here, stands_below, stands_beside, put_back, can, numbers_from}
 
 abbrev pub outs_of : Spot → ℕ
 outs_of s = (facts_op s.op (facts s.kids)).streams

@@ -20,12 +20,12 @@ use Rattle.step_tables.specs.Places.{within, is_straight, total, inner, Tables, 
 use Rattle.step_tables.specs.Shown.{is_within}
 use Rattle.step_tables.specs.Found.{first_by}
 use Rattle.step_tables.specs.Opened.{Fits, way_fits}
-use Rattle.step_tables.specs.Moved.{Moved, was, Outside, Apart}
-use Rattle.step_tables.specs.Taken.{first_within, takes_from, takes_any, puts}
+use Rattle.step_tables.proofs.Moved.{Moved, was, Outside, Apart}
+use Rattle.step_tables.proofs.Taken.{first_within, takes_from, takes_any, puts}
 use Rattle.step_tables.specs.Draws.{drawn_value, drawn_next}
-use Rattle.step_tables.specs.Spots.{Spot, Stands, put_back, choices_of, moves_by, Chosen}
-use Rattle.step_tables.specs.Standing.{outs_of, ins_of, spot_shows, spot_formed, Range, range, Through, shows_back}
-use Rattle.step_tables.specs.ChosenMoves.{drawn_below, chosen_is}
+use Rattle.step_tables.proofs.Spots.{Spot, Stands, put_back, choices_of, moves_by, Chosen}
+use Rattle.step_tables.proofs.Standing.{outs_of, ins_of, spot_shows, spot_formed, Range, range, Through, shows_back}
+use Rattle.step_tables.proofs.ChosenMoves.{drawn_below, chosen_is}
 
 -- ---- the row: number i of the order, from input stream k; g, n: the inputs' places
 abbrev pub Finds : Manner → Tables → ℕ → ℕ → ℕ → ℕ → Type 0

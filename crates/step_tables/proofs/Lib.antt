@@ -1,0 +1,10 @@
+pub mod ChosenMoves
+pub mod FirstRows
+pub mod LastState
+pub mod Moved
+pub mod NodeMay
+pub mod OneStep
+pub mod Spots
+pub mod Standing
+pub mod Stepped
+pub mod Taken
