@@ -52,6 +52,7 @@ pub struct Reply {
     pub passes: bool,
 }
 
+#[inline(never)]
 pub fn in_7(k: Call, plan: &[u8], out: &mut [u8]) -> Called
     requires { 7 * block_count plan.now ≤ 7 }
     ensures { CalledAs result (after_reading (result_of k) (reading plan.now)) out.old out.new 1 }
@@ -61,6 +62,7 @@ pub fn in_7(k: Call, plan: &[u8], out: &mut [u8]) -> Called
     call_in(k, plan, out, &mut m, &mut c)
 }
 
+#[inline(never)]
 pub fn in_14(k: Call, plan: &[u8], out: &mut [u8]) -> Called
     requires { 7 * block_count plan.now ≤ 14 }
     ensures { CalledAs result (after_reading (result_of k) (reading plan.now)) out.old out.new 1 }
@@ -70,6 +72,7 @@ pub fn in_14(k: Call, plan: &[u8], out: &mut [u8]) -> Called
     call_in(k, plan, out, &mut m, &mut c)
 }
 
+#[inline(never)]
 pub fn in_42(k: Call, plan: &[u8], out: &mut [u8]) -> Called
     requires { 7 * block_count plan.now ≤ 42 }
     ensures { CalledAs result (after_reading (result_of k) (reading plan.now)) out.old out.new 1 }
@@ -79,6 +82,7 @@ pub fn in_42(k: Call, plan: &[u8], out: &mut [u8]) -> Called
     call_in(k, plan, out, &mut m, &mut c)
 }
 
+#[inline(never)]
 pub fn in_84(k: Call, plan: &[u8], out: &mut [u8]) -> Called
     requires { 7 * block_count plan.now ≤ 84 }
     ensures { CalledAs result (after_reading (result_of k) (reading plan.now)) out.old out.new 1 }
@@ -88,6 +92,7 @@ pub fn in_84(k: Call, plan: &[u8], out: &mut [u8]) -> Called
     call_in(k, plan, out, &mut m, &mut c)
 }
 
+#[inline(never)]
 pub fn in_126(k: Call, plan: &[u8], out: &mut [u8]) -> Called
     requires { 7 * block_count plan.now ≤ 126 }
     ensures { CalledAs result (after_reading (result_of k) (reading plan.now)) out.old out.new 1 }
@@ -98,6 +103,7 @@ pub fn in_126(k: Call, plan: &[u8], out: &mut [u8]) -> Called
 }
 
 // With scratch for trees of up to 32 nodes, so that what steps leave behind is given back.
+#[inline(never)]
 pub fn in_148(k: Call, plan: &[u8], out: &mut [u8]) -> Called
     requires { 7 * block_count plan.now ≤ 148 }
     ensures { CalledAs result (after_reading (result_of k) (reading plan.now)) out.old out.new 1 }
@@ -107,6 +113,7 @@ pub fn in_148(k: Call, plan: &[u8], out: &mut [u8]) -> Called
     call_in(k, plan, out, &mut m, &mut c)
 }
 
+#[inline(never)]
 pub fn in_254(k: Call, plan: &[u8], out: &mut [u8]) -> Called
     requires { 7 * block_count plan.now ≤ 254 }
     ensures { CalledAs result (after_reading (result_of k) (reading plan.now)) out.old out.new 1 }
@@ -116,6 +123,7 @@ pub fn in_254(k: Call, plan: &[u8], out: &mut [u8]) -> Called
     call_in(k, plan, out, &mut m, &mut c)
 }
 
+#[inline(never)]
 pub fn in_382(k: Call, plan: &[u8], out: &mut [u8]) -> Called
     requires { 7 * block_count plan.now ≤ 382 }
     ensures { CalledAs result (after_reading (result_of k) (reading plan.now)) out.old out.new 1 }
@@ -126,6 +134,7 @@ pub fn in_382(k: Call, plan: &[u8], out: &mut [u8]) -> Called
 }
 
 // The largest: it has room for every walk of every plan.
+#[inline(never)]
 pub fn in_772(k: Call, plan: &[u8], out: &mut [u8]) -> Reply
     requires { block_count plan.now ≤ 18 }
     ensures { Answered result (after_reading (result_of k) (reading plan.now)) out.old out.new }
@@ -145,6 +154,7 @@ pub fn in_772(k: Call, plan: &[u8], out: &mut [u8]) -> Reply
     }
 }
 
+#[inline(never)]
 pub fn push_in_7(plan: &[u8], out: &mut [u8]) -> Called
     requires { 7 * block_count plan.now ≤ 7 }
     ensures { CalledAs result (rewrites pushed plan.now) out.old out.new 1 }
@@ -154,6 +164,7 @@ pub fn push_in_7(plan: &[u8], out: &mut [u8]) -> Called
     push_plan(plan, out, &mut m, &mut b)
 }
 
+#[inline(never)]
 pub fn push_in_21(plan: &[u8], out: &mut [u8]) -> Called
     requires { 7 * block_count plan.now ≤ 21 }
     ensures { CalledAs result (rewrites pushed plan.now) out.old out.new 1 }
@@ -163,6 +174,7 @@ pub fn push_in_21(plan: &[u8], out: &mut [u8]) -> Called
     push_plan(plan, out, &mut m, &mut b)
 }
 
+#[inline(never)]
 pub fn push_in_63(plan: &[u8], out: &mut [u8]) -> Called
     requires { 7 * block_count plan.now ≤ 63 }
     ensures { CalledAs result (rewrites pushed plan.now) out.old out.new 1 }
@@ -173,6 +185,7 @@ pub fn push_in_63(plan: &[u8], out: &mut [u8]) -> Called
 }
 
 // The largest: it has three slots for each node of every plan.
+#[inline(never)]
 pub fn push_in_126(plan: &[u8], out: &mut [u8]) -> Reply
     requires { block_count plan.now ≤ 18 }
     ensures { Answered result (rewrites pushed plan.now) out.old out.new }
