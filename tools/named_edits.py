@@ -14,7 +14,7 @@ DEMANDS = "docs/DEMANDS.md"
 
 
 def crates():
-    return [line.split(":")[0].strip() for line in open("crates.txt") if line.split("#")[0].strip()]
+    return [line.split(":")[0].split()[0] for line in open("crates.txt") if line.split("#")[0].strip()]
 
 
 def edits():
