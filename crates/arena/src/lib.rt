@@ -64,13 +64,11 @@ fn put_numbers(d: &mut [u8], ks: &[usize])
     ensures { (numbers_in d.new (length ks.now) ≡ ks.now)
         × (drop (2 * length ks.now) d.new ≡ drop (2 * length ks.now) d.old) }
 {
-    let mut j = 0;
-    while j < ks.len() {
+    for j in 0..ks.len() {
         let k = ks[j];
         let at = 2 * j;
         d[at] = (k % 256) as u8;
         d[at + 1] = (k / 256 % 256) as u8;
-        j += 1;
     }
 }
 
@@ -80,11 +78,7 @@ pub fn read64(s: &[u8]) -> [u8; 64]
     ensures { result ≡ s.now }
 {
     let mut out = [0u8; 64];
-    let mut i = 0;
-    while i < RECORD {
-        out[i] = s[i];
-        i += 1;
-    }
+    out.copy_from_slice(s);
     out
 }
 

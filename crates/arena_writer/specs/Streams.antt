@@ -1,11 +1,12 @@
 -- The file of a tree of the arena, block after block: each block takes the next records from the stack.
-use Rattle.std.specs.Prelude.{◌≡◌, refl, cond, List, [], ◌∷◌, ℕ, ◌+◌, ◌*◌, ◌-◌, ◌/◌, ◌≤◌, ◌<◌, length, take, drop, set}
+use Rattle.std.specs.Prelude.{◌≡◌, refl, cond, List, [], ◌∷◌, ℕ, ◌+◌, ◌*◌, ◌-◌, ◌/◌, ◌≤◌, ◌<◌, length, take, drop, set, Err}
 use Rattle.std.proofs.Common.{ap, sym, ◌∙◌, length-set, drop-drop, lt-ltb, le-ltb}
 use native.Mathlib.Omega.{arith}
 use Rattle.std.proofs.Math.Seq.{drop-length}
 use Rattle.scan.specs.Parts.{splice}
 use Rattle.plan.specs.Forest.{size, nodes}
-use Rattle.plan.specs.declared.Refusal.TheVariants.{Accepted, OutputTooShort}
+use Rattle.plan.specs.Numbers.{Accepted}
+use Rattle.plan.specs.declared.Refusal.TheVariants.{OutputTooShort}
 use Rattle.plan_format.specs.Writing.{joined, block_of, blocks_for, write_refusal}
 use Rattle.plan_writer.specs.Laws.{Blocks, blocks_none, blocks_more}
 use Rattle.arena.specs.Arena.{held, forest, tree_at}
@@ -28,11 +29,11 @@ module _ {m : List ℕ} {u i n : ℕ} (a : Flattens m u i n) where
   lent w out h l = let c = a.count in record { tree = rw c at a; room = omega arith; all = block_count_lem; fits = l }
 
   module _ (out : List ℕ) where
-    pub too_short : length out < (n + 6) / 7 * 512 → OutputTooShort ≡ write_refusal (joined (nodes (tree_at (held m u) i))) out
-    too_short h = ap (λ t. cond t OutputTooShort Accepted) (sym (lt-ltb (length out) _ (rw block_count_lem at h)))
+    pub too_short : length out < (n + 6) / 7 * 512 → Err OutputTooShort ≡ write_refusal (joined (nodes (tree_at (held m u) i))) out
+    too_short h = ap (λ t. cond t (Err OutputTooShort) Accepted) (sym (lt-ltb (length out) _ (rw block_count_lem at h)))
 
     pub long_enough : (n + 6) / 7 * 512 ≤ length out → Accepted ≡ write_refusal (joined (nodes (tree_at (held m u) i))) out
-    long_enough h = ap (λ t. cond t OutputTooShort Accepted) (sym (le-ltb (length out) _ (rw block_count_lem at h)))
+    long_enough h = ap (λ t. cond t (Err OutputTooShort) Accepted) (sym (le-ltb (length out) _ (rw block_count_lem at h)))
 
 -- k blocks are written, the rest is on the stack
 pub record Streamed (m : List ℕ) (u i blocks : ℕ) (w₀ out₀ : List ℕ) (k t : ℕ) (w rs out : List ℕ) : Type 0 where

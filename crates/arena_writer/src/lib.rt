@@ -18,10 +18,8 @@ fn push_children(m: &[u8], k: usize, w: &mut [usize], t: usize) -> usize
         × (t ≤ length w.old) }
     ensures { (result + length (slot m.now k).kids ≡ t) × (drop result w.new ≡ (slot m.now k).kids ++ drop t w.old) }
 {
-    let mut j = arena::child_count(m, k);
     let mut top = t;
-    while 0 < j {
-        j -= 1;
+    for j in (0..arena::child_count(m, k)).rev() {
         top -= 1;
         w[top] = arena::child(m, k, j);
     }
@@ -41,17 +39,18 @@ fn take_seven(m: &[u8], u: usize, rs: &mut [u8], w: &mut [usize], t: usize) -> T
     ensures { Took m.now u (rows_of m.now u (drop t w.old)) result.count result.top w.new rs.new }
 {
     let mut top = t;
-    let mut c = 0;
-    while c < 7 && top < w.len() {
+    for c in 0..7 {
+        if w.len() <= top {
+            return Taken { count: c, top: top };
+        }
         let k = w[top] / 2;
         let at = RECORD * c;
         let e = at + RECORD;
         let row = read64(arena::record_at(m, k));
         scan::copy(&mut rs[at..e], &row);
         top = push_children(m, k, w, top + 1);
-        c += 1;
     }
-    Taken { count: c, top: top }
+    Taken { count: 7, top: top }
 }
 
 // The file of the tree at the handle i over the start of out, which has room for its blocks; w is lent for the stack.
@@ -62,27 +61,25 @@ fn write_blocks(m: &[u8], u: usize, i: usize, blocks: usize, w: &mut [usize], ou
     let mut t = w.len() - 1;
     w[t] = i;
     let mut rs = [0u8; 448];
-    let mut k = 0;
-    while k < blocks {
+    for k in 0..blocks {
         let seven = take_seven(m, u, &mut rs, w, t);
         let e = RECORD * seven.count;
         let a = k * 512;
         let b = a + 512;
         plan_writer::put_block(&mut out[a..b], &rs[..e], blocks, k);
         t = seven.top;
-        k += 1;
     }
 }
 
 // The file of the tree at the handle i, of n nodes, over the start of out. Nothing is written where it does not fit.
-pub fn write(m: &[u8], u: usize, i: usize, n: usize, out: &mut [u8]) -> Refusal
+pub fn write(m: &[u8], u: usize, i: usize, n: usize, out: &mut [u8]) -> Result<(), Refusal>
     requires { Flattens m.now u i n }
     ensures { (result ≡ write_refusal (joined (nodes (tree_at (held m.now u) i))) out.old)
         × (out.new ≡ written (joined (nodes (tree_at (held m.now u) i))) out.old) }
 {
     let blocks = (n + 6) / 7;
     if out.len() < blocks * 512 {
-        return Refusal::OutputTooShort;
+        return Err(Refusal::OutputTooShort);
     }
     // The stack is cleared before it is used: a small plan gets a short one.
     if n <= 7 {
@@ -92,5 +89,5 @@ pub fn write(m: &[u8], u: usize, i: usize, n: usize, out: &mut [u8]) -> Refusal
         let mut w = [0usize; 126];
         write_blocks(m, u, i, blocks, &mut w, out);
     }
-    Refusal::Accepted
+    Ok(())
 }

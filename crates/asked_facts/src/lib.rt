@@ -8,7 +8,7 @@ ghost use Rattle.asked_facts.specs.Asked.{told, FactRow};
 
 use byte_rows::wide;
 use fact_slots::{CLASSES, ORDER_LEN, STREAMS, WIDTH, order_keys};
-use key_lists::{Order, order_of};
+use key_lists::{Keys, order_of};
 
 pub fn width(b: &[u8]) -> usize
     requires { FactRow b.now }
@@ -55,7 +55,7 @@ pub fn is_ordered(b: &[u8]) -> bool
     0 < b[ORDER_LEN]
 }
 
-pub fn known_order(b: &[u8]) -> Order
+pub fn known_order(b: &[u8]) -> Option<Keys>
     requires { FactRow b.now }
     ensures { Ordered (sem.known_order (told b.now)) result }
 {

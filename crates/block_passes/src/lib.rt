@@ -25,14 +25,12 @@ pub fn sums_ok(s: &[u8], n: usize) -> bool
     requires { n ≡ block_count s.now }
     ensures { result ≡ sums_ok s.now }
 {
-    let mut k = 0;
-    while k < n {
+    for k in 0..n {
         let at = k * 512;
         let e = at + 512;
         if !sum_ok(&s[at..e]) {
             return false;
         }
-        k += 1;
     }
     true
 }
@@ -72,14 +70,12 @@ pub fn headers_ok(s: &[u8], n: usize) -> bool
     requires { n ≡ block_count s.now }
     ensures { result ≡ headers_ok s.now }
 {
-    let mut k = 0;
-    while k < n {
+    for k in 0..n {
         let at = k * 512;
         let e = at + 512;
         if !header_ok(&s[at..e], n, k) {
             return false;
         }
-        k += 1;
     }
     true
 }

@@ -27,6 +27,7 @@ fn skip_same(m: &[u8], r: &[u8], h: usize) -> usize
         (tree_of m.now h).kids) }
 {
     let mut k = child(m, h / 2, 0);
+    // A while, since how far it climbs down no count says before.
     while same_partitioning(r, record_at(m, k / 2)) {
         k = child(m, k / 2, 0);
     }
@@ -56,10 +57,8 @@ fn children_of(m: &[u8], i: usize) -> [usize; 8]
 {
     let n = child_count(m, i);
     let mut kids = [0usize; 8];
-    let mut j = 0;
-    while j < n {
+    for j in 0..n {
         kids[j] = child(m, i, j);
-        j += 1;
     }
     kids
 }
@@ -127,14 +126,12 @@ fn remove_bottleneck_in_subplan_impl(m: &mut [u8], u: usize, h: usize, removable
     let n = child_count(m, i);
     let mut kids = [0usize; 8];
     let mut w = u;
-    let mut j = 0;
-    while j < n {
+    for j in 0..n {
         let k = child(m, i, j);
         let one = wants_single(&r, j);
         let a = remove_bottleneck_in_subplan_impl(m, w, k, !one);
         w = a.used;
         kids[j] = a.root;
-        j += 1;
     }
     without_idle(m, w, &r, &kids[..n], i)
 }

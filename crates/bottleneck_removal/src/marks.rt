@@ -8,7 +8,7 @@ ghost use Rattle.walks.specs.ParallelizeSorts.{any_mark_at, bottleneck, update_c
 ghost use Rattle.arena.specs.Arena.{marked};
 ghost use Rattle.plan_context.specs.View.{forest};
 
-use node_fetches::{fetch, some_fetch};
+use node_fetches::fetch;
 use node_properties::is_coalesce_partitions;
 use plan_context::handles::is_marked;
 use wanted_inputs::wants_single;
@@ -18,7 +18,7 @@ pub fn is_bottleneck(r: &[u8]) -> bool
     requires { Proper r.now }
     ensures { result ≡ bottleneck (decode r.now) }
 {
-    is_coalesce_partitions(r) & !some_fetch(fetch(r))
+    is_coalesce_partitions(r) & fetch(r).is_none()
 }
 
 // Whether child j, with the handle h, is connected and need not give one stream.
@@ -37,12 +37,10 @@ fn any_connects(r: &[u8], ks: &[usize]) -> bool
     requires { Proper r.now }
     ensures { (m : List ℕ) → result ≡ any_mark_at (λ i. not (singles (decode r.now) i)) (forest m ks.now) }
 {
-    let mut j = 0;
-    while j < ks.len() {
+    for j in 0..ks.len() {
         if connects(r, ks[j], j) {
             return true;
         }
-        j += 1;
     }
     false
 }

@@ -8,7 +8,7 @@ ghost use Rattle.byte_rows.specs.Rows.{low_bytes};
 pub fn wide(x: u8) -> usize
     ensures { result ≡ x }
 {
-    x as usize
+    usize::from(x)
 }
 
 pub fn read32(s: &[u8]) -> [usize; 32]
@@ -16,10 +16,8 @@ pub fn read32(s: &[u8]) -> [usize; 32]
     ensures { result ≡ s.now }
 {
     let mut out = [0usize; 32];
-    let mut i = 0;
-    while i < 32 {
-        out[i] = wide(s[i]);
-        i += 1;
+    for i in 0..32 {
+        out[i] = usize::from(s[i]);
     }
     out
 }
@@ -29,9 +27,7 @@ pub fn write_row(d: &mut [u8], s: &[usize])
     requires { length d.old ≡ length s.now }
     ensures { d.new ≡ low_bytes s.now }
 {
-    let mut i = 0;
-    while i < s.len() {
-        d[i] = (s[i] & 255) as u8;
-        i += 1;
+    for (i, x) in s.iter().enumerate() {
+        d[i] = (*x & 255) as u8;
     }
 }

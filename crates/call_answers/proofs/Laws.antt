@@ -1,11 +1,11 @@
 -- What the definitions of the exports' answers say of the output, of the order check's lent number and of settings (01, 'A plan file comes in',
 -- 'From the state'). Assumes nothing.
-use Rattle.std.specs.Prelude.{◌≡◌, refl, Bool, true, false, cond, not, List, ◌++◌, ℕ, suc, ◌≤◌, ◌<◌, eqb, ltb, length, take, drop}
+use Rattle.std.specs.Prelude.{◌≡◌, refl, Bool, true, false, cond, not, List, ◌++◌, ℕ, suc, ◌≤◌, ◌<◌, eqb, ltb, length, take, drop, Err}
 use Rattle.std.proofs.Common.{arith, eqb-true, ltb-true, ltb-false, take_at, drop_at}
 use Rattle.plan.specs.Op.{Plan}
-use Rattle.plan.specs.Numbers.{number_of}
+use Rattle.plan.specs.Numbers.{Accepted, number_of}
 use Rattle.plan.specs.declared.Refusal.{Refusal}
-use Rattle.plan.specs.declared.Refusal.TheVariants.{Accepted, OutputTooShort}
+use Rattle.plan.specs.declared.Refusal.TheVariants.{OutputTooShort}
 use Rattle.plan_codec.specs.Reading as codec
 use Rattle.plan_codec.specs.Writing.{file_of_plan}
 use Rattle.call_answers.specs.Answers.{check_answer, checks, gives, output_in, refusal_in, refuses, Result, setting, settings_in, too_short}
@@ -16,7 +16,7 @@ refusal_leaves_output (refuses x) out n = refl
 refusal_leaves_output (checks b) out n = refl
 refusal_leaves_output (gives f) out n = go (too_short f out) n
   where
-    go : (b : Bool) → (number_of (cond b OutputTooShort Accepted) ≡ 0 → ⊥) → cond b out (file_of_plan f ++ drop (length (file_of_plan f)) out) ≡ out
+    go : (b : Bool) → (number_of (cond b (Err OutputTooShort) Accepted) ≡ 0 → ⊥) → cond b out (file_of_plan f ++ drop (length (file_of_plan f)) out) ≡ out
     go true n = refl
     go false n = absurd (n refl)
 
@@ -28,10 +28,10 @@ refusal_leaves_number x p = refl
 -- where a plan is to be written
 module _ (f : Plan) (out : List ℕ) where
   -- "24: the output buffer is shorter than the file to write", and not where the file just fits
-  pub short_refused : length out < length (file_of_plan f) → refusal_in (gives f) out ≡ OutputTooShort
+  pub short_refused : length out < length (file_of_plan f) → refusal_in (gives f) out ≡ Err OutputTooShort
   short_refused h = go (too_short f out) refl
     where
-      go : (b : Bool) → ltb (length out) (length (file_of_plan f)) ≡ b → cond b OutputTooShort Accepted ≡ OutputTooShort
+      go : (b : Bool) → ltb (length out) (length (file_of_plan f)) ≡ b → cond b (Err OutputTooShort) Accepted ≡ Err OutputTooShort
       go true e = refl
       go false e = absurd (omega (arith, ltb-false (length out) (length (file_of_plan f)) e))
 

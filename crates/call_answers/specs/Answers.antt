@@ -1,8 +1,9 @@
 -- What the exported functions answer. These are definitions.
-use Rattle.std.specs.Prelude.{Bool, false, cond, not, List, ◌++◌, ℕ, eqb, ltb, length, drop}
+use Rattle.std.specs.Prelude.{Bool, false, cond, not, List, ◌++◌, ℕ, eqb, ltb, length, drop, Err}
 use Rattle.plan.specs.Op.{Plan}
 use Rattle.plan.specs.declared.Refusal.{Refusal}
-use Rattle.plan.specs.declared.Refusal.TheVariants.{Accepted, OutputTooShort}
+use Rattle.plan.specs.Numbers.{Verdict, Accepted}
+use Rattle.plan.specs.declared.Refusal.TheVariants.{OutputTooShort}
 use Rattle.scan.specs.Bytes.{one_if}
 use Rattle.plan_codec.specs.Reading as codec
 use Rattle.plan_codec.specs.Reading.{reading}
@@ -51,11 +52,11 @@ settings_in spr spm prefer = record { spr = setting spr; spm = setting spm; pref
 abbrev pub too_short : Plan → List ℕ → Bool
 too_short f out = ltb (length out) (length (file_of_plan f))
 
--- The refusal, with the output that was lent
-abbrev pub refusal_in : Result → List ℕ → Refusal
-refusal_in (refuses x) out = x
+-- Whether it is refused, with the output that was lent
+abbrev pub refusal_in : Result → List ℕ → Verdict
+refusal_in (refuses x) out = Err x
 refusal_in (checks b) out = Accepted
-refusal_in (gives f) out = cond (too_short f out) OutputTooShort Accepted
+refusal_in (gives f) out = cond (too_short f out) (Err OutputTooShort) Accepted
 
 -- The output afterwards: the file, and "bytes past the file stay"; "A refusal .. leaves tree and buffers alone"
 abbrev pub output_in : Result → List ℕ → List ℕ

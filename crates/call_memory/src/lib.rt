@@ -10,7 +10,7 @@ ghost use Rattle.call_answers.specs.Answers.{after_reading, rewrites};
 ghost use Rattle.plan_calls.specs.Results.{result_of};
 ghost use Rattle.call_rungs.specs.Replies.{Answered};
 
-use call_parts::Called;
+use call_parts::Stop;
 use call_rungs::*;
 use plan_calls::Call;
 
@@ -47,31 +47,30 @@ fn above(slots: usize) -> usize
     }
 }
 
-// The call with at least so many slots, or more where they are too few. It calls itself, and is no loop: into such a function the compiler takes no other that
-// has large locals, so that each rung keeps a frame of its own (docs/DECISIONS.md, 'One frame for each rung').
+// The call with at least so many slots, or more where they are too few; that with 148 has scratch for trees of up to 32 nodes, so that what steps leave behind
+// is given back. It calls itself, and is no loop: into such a function the compiler takes no other that has large locals, so that each rung keeps a frame of its
+// own (docs/DECISIONS.md, 'One frame for each rung').
 fn climb(k: Call, plan: &[u8], out: &mut [u8], slots: usize) -> Reply
     requires { (1 ≤ block_count plan.now) × (block_count plan.now ≤ 18) × (7 * block_count plan.now ≤ slots) }
     ensures { Answered result (after_reading (result_of k) (reading plan.now)) out.old out.new }
 {
     if 382 < slots {
-        return in_772(k, plan, out);
+        return call_in_largest(k, plan, out);
     }
     let r = match slots {
-        0..=7 => in_7(k, plan, out),
-        8..=14 => in_14(k, plan, out),
-        15..=42 => in_42(k, plan, out),
-        43..=84 => in_84(k, plan, out),
-        85..=126 => in_126(k, plan, out),
-        127..=129 => in_148(k, plan, out),
-        130..=254 => in_254(k, plan, out),
-        _ => in_382(k, plan, out),
+        0..=7 => call_in_arena::<SLOTS_7, 1>(k, plan, out),
+        8..=14 => call_in_arena::<SLOTS_14, 1>(k, plan, out),
+        15..=42 => call_in_arena::<SLOTS_42, 1>(k, plan, out),
+        43..=84 => call_in_arena::<SLOTS_84, 1>(k, plan, out),
+        85..=126 => call_in_arena::<SLOTS_126, 1>(k, plan, out),
+        127..=129 => call_in_arena::<SLOTS_148, SLOTS_32>(k, plan, out),
+        130..=254 => call_in_arena::<SLOTS_254, 1>(k, plan, out),
+        _ => call_in_arena::<SLOTS_382, 1>(k, plan, out),
     };
-    let Called::Done(number, passes) = r else {
-        return climb(k, plan, out, above(slots));
-    };
-    Reply {
-        number: number,
-        passes: passes,
+    match r {
+        Ok(passes) => as_reply(Ok(passes)),
+        Err(Stop::Refused(x)) => as_reply(Err(x)),
+        Err(Stop::NoRoom) => climb(k, plan, out, above(slots)),
     }
 }
 
@@ -81,19 +80,17 @@ fn climb_pushing(plan: &[u8], out: &mut [u8], slots: usize) -> Reply
     ensures { Answered result (rewrites pushed plan.now) out.old out.new }
 {
     if 63 < slots {
-        return push_in_126(plan, out);
+        return push_in_largest(plan, out);
     }
     let r = match slots {
-        0..=7 => push_in_7(plan, out),
-        8..=21 => push_in_21(plan, out),
-        _ => push_in_63(plan, out),
+        0..=7 => push_in_arenas::<SLOTS_7, SLOTS_21>(plan, out),
+        8..=21 => push_in_arenas::<SLOTS_21, SLOTS_63>(plan, out),
+        _ => push_in_arenas::<SLOTS_63, SLOTS_189>(plan, out),
     };
-    let Called::Done(number, passes) = r else {
-        return climb_pushing(plan, out, 2 * slots);
-    };
-    Reply {
-        number: number,
-        passes: passes,
+    match r {
+        Ok(passes) => as_reply(Ok(passes)),
+        Err(Stop::Refused(x)) => as_reply(Err(x)),
+        Err(Stop::NoRoom) => climb_pushing(plan, out, 2 * slots),
     }
 }
 
@@ -104,7 +101,7 @@ pub fn call(k: Call, plan: &[u8], out: &mut [u8]) -> Reply
     let blocks = plan.len() / 512;
     if (blocks == 0) | (18 < blocks) {
         return Reply {
-            number: plan::number(plan_reader::refusal_of(plan)),
+            number: plan::number_of(plan_reader::refusal_of(plan)),
             passes: false,
         };
     }
@@ -119,7 +116,7 @@ pub fn push(plan: &[u8], out: &mut [u8]) -> Reply
     let blocks = plan.len() / 512;
     if (blocks == 0) | (18 < blocks) {
         return Reply {
-            number: plan::number(plan_reader::refusal_of(plan)),
+            number: plan::number_of(plan_reader::refusal_of(plan)),
             passes: false,
         };
     }

@@ -1,7 +1,8 @@
 -- What a call answers, in an arena of any size. These are definitions.
-use Rattle.std.specs.Prelude.{◌≡◌, true, false, List, ℕ, ◌*◌, ◌-◌, ◌≤◌, ◌<◌, length}
+use Rattle.std.specs.Prelude as std
+use Rattle.std.specs.Prelude.{◌≡◌, Bool, true, false, List, ℕ, ◌*◌, ◌-◌, ◌≤◌, ◌<◌, Ok, Err, length}
 use Rattle.plan.specs.Forest.{size}
-use Rattle.plan.specs.Numbers.{number_of}
+use Rattle.plan.specs.Numbers.{Accepted}
 use Rattle.plan.specs.WellFormed.{well_formed}
 use Rattle.plan.specs.declared.Refusal.TheVariants.{TooManyNodes}
 use Rattle.plan_format.specs.Blocks.{block_count}
@@ -11,19 +12,24 @@ use Rattle.plan_arena.specs.ReadFile.{block_slots}
 use Rattle.plan_context.specs.View.{tree_of, Arena}
 use Rattle.plan_context.specs.Records.{plan_t}
 use Rattle.settling.specs.Reading.{Loaded}
-use Rattle.step_ends.specs.declared.Stop.{Stop}
-use Rattle.step_ends.specs.declared.Stop.TheVariants as stop
+use Rattle.step_ends.specs.declared.Stop as walk
+use Rattle.step_ends.specs.declared.Stop.TheVariants as walk_stops
 use Rattle.step_ends.specs.Tidying.{full_slots}
-use Rattle.call_parts.specs.declared.Called.{Called}
-use Rattle.call_parts.specs.declared.Called.TheVariants.{Done, NoRoom}
+use Rattle.call_parts.specs.declared.Stop.{Stop}
+use Rattle.call_parts.specs.declared.Stop.TheVariants.{Refused, NoRoom}
 use Rattle.call_parts.specs.PartialSorts.{partial_t}
 use Rattle.call_answers.specs.Answers.{Result, refusal_in, output_in, passes_in}
+
+-- What a call answers: whether the plan passes, where that was asked, or why it ended
+abbrev pub Called : Type 0
+Called = std.Result Bool Stop
 
 -- What a call answers and leaves in the output: all that the result settles, or that the memory, which is so many bytes short of what is always enough,
 -- was too small
 abbrev pub CalledAs : Called → Result → List ℕ → List ℕ → ℕ → Type 0
-CalledAs (Done n b) R out out' short = (n ≡ number_of (refusal_in R out)) × (b ≡ passes_in R) × (out' ≡ output_in R out)
-CalledAs NoRoom R out out' short = (out' ≡ out) × (0 < short)
+CalledAs (Ok b) R out out' short = (Accepted ≡ refusal_in R out) × (b ≡ passes_in R) × (out' ≡ output_in R out)
+CalledAs (Err (Refused x)) R out out' short = (Err x ≡ refusal_in R out) × (false ≡ passes_in R) × (out' ≡ output_in R out)
+CalledAs (Err NoRoom) R out out' short = (out' ≡ out) × (0 < short)
 
 -- the bytes that an arena is short of the slots that every walk can do with
 abbrev pub short_of : List ℕ → ℕ
@@ -34,9 +40,9 @@ abbrev pub push_short : List ℕ → ℕ
 push_short b = 378 * slot_size - length b
 
 -- as a walk stops
-abbrev pub stopped_as : Stop → Called
-stopped_as stop.TooManyNodes = Done (number_of TooManyNodes) false
-stopped_as stop.NoRoom = NoRoom
+abbrev pub stopped_as : walk.Stop → Called
+stopped_as walk_stops.TooManyNodes = Err (Refused TooManyNodes)
+stopped_as walk_stops.NoRoom = Err NoRoom
 
 -- What push and partial sorting ask: the tree at h is a plan's; its slots are not yet settled
 pub record Formed (m : List ℕ) (u h : ℕ) : Type 0 where

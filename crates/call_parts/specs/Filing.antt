@@ -1,5 +1,5 @@
 -- A tree of the arena as the records of its file.
-use Rattle.std.specs.Prelude.{◌≡◌, ltb}
+use Rattle.std.specs.Prelude.{◌≡◌, Err, ltb}
 use Rattle.std.proofs.Math.Path.{refl, ap₂}
 use Rattle.std.proofs.Common.{sym, ap, ◌∙◌, subst, arith, length-append}
 use Rattle.std.proofs.Math.Bool.{cond}
@@ -9,7 +9,8 @@ use Rattle.std.proofs.Math.Decide.{ℕ_discrete}
 use Rattle.std.proofs.Math.ListN.{length, drop}
 use Rattle.plan.specs.Forest.{Forest, none, tree, nodes, roots, size}
 use Rattle.plan.specs.Op.{Plan}
-use Rattle.plan.specs.declared.Refusal.TheVariants.{Accepted, OutputTooShort}
+use Rattle.plan.specs.Numbers.{Accepted}
+use Rattle.plan.specs.declared.Refusal.TheVariants.{OutputTooShort}
 use Rattle.plan_format.specs.Writing as bytes
 use Rattle.plan_format.specs.Writing.{joined, blocks_for, file_of_bytes, write_refusal}
 use Rattle.plan_roundtrip.specs.Back.{length_file}
@@ -137,7 +138,7 @@ module _ (m : List ℕ) (u h : ℕ) (a : Loaded m u) (l : h < 2 * u) (out : List
 
   -- what the writer answers and leaves
   pub write_refusal_lem : write_refusal (joined (nodes (tree_at (held m u) h))) out ≡ refusal_in (gives (plan_t (tree_of m h))) out
-  write_refusal_lem = ap (λ n. cond (ltb (length out) n) OutputTooShort Accepted) file_long
+  write_refusal_lem = ap (λ n. cond (ltb (length out) n) (Err OutputTooShort) Accepted) file_long
 
   pub write_output : bytes.written (joined (nodes (tree_at (held m u) h))) out ≡ output_in (gives (plan_t (tree_of m h))) out
   unfolding bytes.written

@@ -1,14 +1,13 @@
 -- pushdown_requirement_to_children: branch by branch, what the code answers is what the definition says. Assumes nothing.
-use Rattle.std.specs.Prelude.{◌≡◌, refl, Bool, true, false, cond, not, ◌&&◌, ◌||◌, List, [], ◌∷◌, ℕ, ◌-◌, ◌<◌, eqb, ltb, leb, length, get_or, take}
+use Rattle.std.specs.Prelude.{◌≡◌, refl, Bool, true, false, cond, not, ◌&&◌, ◌||◌, List, [], ◌∷◌, ℕ, ◌-◌, ◌<◌, eqb, ltb, leb, length, get_or, take, Option, is_some, Some, None}
 use Rattle.std.proofs.Common.{sym, ap, ap₂, ◌∙◌, subst, arith, eqb-true}
 use Rattle.std.proofs.Math.Path.{subst⁻¹}
 use Rattle.std.proofs.lemmas.List.{length-map}
 use Rattle.row_order.specs.Iso.{Key}
 use Rattle.plan.specs.Op.{Op, source, filter, projection, union, repartition, coalesce, sort_op, merge_op, global_limit, local_limit, sort_merge_join, hash_join, output_requirement, partial_sort, aggregate}
 use Rattle.plan.specs.Numbers.{kind_of}
-use Rattle.plan.specs.WellFormed.{every, some_fetch, children_ok, columns_of}
+use Rattle.plan.specs.WellFormed.{every, children_ok, columns_of}
 use Rattle.plan.specs.declared.JoinType.{JoinType}
-use Rattle.plan.specs.declared.Fetch.{Fetch}
 use Rattle.plan.specs.declared.Kind.{Kind}
 use Rattle.plan.specs.declared.Kind.TheVariants.{Projection, Sort, Merge, OutputRequirement, Aggregate}
 use Rattle.plan_codec.specs.Decode.{decode, from_bytes, operator_of}
@@ -22,24 +21,22 @@ use Rattle.record_fields.specs.Fronts.{front_columns}
 use Rattle.semantics.specs.Facts.{Facts, at0, at1, facts_op, compatible, hash_kept, nothing, met}
 use Rattle.semantics.specs.Properties.{kept_side, fetch_op, maintains, supports_limit_pushdown, wanted}
 use Rattle.key_lists.specs.declared.Keys.{Keys}
-use Rattle.key_lists.specs.declared.Order.{Order}
-use Rattle.key_lists.specs.declared.Order.TheVariants.{Unordered, By}
 use Rattle.key_lists.specs.Keys.{keys_of, Ordered}
 use Rattle.record_fields.specs.Kinds.{op_of}
 use Rattle.maintained_orders.specs.Nodes.{Among}
 use Rattle.walks.specs.SortPushdown as walk
 use Rattle.walks.proofs.Theorems.Common.Keeps.{remark-same}
-use Rattle.push_requirements.specs.declared.Pushed.{Pushed}
+use Rattle.push_requirements.specs.declared.ChildOrders.{ChildOrders}
 use Rattle.push_requirements.specs.Pushing.{HandsOn, SeenNode}
 use Rattle.push_requirements.specs.Answers.{none_in, by_is, by_some}
 use Rattle.scan.specs.Below.{or_false}
 
 -- ---- pushdown_would_violate_requirements, of one child
 
-pub violates_none : (n : Op) (ps : List Key) (o : Order) → Ordered (wanted n 0) o → o ≡ Unordered → false ≡ walk.pushdown_would_violate_requirements n 1 ps
+pub violates_none : (n : Op) (ps : List Key) (o : Option Keys) → Ordered (wanted n 0) o → o ≡ None → false ≡ walk.pushdown_would_violate_requirements n 1 ps
 violates_none n ps o h e = sym (or_false _ ∙ ap (λ b. not b && walk.none_equal (wanted n 0) ps) (none_in (wanted n 0) o h e))
 
-pub violates_some : (n : Op) (ps : List Key) (o : Order) (k : Keys) → Ordered (wanted n 0) o → o ≡ By k → (x : Bool) → x ≡ walk.none_equal (keys_of k) ps
+pub violates_some : (n : Op) (ps : List Key) (o : Option Keys) (k : Keys) → Ordered (wanted n 0) o → o ≡ Some k → (x : Bool) → x ≡ walk.none_equal (keys_of k) ps
     → x ≡ walk.pushdown_would_violate_requirements n 1 ps
 violates_some n ps o k h e x d =
     d ∙ ap (λ l. walk.none_equal l ps) (by_is (wanted n 0) o k h e)
@@ -70,7 +67,7 @@ one_at_least m e = let x = eqb-true m 1 e in omega arith
 two_at_least : (m : ℕ) → eqb m 2 ≡ true → 1 < m
 two_at_least m e = let x = eqb-true m 2 e in omega arith
 
-module _ (r : List ℕ) (fs : List Facts) (m : ℕ) (ps : List Key) (p : Pushed) where
+module _ (r : List ℕ) (fs : List Facts) (m : ℕ) (ps : List Key) (p : Option ChildOrders) where
   pub by_kind : (k : Kind) → kind_of (get_or r 0 0) ≡ k → HandsOn m (walk.push_by_kind (operator_of k (from_bytes r)) fs ps) p
       → HandsOn m (walk.push_by_kind (decode r) fs ps) p
   by_kind k e h = subst⁻¹ (λ o. HandsOn m (walk.push_by_kind o fs ps) p) (op_of r k e) h
@@ -153,19 +150,19 @@ one_child n fs m x b s l e h =
     ap (λ (c : Bool). x && (s && c))
     (h (let z = one_at_least m e in omega arith) ∙ sym (ap (λ j. walk.all_below j (maintains n fs)) (eqb-true m 1 e) ∙ on_one (maintains n fs 0)))
 
-pub through_is : (n : Op) (fs : List Facts) (ts : List Fetch) (m : ℕ) → length fs ≡ m → children_ok n m ≡ true → (f : Fetch) → f ≡ fetch_op n ts → (b : Bool)
-    → (0 < length fs → b ≡ maintains n fs 0)
-    → some_fetch f && (supports_limit_pushdown n && b) ≡ walk.through_fetch n f m fs
+pub through_is : (n : Op) (fs : List Facts) (ts : List (Option ℕ)) (m : ℕ) → length fs ≡ m → children_ok n m ≡ true → (f : Option ℕ) → f ≡ fetch_op n ts
+    → (b : Bool) → (0 < length fs → b ≡ maintains n fs 0)
+    → is_some f && (supports_limit_pushdown n && b) ≡ walk.through_fetch n f m fs
 through_is (source s) fs ts m l c f e b h = refl
 through_is filter fs ts m l c f e b h = refl
-through_is (projection cols) fs ts m l c f e b h = one_child (projection cols) fs m (some_fetch f) b true l c h
-through_is union fs ts m l c f e b h = ap (λ (g : Fetch). some_fetch g && (true && b)) e ∙ sym (ap (λ (g : Fetch). walk.through_fetch union g m fs) e)
+through_is (projection cols) fs ts m l c f e b h = one_child (projection cols) fs m (is_some f) b true l c h
+through_is union fs ts m l c f e b h = ap (λ (g : Option ℕ). is_some g && (true && b)) e ∙ sym (ap (λ (g : Option ℕ). walk.through_fetch union g m fs) e)
 through_is (repartition p n x ks) fs ts m l c f e b h = refl
-through_is (coalesce g) fs ts m l c f e b h = one_child (coalesce g) fs m (some_fetch f) b true l c h
+through_is (coalesce g) fs ts m l c f e b h = one_child (coalesce g) fs m (is_some f) b true l c h
 through_is (sort_op p ks g) fs ts m l c f e b h = refl
-through_is (merge_op ks g) fs ts m l c f e b h = one_child (merge_op ks g) fs m (some_fetch f) b true l c h
-through_is (global_limit s g note) fs ts m l c f e b h = one_child (global_limit s g note) fs m (some_fetch f) b true l c h
-through_is (local_limit g note) fs ts m l c f e b h = one_child (local_limit g note) fs m (some_fetch f) b true l c h
+through_is (merge_op ks g) fs ts m l c f e b h = one_child (merge_op ks g) fs m (is_some f) b true l c h
+through_is (global_limit s g note) fs ts m l c f e b h = one_child (global_limit s g note) fs m (is_some f) b true l c h
+through_is (local_limit g note) fs ts m l c f e b h = one_child (local_limit g note) fs m (is_some f) b true l c h
 through_is (sort_merge_join t on) fs ts m l c f e b h = refl
 through_is (hash_join t on) fs ts m l c f e b h = refl
 through_is (output_requirement ks d g) fs ts m l c f e b h = refl
@@ -182,12 +179,13 @@ first_among n o fs m F L R s h =
     first (G ∷ gs) = refl
 
 -- ---- the mark of a repartition is not asked
-module _ (n o : Op) (fs : List Facts) (m : ℕ) (F L R : Facts) (s : SeenNode n o fs m F L R) (ts : List Fetch) (limit : Fetch) (e : limit ≡ fetch_op o ts) where
+module _ (n o : Op) (fs : List Facts) (m : ℕ) (F L R : Facts) (s : SeenNode n o fs m F L R) (ts : List (Option ℕ)) (limit : Option ℕ)
+    (e : limit ≡ fetch_op o ts) where
   pub limit_of : limit ≡ fetch_op n ts
   limit_of = e ∙ ap (λ x. fetch_op x ts) s.like ∙ remark-same (λ x. fetch_op x ts) s.mark (λ p q k h ks. refl) n
 
-  module _ (ps : List Key) (f : Fetch) (p : Pushed) where
-    abbrev asks : Op → Fetch → walk.Pushed
+  module _ (ps : List Key) (f : Option ℕ) (p : Option ChildOrders) where
+    abbrev asks : Op → Option ℕ → walk.Pushed
     asks x l = walk.pushdown_requirement_to_children x l m fs ps f
 
     pub of_like : HandsOn m (walk.pushdown_requirement_to_children n limit m fs ps f) p → HandsOn m (walk.pushdown_requirement_to_children o limit m fs ps f) p

@@ -1,10 +1,9 @@
 // pushdown_requirement_to_children: how a required order goes past a node.
 #![tactic(auto)]
 
-ghost use Rattle.std.specs.Prelude.{◌≡◌, cond, not, ◌&&◌, ◌||◌, List, ℕ, ◌≤◌, get_or};
+ghost use Rattle.std.specs.Prelude.{◌≡◌, cond, not, ◌&&◌, ◌||◌, List, ℕ, ◌≤◌, get_or, Option};
 ghost use Rattle.plan.specs.Op.{Op, projection};
 ghost use Rattle.plan.specs.Numbers.{kind_of};
-ghost use Rattle.plan.specs.declared.Fetch.{Fetch as Fetches};
 ghost use Rattle.plan.specs.declared.Kind.TheVariants as kinds;
 ghost use Rattle.plan_codec.specs.Decode.{decode, from_bytes};
 ghost use Rattle.record_fields.specs.Proper.{Proper};
@@ -17,14 +16,14 @@ ghost use Rattle.push_requirements.specs.Pushing.{HandsOn, Asked, SeenNode};
 
 use asked_facts::{known_order, width};
 use byte_rows::wide;
-use key_lists::{Keys, Order, order_of};
+use key_lists::{Keys, order_of};
 use maintained_orders::maintains;
 use met_orders::{compatible, meets};
 use moved_requirements::{all_below, none_equal, remap_requirement_through_projection};
-use node_fetches::{cardinality_equal, some_fetch, supports_limit_pushdown};
+use node_fetches::{cardinality_equal, supports_limit_pushdown};
 use node_properties::{is_projection, join_type, keys};
-use plan::{Fetch, Kind};
-use push_requirements::Pushed;
+use plan::Kind;
+use push_requirements::ChildOrders;
 use push_requirements::joins::{handle_hash_join, try_pushdown_requirements_to_join};
 use record_fields::{KEY_COUNT, KIND, WIDTH, kind_of, tail_columns};
 use record_keys::key_columns;
@@ -35,7 +34,7 @@ fn pushdown_would_violate_requirements(r: &[u8], parent: Keys) -> bool
     requires { Proper r.now }
     ensures { result ≡ walk.pushdown_would_violate_requirements (decode r.now) 1 (keys_of parent) }
 {
-    let Order::By(k) = wanted_order(r, 0) else {
+    let Some(k) = wanted_order(r, 0) else {
         return false;
     };
     none_equal(k, parent)
@@ -44,26 +43,32 @@ fn pushdown_would_violate_requirements(r: &[u8], parent: Keys) -> bool
 // ---- the branches by kind
 
 // The order to all children.
-fn handle_custom_pushdown(parent: Keys) -> Pushed
+fn handle_custom_pushdown(parent: Keys) -> Option<ChildOrders>
     requires { parent.len ≤ 8 }
     ensures { (m : ℕ) → HandsOn m (walk.handle_custom_pushdown (keys_of parent)) result }
 {
     let order = order_of(parent);
-    Pushed::Goes(order, order)
+    Some(ChildOrders {
+        first: order,
+        rest: order,
+    })
 }
 
-fn handle_projection_pushdown(r: &[u8], parent: Keys) -> Pushed
+fn handle_projection_pushdown(r: &[u8], parent: Keys) -> Option<ChildOrders>
     requires { Proper r.now × (kind_of (get_or r.now 0 0) ≡ kinds.Projection) × (parent.len ≤ 8) }
     ensures { (cols : List ℕ) (m : ℕ) → decode r.now ≡ projection cols → HandsOn m (walk.handle_projection_pushdown cols (keys_of parent)) result }
 {
     let cols = tail_columns(r);
     let n = wide(r[WIDTH]);
     let order = order_of(remap_requirement_through_projection(&cols[..n], parent));
-    Pushed::Goes(order, order)
+    Some(ChildOrders {
+        first: order,
+        rest: order,
+    })
 }
 
 // To the child, if the aggregate maintains it, all columns are group columns, and the child meets the requirement in its columns already.
-fn handle_aggregate_pushdown(r: &[u8], own: &[u8], a: &[u8], parent: Keys) -> Pushed
+fn handle_aggregate_pushdown(r: &[u8], own: &[u8], a: &[u8], parent: Keys) -> Option<ChildOrders>
     requires { Proper r.now × (kind_of (get_or r.now 0 0) ≡ kinds.Aggregate) × FactRow own.now × FactRow a.now × (parent.len ≤ 8) }
     ensures { (o : Op) (fs : List sem.Facts) (m : ℕ) (R : sem.Facts) → SeenNode (decode r.now) o fs m (told own.now)
         (told a.now) R → HandsOn m (walk.push_by_kind (decode r.now) fs (keys_of parent)) result }
@@ -74,10 +79,10 @@ fn handle_aggregate_pushdown(r: &[u8], own: &[u8], a: &[u8], parent: Keys) -> Pu
     if maintains(r, own, a, 0) & (all_below(n, parent) & meets(a, mapped)) {
         return handle_custom_pushdown(mapped);
     }
-    Pushed::Stop
+    None
 }
 
-fn handle_sort(r: &[u8], a: &[u8], parent: Keys) -> Pushed
+fn handle_sort(r: &[u8], a: &[u8], parent: Keys) -> Option<ChildOrders>
     requires { Proper r.now × FactRow a.now × (parent.len ≤ 8) }
     ensures { (m : ℕ) → HandsOn m (walk.go_if (sem.compatible (told a.now) (keys_of parent) (from_bytes r.now).keys)
         (λ i. keys_of parent)) result }
@@ -85,58 +90,58 @@ fn handle_sort(r: &[u8], a: &[u8], parent: Keys) -> Pushed
     if compatible(a, parent, keys(r)) {
         return handle_custom_pushdown(parent);
     }
-    Pushed::Stop
+    None
 }
 
 // A merge that knows no order, for its keys are all constant, lets none be pushed past it.
-fn handle_merge(own: &[u8], parent: Keys) -> Pushed
+fn handle_merge(own: &[u8], parent: Keys) -> Option<ChildOrders>
     requires { FactRow own.now × (parent.len ≤ 8) }
     ensures { (m : ℕ) → HandsOn m (walk.handle_merge (told own.now) (keys_of parent)) result }
 {
-    let Order::By(order) = known_order(own) else {
-        return Pushed::Stop; // the Rust panics here
+    let Some(order) = known_order(own) else {
+        return None; // the Rust panics here
     };
     if compatible(own, parent, order) {
         return handle_custom_pushdown(parent);
     }
-    Pushed::Stop
+    None
 }
 
-fn push_past_merge(r: &[u8], own: &[u8], parent: Keys) -> Pushed
+fn push_past_merge(r: &[u8], own: &[u8], parent: Keys) -> Option<ChildOrders>
     requires { Proper r.now × FactRow own.now × (parent.len ≤ 8) }
     ensures { (m : ℕ) → HandsOn m (cond (walk.pushdown_would_violate_requirements (decode r.now) 1 (keys_of parent)) walk.stop
         (walk.handle_merge (told own.now) (keys_of parent))) result }
 {
     if pushdown_would_violate_requirements(r, parent) {
-        return Pushed::Stop;
+        return None;
     }
     handle_merge(own, parent)
 }
 
-fn push_past_output_requirement(r: &[u8], parent: Keys) -> Pushed
+fn push_past_output_requirement(r: &[u8], parent: Keys) -> Option<ChildOrders>
     requires { Proper r.now × (parent.len ≤ 8) }
     ensures { (m : ℕ) → HandsOn m (cond (walk.pushdown_would_violate_requirements (decode r.now) 1 (keys_of parent)) walk.stop
         (walk.handle_custom_pushdown (keys_of parent))) result }
 {
     if pushdown_would_violate_requirements(r, parent) {
-        return Pushed::Stop;
+        return None;
     }
     handle_custom_pushdown(parent)
 }
 
-fn push_by_kind(r: &[u8], own: &[u8], a: &[u8], b: &[u8], parent: Keys) -> Pushed
+fn push_by_kind(r: &[u8], own: &[u8], a: &[u8], b: &[u8], parent: Keys) -> Option<ChildOrders>
     requires { Asked r.now own.now a.now b.now parent }
     ensures { (o : Op) (fs : List sem.Facts) (m : ℕ) → SeenNode (decode r.now) o fs m (told own.now) (told a.now)
         (told b.now) → HandsOn m (walk.push_by_kind (decode r.now) fs (keys_of parent)) result }
 {
     let kind = kind_of(r[KIND]);
     match kind {
-        Kind::Source => Pushed::Stop,
-        Kind::Filter => Pushed::Stop,
+        Kind::Source => None,
+        Kind::Filter => None,
         Kind::Projection => handle_projection_pushdown(r, parent),
         Kind::Union => handle_custom_pushdown(parent),
-        Kind::Repartition => Pushed::Stop,
-        Kind::Coalesce => Pushed::Stop,
+        Kind::Repartition => None,
+        Kind::Coalesce => None,
         Kind::Sort => handle_sort(r, a, parent),
         Kind::Merge => push_past_merge(r, own, parent),
         Kind::GlobalLimit => handle_custom_pushdown(parent),
@@ -151,7 +156,7 @@ fn push_by_kind(r: &[u8], own: &[u8], a: &[u8], b: &[u8], parent: Keys) -> Pushe
         ),
         Kind::HashJoin => handle_hash_join(join_type(r), width(own), width(b), parent),
         Kind::OutputRequirement => push_past_output_requirement(r, parent),
-        Kind::PartialSort => Pushed::Stop,
+        Kind::PartialSort => None,
         Kind::Aggregate => handle_aggregate_pushdown(r, own, a, parent),
     }
 }
@@ -159,21 +164,21 @@ fn push_by_kind(r: &[u8], own: &[u8], a: &[u8], b: &[u8], parent: Keys) -> Pushe
 // ---- fetches
 
 // A limit on the parent does not go through operators that change the cardinality.
-fn fetch_blocks(r: &[u8], f: Fetch) -> bool
+fn fetch_blocks(r: &[u8], f: Option<u32>) -> bool
     requires { Proper r.now }
     ensures { result ≡ walk.fetch_blocks (decode r.now) f }
 {
-    some_fetch(f) & !(supports_limit_pushdown(r) & cardinality_equal(r))
+    f.is_some() & !(supports_limit_pushdown(r) & cardinality_equal(r))
 }
 
 // An operator with a fetch that supports the pushdown of limits and maintains the order of its child; none with several children has a fetch.
-fn through_fetch(r: &[u8], own: &[u8], a: &[u8], limit: Fetch) -> bool
+fn through_fetch(r: &[u8], own: &[u8], a: &[u8], limit: Option<u32>) -> bool
     requires { Proper r.now × FactRow own.now × FactRow a.now }
-    ensures { (o : Op) (fs : List sem.Facts) (ts : List Fetches) (m : ℕ) (R : sem.Facts) → SeenNode (decode r.now) o fs m
+    ensures { (o : Op) (fs : List sem.Facts) (ts : List (Option ℕ)) (m : ℕ) (R : sem.Facts) → SeenNode (decode r.now) o fs m
         (told own.now) (told a.now) R → limit ≡ fetch_op (decode r.now) ts
         → result ≡ walk.through_fetch (decode r.now) limit m fs }
 {
-    some_fetch(limit) & (supports_limit_pushdown(r) & maintains(r, own, a, 0))
+    limit.is_some() & (supports_limit_pushdown(r) & maintains(r, own, a, 0))
 }
 
 fn order_allows(own: &[u8], parent: Keys) -> bool
@@ -181,19 +186,19 @@ fn order_allows(own: &[u8], parent: Keys) -> bool
     ensures { result ≡ (sem.is_nil (sem.known_order (told own.now)) || sem.compatible (told own.now) (keys_of parent)
         (sem.known_order (told own.now))) }
 {
-    let Order::By(order) = known_order(own) else {
+    let Some(order) = known_order(own) else {
         return true;
     };
     compatible(own, parent, order)
 }
 
 // Past an operator with a fetch, the requirement in the child's columns.
-fn handle_fetch(r: &[u8], own: &[u8], parent: Keys) -> Pushed
+fn handle_fetch(r: &[u8], own: &[u8], parent: Keys) -> Option<ChildOrders>
     requires { Proper r.now × FactRow own.now × (parent.len ≤ 8) }
     ensures { (fs : List sem.Facts) (m : ℕ) → HandsOn m (walk.handle_fetch (decode r.now) (told own.now) fs (keys_of parent)) result }
 {
     if !order_allows(own, parent) {
-        return Pushed::Stop;
+        return None;
     }
     if is_projection(r) {
         return handle_projection_pushdown(r, parent);
@@ -207,17 +212,17 @@ pub fn pushdown_requirement_to_children(
     own: &[u8],
     a: &[u8],
     b: &[u8],
-    limit: Fetch,
+    limit: Option<u32>,
     parent: Keys,
-    fetch: Fetch,
-) -> Pushed
+    fetch: Option<u32>,
+) -> Option<ChildOrders>
     requires { Asked r.now own.now a.now b.now parent }
-    ensures { (o : Op) (fs : List sem.Facts) (ts : List Fetches) (m : ℕ) → SeenNode (decode r.now) o fs m (told own.now)
+    ensures { (o : Op) (fs : List sem.Facts) (ts : List (Option ℕ)) (m : ℕ) → SeenNode (decode r.now) o fs m (told own.now)
         (told a.now) (told b.now) → limit ≡ fetch_op o ts
         → HandsOn m (walk.pushdown_requirement_to_children o limit m fs (keys_of parent) fetch) result }
 {
     if fetch_blocks(r, fetch) {
-        return Pushed::Stop;
+        return None;
     }
     if through_fetch(r, own, a, limit) {
         return handle_fetch(r, own, parent);

@@ -64,11 +64,7 @@ fn alike(a: &Table, b: &Table, c: usize, i: usize) -> bool
     requires { (c < 32) × (i < 32) }
     ensures { result ≡ alike_at a.now b.now c i }
 {
-    if low(a, i) == low(a, c) {
-        low(b, i) == low(b, c)
-    } else {
-        false
-    }
+    low(a, i) == low(a, c) && low(b, i) == low(b, c)
 }
 
 // The lowest column that is equal to column c in both tables.
@@ -76,12 +72,10 @@ fn union_low(a: &Table, b: &Table, c: usize) -> usize
     requires { c < 32 }
     ensures { result ≡ union_low a.now b.now c }
 {
-    let mut i = 0;
-    while i < c {
+    for i in 0..c {
         if alike(a, b, c, i) {
             return i;
         }
-        i += 1;
     }
     c
 }
@@ -92,10 +86,8 @@ pub fn union_table(a: &Table, b: &Table, width: usize) -> Table
     ensures { Filled width (union_low a.now b.now) result }
 {
     let mut r = alone();
-    let mut c = 0;
-    while c < width {
+    for c in 0..width {
         r[c] = entry(union_low(a, b, c));
-        c += 1;
     }
     r
 }
@@ -105,12 +97,10 @@ pub fn carried(table: &Table, cols: &[usize], class: usize, n: usize) -> usize
     requires { Columns cols.now × (n ≤ length cols.now) }
     ensures { result ≡ lowest (carries table.now cols.now class) n }
 {
-    let mut j = 0;
-    while j < n {
+    for j in 0..n {
         if low(table, cols[j]) == class {
             return j;
         }
-        j += 1;
     }
     n
 }
@@ -121,10 +111,8 @@ pub fn projection_table(table: &Table, cols: &[usize]) -> Table
     ensures { Filled (length cols.now) (projection_low table.now cols.now) result }
 {
     let mut r = alone();
-    let mut j = 0;
-    while j < cols.len() {
+    for j in 0..cols.len() {
         r[j] = entry(carried(table, cols, low(table, cols[j]), j));
-        j += 1;
     }
     r
 }
@@ -135,10 +123,8 @@ pub fn projection_set(set: u32, cols: &[usize]) -> u32
     ensures { Holding (below (length cols.now) (λ j. bit set (get_or cols.now j 0))) result }
 {
     let mut r: u32 = 0;
-    let mut j = 0;
-    while j < cols.len() {
+    for j in 0..cols.len() {
         r = with_if(has(set, cols[j]), r, j);
-        j += 1;
     }
     r
 }
@@ -149,26 +135,17 @@ pub fn beside_table(left: Table, right: &Table, w: usize, n: usize) -> Table
     ensures { Filled (w + n) (beside_low left right.now w) result }
 {
     let mut r = left;
-    let mut c = w;
-    while c < w + n {
+    for c in w..w + n {
         r[c] = entry(w + low(right, c - w));
-        c += 1;
     }
     r
-}
-
-// The lower of two columns.
-fn lower(x: usize, y: usize) -> usize
-    ensures { result ≡ min x y }
-{
-    if x <= y { x } else { y }
 }
 
 // Whether z is one of two classes.
 fn one_of(z: usize, x: usize, y: usize) -> bool
     ensures { result ≡ eqb z x || eqb z y }
 {
-    if z == x { true } else { z == y }
+    z == x || z == y
 }
 
 // What the entry z becomes when the classes x and y are one.
@@ -176,7 +153,7 @@ fn joined(z: u8, x: usize, y: usize) -> u8
     ensures { result ≡ cond (eqb z x || eqb z y) (min x y) z }
 {
     if one_of(z as usize, x, y) {
-        entry(lower(x, y))
+        entry(x.min(y))
     } else {
         z
     }
@@ -188,10 +165,8 @@ pub fn linked_table(table: &Table, x: usize, y: usize, width: usize) -> Table
     ensures { Filled width (linked_low table.now x y) result }
 {
     let mut r = alone();
-    let mut c = 0;
-    while c < width {
+    for c in 0..width {
         r[c] = joined(table[c], x, y);
-        c += 1;
     }
     r
 }
@@ -202,10 +177,8 @@ pub fn class_set(table: &Table, x: usize, y: usize, width: usize) -> u32
     ensures { Holding (below width (in_classes table.now x y)) result }
 {
     let mut r: u32 = 0;
-    let mut c = 0;
-    while c < width {
+    for c in 0..width {
         r = with_if(one_of(low(table, c), x, y), r, c);
-        c += 1;
     }
     r
 }
@@ -214,7 +187,7 @@ pub fn class_set(table: &Table, x: usize, y: usize, width: usize) -> u32
 fn has_one(set: u32, a: usize, b: usize) -> bool
     ensures { result ≡ bit set a || bit set b }
 {
-    if has(set, a) { true } else { has(set, b) }
+    has(set, a) || has(set, b)
 }
 
 // The constants when columns a and b are equal: a class that holds a constant is all constant.

@@ -12,21 +12,16 @@ use plan_format::Fields;
 pub fn at_or_zero(s: &[u8], i: usize) -> u8
     ensures { result ≡ get_or s.now i 0 }
 {
-    if i < s.len() {
-        return s[i];
-    }
-    0
+    s.get(i).copied().unwrap_or(0)
 }
 
 fn below_ok(l: &[u8], limit: u8) -> bool
     ensures { result ≡ below_ok l.now limit }
 {
-    let mut i = 0;
-    while i < l.len() {
-        if limit <= l[i] {
+    for x in l {
+        if limit <= *x {
             return false;
         }
-        i += 1;
     }
     true
 }
@@ -36,12 +31,10 @@ fn fresh_ok(l: &[u8], i: usize) -> bool
     ensures { result ≡ fresh_ok l.now i }
 {
     let x = l[i];
-    let mut j = 0;
-    while j < i {
+    for j in 0..i {
         if l[j] == x {
             return false;
         }
-        j += 1;
     }
     true
 }
@@ -57,12 +50,10 @@ fn column_ok(l: &[u8], limit: u8, i: usize) -> bool
 fn columns_ok(l: &[u8], limit: u8) -> bool
     ensures { result ≡ columns_ok l.now limit }
 {
-    let mut i = 0;
-    while i < l.len() {
+    for i in 0..l.len() {
         if !column_ok(l, limit, i) {
             return false;
         }
-        i += 1;
     }
     true
 }
@@ -83,7 +74,7 @@ fn set_below(x: u32, limit: u8) -> bool
     if 32 <= limit {
         return true;
     }
-    x >> (limit as u32) == 0
+    x >> u32::from(limit) == 0
 }
 
 fn key_columns(r: &[u8]) -> [u8; 8]

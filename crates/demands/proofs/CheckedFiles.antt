@@ -2,17 +2,17 @@
 -- keep its declared facts feeds every operator in order. Said over the definitions that the contract of `check_order` cites: `refusal_of`
 -- (plan_format), `number_of` (plan), `reading` (plan_codec), `check_answer` (call_answers).
 -- Definitions further: AllBytes (scan); Plan, well_formed (plan); Env, Sources, Run, EachMet (semantics); AllFed (OrderKept).
-use Rattle.std.specs.Prelude.{◌≡◌, Bool, cond, List, ℕ}
+use Rattle.std.specs.Prelude.{◌≡◌, Bool, List, ℕ, Ok, Err}
 use Rattle.std.proofs.Math.Path.{refl}
 use Rattle.std.proofs.Common.{sym, ap, ◌∙◌, arith}
 use Rattle.std.proofs.Math.Bool.{true, false}
-use borrow.Author.Tests.{eq-eqb, eqb-true}
 use Rattle.std.proofs.Math.Dec.{eqb}
 use Rattle.plan.specs.Op.{Plan}
-use Rattle.plan.specs.Numbers.{number_of}
+use Rattle.plan.specs.Numbers.{Verdict, number_of}
+use Rattle.plan_format.specs.Passed.{accepted}
 use Rattle.plan_format.specs.Reading.{refusal_of}
 use Rattle.scan.specs.Bytes.{AllBytes, one_if}
-use Rattle.plan_codec.specs.Reading.{plan, plan_of, reading, refused}
+use Rattle.plan_codec.specs.Reading.{plan, plan_of, unless_refused, reading}
 use Rattle.plan_codec.proofs.RoundTrip.{read_well_formed}
 use Rattle.semantics.specs.Check.{check, EachMet}
 use Rattle.semantics.proofs.Theorems.Check.CheckIsMet.{check-met, met-check}
@@ -22,7 +22,7 @@ use Rattle.demands.specs.CheckedFiles.{FeedsInOrder, Holding}
 
 is_plan : (s : List ℕ) → number_of (refusal_of s) ≡ 0 → reading s ≡ plan (plan_of s)
 unfolding reading
-is_plan s z = ap (λ b. cond b (plan (plan_of s)) (refused (refusal_of s))) (eq-eqb (number_of (refusal_of s)) 0 z)
+is_plan s z = ap (λ v. unless_refused v (plan_of s)) (accepted (refusal_of s) z)
 
 is_answer_lem : (f : Plan) (p : ℕ) → check_answer (plan f) p ≡ one_if (check f)
 unfolding check_answer
@@ -62,9 +62,8 @@ module _ (s : List ℕ) (answer before after : ℕ) (bytes : AllBytes s)
 
   pub told-refused : (answer ≡ 0 → ⊥) → false ≡ passes_in (after_reading (λ f. checks (check f)) (reading s))
   unfolding reading
-  told-refused z = go (eqb (number_of (refusal_of s)) 0) refl
+  told-refused z = go (refusal_of s) refl
     where
-      go : (b : Bool) → eqb (number_of (refusal_of s)) 0 ≡ b
-          → false ≡ passes_in (after_reading (λ f. checks (check f)) (cond b (plan (plan_of s)) (refused (refusal_of s))))
-      go true e = absurd (z (first ∙ eqb-true (number_of (refusal_of s)) 0 e))
-      go false e = refl
+      go : (v : Verdict) → refusal_of s ≡ v → false ≡ passes_in (after_reading (λ f. checks (check f)) (unless_refused v (plan_of s)))
+      go (Ok x) e = absurd (z (first ∙ ap number_of e))
+      go (Err x) e = refl

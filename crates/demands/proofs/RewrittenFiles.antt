@@ -2,21 +2,21 @@
 -- over the definitions that the contracts of the exports cite: `rewrites`, `refusal_in`, `output_in` (call_answers).
 -- Definitions further: reading (plan_codec); well_formed (plan); AllBytes (scan); answer (Walks); partially_sorted (walks); AllFed (OrderKept);
 -- clear (walks); SameInputs, Run (semantics); delivered, times (RowsKept).
-use Rattle.std.specs.Prelude.{◌≡◌, Bool, true, false, cond, List, ◌++◌, ℕ, eqb, length, take, drop}
+use Rattle.std.specs.Prelude.{◌≡◌, Bool, true, false, cond, List, ◌++◌, ℕ, length, take, drop, Ok, Err}
 use Rattle.std.proofs.Math.Path.{refl}
 use Rattle.std.proofs.Common.{sym, ap, ◌∙◌, subst, arith}
-use Rattle.std.proofs.lemmas.Bool.{eqb-false}
 use Rattle.std.proofs.lemmas.List.{take-append-le}
 use Rattle.std.proofs.Math.Seq.{take-length}
 use Rattle.plan.specs.Forest.{none, tree}
 use Rattle.plan.specs.Op.{Plan}
-use Rattle.plan.specs.Numbers.{number_of}
+use Rattle.plan.specs.Numbers.{Verdict, Accepted, refusal_number, number_of}
 use Rattle.plan.specs.WellFormed.{every, well_formed}
-use Rattle.plan.specs.declared.Refusal.TheVariants.{Accepted, ConstantSort, HasPartialSort, OutputTooShort, TooManyNodes}
+use Rattle.plan.specs.declared.Refusal.TheVariants.{ConstantSort, HasPartialSort, OutputTooShort, TooManyNodes}
+use Rattle.plan_format.specs.Passed.{refused_some}
 use Rattle.plan_format.specs.Reading.{refusal_of}
 use Rattle.scan.specs.Bytes.{AllBytes}
 use Rattle.plan_codec.specs.Reading as codec
-use Rattle.plan_codec.specs.Reading.{plan, plan_of, reading}
+use Rattle.plan_codec.specs.Reading.{plan_of, unless_refused, reading}
 use Rattle.plan_codec.specs.Writing.{file_of_plan}
 use Rattle.plan_codec.proofs.RoundTrip.{read_well_formed, read_written}
 use Rattle.walks.specs.Marks.{strip, transform_up, Tree}
@@ -37,7 +37,7 @@ use Rattle.demands.specs.RewrittenFiles.{Rewriting}
 -- ---- no walk refuses with the number 0
 
 abbrev Numbered : Answer → Type 0
-Numbered (refused x) = number_of x ≡ 0 → ⊥
+Numbered (refused x) = refusal_number x ≡ 0 → ⊥
 Numbered (answered f) = Unit {0}
 
 up_numbered : (a b : Bool) (g : Plan) → Numbered (cond a (refused HasPartialSort) (cond b (answered g) (refused TooManyNodes)))
@@ -76,11 +76,11 @@ module _ (g : Plan → Answer) (numbered : (f : Plan) → well_formed f ≡ true
     (well : (f h : Plan) → well_formed f ≡ true → g f ≡ answered h → well_formed h ≡ true) (s out : List ℕ) (bytes : AllBytes s) (n : ℕ) (out' : List ℕ)
     (z : n ≡ 0) where
   -- by what was read
-  read_as : (b : Bool) → eqb (number_of (refusal_of s)) 0 ≡ b → reading s ≡ cond b (plan (plan_of s)) (codec.refused (refusal_of s))
+  read_as : (v : Verdict) → reading s ≡ unless_refused v (plan_of s)
       → n ≡ number_of (refusal_in (rewrites g s) out) → out' ≡ output_in (rewrites g s) out → Rewriting g s out'
-  read_as false q r first second =
-      absurd (eqb-false (number_of (refusal_of s)) 0 q (sym (ap (λ x. number_of (refusal_in (after_reading (λ f. rewritten (g f)) x) out)) r) ∙ sym first ∙ z))
-  read_as true q r first second =
+  read_as (Err x) r first second =
+      absurd (refused_some x (sym (ap (λ x. number_of (refusal_in (after_reading (λ f. rewritten (g f)) x) out)) r) ∙ sym first ∙ z))
+  read_as (Ok v) r first second =
       walked (g (plan_of s)) refl
       (first ∙ ap (λ x. number_of (refusal_in (after_reading (λ f. rewritten (g f)) x) out)) r)
       (second ∙ ap (λ x. output_in (after_reading (λ f. rewritten (g f)) x) out) r)
@@ -89,7 +89,7 @@ module _ (g : Plan → Answer) (numbered : (f : Plan) → well_formed f ≡ true
       fine = read_well_formed s (plan_of s) bytes r
 
       -- by the room in the output
-      short : (h : Plan) → g (plan_of s) ≡ answered h → (b : Bool) → n ≡ number_of (cond b OutputTooShort Accepted)
+      short : (h : Plan) → g (plan_of s) ≡ answered h → (b : Bool) → n ≡ number_of (cond b (Err OutputTooShort) Accepted)
           → out' ≡ cond b out (file_of_plan h ++ drop (length (file_of_plan h)) out) → Rewriting g s out'
       short h e true first second = absurd (let y : 0 ≡ 24 = sym z ∙ first in omega arith)
       short h e false first second =
@@ -116,7 +116,7 @@ module _ (w : Walk) (s out : List ℕ) (bytes : AllBytes s) (n : ℕ) (out' : Li
     (second : out' ≡ output_in (rewrites (answer w) s) out) where
   pub rewriting : n ≡ 0 → Rewriting (answer w) s out'
   unfolding reading
-  rewriting z = read_as (answer w) (answer_numbered w) (well_formed_again w) s out bytes n out' z (eqb (number_of (refusal_of s)) 0) refl refl first second
+  rewriting z = read_as (answer w) (answer_numbered w) (well_formed_again w) s out bytes n out' z (refusal_of s) refl first second
 
 -- ---- partial sorting of node number k: `replace_with_partial_sort`, by its contract
 
@@ -125,5 +125,5 @@ module _ (k : ℕ) (s out : List ℕ) (bytes : AllBytes s) (n : ℕ) (out' : Lis
   pub partial_rewriting : n ≡ 0 → Rewriting (partially_sorted k) s out'
   unfolding reading
   partial_rewriting z =
-      read_as (partially_sorted k) (λ f e. partial_numbered k f (from_node k f)) (partial_well k) s out bytes n out' z (eqb (number_of (refusal_of s)) 0) refl refl
+      read_as (partially_sorted k) (λ f e. partial_numbered k f (from_node k f)) (partial_well k) s out bytes n out' z (refusal_of s) refl
       first second

@@ -28,6 +28,7 @@ use Rattle.step_tables.specs.Found.{Known}
 use Rattle.step_tables.specs.Complete.{Complete}
 use Rattle.step_tables.specs.Rows.{Room}
 use Rattle.step_tables.specs.Passes.{node_in, Laid}
+use Rattle.step_tables.specs.declared.StepNode.{StepNode}
 use Rattle.step_tables.specs.Layout.{length_nodes, NodesAre, listed_nodes, laid}
 use Rattle.step_tables.proofs.FirstRows.{all_rows, move_by}
 use Rattle.step_tables.specs.Holding.{HeldAre}
@@ -74,17 +75,17 @@ pub few_streams : (f : Plan) → well_formed f ≡ true → total (facts f) ≤ 
 few_streams f w = omega (arith, root_places f (fine_nodes f w), leaves_few f, few_nodes f w)
 
 -- its root's streams, from the table of nodes
-pub root_inside : (f : Plan) (nodes : List ℕ) → well_formed f ≡ true → NodesOf f nodes → 3 < length nodes
+pub root_inside : (f : Plan) (nodes : List StepNode) → well_formed f ≡ true → NodesOf f nodes → 0 < length nodes
 root_inside f nodes w l = omega (arith, l.room, length_nodes (size f) 0 0 (total (facts f)) f, some f (one_root f w))
   where
     some : (f : Plan) → length (roots f) ≡ 1 → 1 ≤ size f
     some none e = absurd (omega arith)
     some (tree o c r) e = omega arith
 
-pub root_streams_lem : (f : Plan) (nodes : List ℕ) → well_formed f ≡ true → NodesOf f nodes → get_or nodes 3 0 ≡ total (facts f)
+pub root_streams_lem : (f : Plan) (nodes : List StepNode) → well_formed f ≡ true → NodesOf f nodes → (node_in nodes 0).outs ≡ total (facts f)
 root_streams_lem f nodes w l = go f (one_root f w) (listed_nodes nodes (size f) 0 (total (facts f)) f l)
   where
-    go : (g : Plan) → length (roots g) ≡ 1 → NodesAre (node_in nodes) (size f) 0 0 (total (facts f)) g → get_or nodes 3 0 ≡ total (facts g)
+    go : (g : Plan) → length (roots g) ≡ 1 → NodesAre (node_in nodes) (size f) 0 0 (total (facts f)) g → (node_in nodes 0).outs ≡ total (facts g)
     go none e h = absurd (omega arith)
     go (tree o c none) e h = let x = ap (λ (q : Node). q.outs) h.0 in omega (arith, x)
     go (tree o c (tree p d r)) e h = absurd (omega arith)
@@ -118,7 +119,7 @@ start-size rows i none = refl
 start-size rows i (tree o c r) = omega (arith, start-size rows (next_s o i) c, start-size rows (past next_s c (next_s o i)) r)
 
 -- ---- `load`
-module _ (s : List ℕ) (n : ℕ) (rows nodes : List ℕ) (gone : ℕ) (cells : List ℤ) (nulls widths places order held queued : List ℕ)
+module _ (s : List ℕ) (n : ℕ) (rows : List ℕ) (nodes : List StepNode) (gone : ℕ) (cells : List ℤ) (nulls widths places order held queued : List ℕ)
     (g : Given s n rows (length places)) (li : NodesOf (plan_of s) nodes) (r : ByRow (length places) cells nulls widths places order)
     (b : ByPlace n gone held queued) (e : gone ≡ places_of (plan_of s)) where
   abbrev f : Plan

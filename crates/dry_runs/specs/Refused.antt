@@ -1,13 +1,12 @@
 -- Which answer comes: refusals of the file and of the rows, in their order, and what is stepped. Assumes nothing.
-use Rattle.std.specs.Prelude.{◌≡◌, refl, Bool, true, false, cond, not, ◌&&◌, ◌||◌, List, ℕ, ◌+◌, ◌*◌, ◌≤◌, ◌<◌, ltb, eqb, length}
-use Rattle.std.proofs.Common.{sym, ap, ◌∙◌, subst, arith, lt-ltb, le-ltb, ltb-true, ltb-false, eqb-true, ne_eqb}
+use Rattle.std.specs.Prelude.{◌≡◌, refl, Bool, true, false, cond, not, ◌&&◌, ◌||◌, List, ℕ, ◌+◌, ◌*◌, ◌≤◌, ◌<◌, ltb, eqb, length, Ok, Err}
+use Rattle.std.proofs.Common.{sym, ap, ◌∙◌, subst, arith, lt-ltb, le-ltb, ltb-true, ltb-false, eqb-true}
 use Rattle.row_order.proofs.Order.{no_bool}
-use Rattle.plan.specs.Numbers.{number_of}
+use Rattle.plan.specs.Numbers.{Verdict, Accepted, number_of}
 use Rattle.plan.specs.Op.{Plan}
-use Rattle.plan.specs.declared.Refusal.TheVariants.{Accepted}
 use Rattle.plan_format.specs.Blocks.{block_count, record_count}
 use Rattle.plan_format.specs.Reading.{refusal_of}
-use Rattle.plan_codec.specs.Reading.{plan_of, reading}
+use Rattle.plan_codec.specs.Reading.{plan_of, unless_refused, reading}
 use Rattle.plan_arena.specs.ReadFile.{block_slots, few_blocks, fillable, is_accepted}
 use Rattle.plan_arena.specs.Fill.{HoldsTree}
 use Rattle.plan_codec.proofs.RoundTrip.{read_well_formed}
@@ -17,7 +16,7 @@ use Rattle.semantics.proofs.Theorems.Common.Bools.{and_left}
 use Rattle.stepping.specs.Answers.{Answer, refused, fitted, answer, number, output, first_unstepped, sources_ok, many_rows}
 use Rattle.stepping.specs.RowBytes.{rows_in, form_ok, streams_bytes}
 use Rattle.stepping.specs.Stepping.{delivered, can_step}
-use Rattle.step_answers.specs.Answers.{returned, output_after}
+use Rattle.step_answers.specs.Answers.{after_reading, returned, output_after}
 use Rattle.settling.specs.Reading.{is_plan, loaded_all, plan_is}
 use Rattle.row_reader.specs.Plans.{row_count}
 use Rattle.dry_runs.specs.Tables.{rows_refusal, last_answer, Given, Stored}
@@ -69,7 +68,12 @@ module _ (f : Plan) (rows bytes out : List ℕ) where
 -- ---- the file
 pub file_refused : (s rows bytes out : List ℕ) (n : ℕ) → n ≡ number_of (refusal_of s) → (n ≡ 0 → ⊥) → (n ≡ returned s rows bytes out) × (out ≡ output_after s rows bytes out)
 unfolding reading
-file_refused s rows bytes out n e z = rw (ne_eqb (number_of (refusal_of s)) 0 (λ q. z (e ∙ q))) (e, refl)
+file_refused s rows bytes out n e z = go-read (refusal_of s) refl
+  where
+    go-read : (v : Verdict) → refusal_of s ≡ v
+        → (n ≡ number (after_reading (unless_refused v (plan_of s)) rows bytes (length out))) × (out ≡ output (after_reading (unless_refused v (plan_of s)) rows bytes (length out)) out)
+    go-read (Ok x) q = absurd (z (e ∙ ap number_of q))
+    go-read (Err x) q = (e ∙ ap number_of q, refl)
 
 pub blocks_inside : (n : ℕ) → (eqb n 0 || ltb 18 n) ≡ false → n ≤ 18
 blocks_inside n e = go (eqb n 0) e

@@ -1,5 +1,7 @@
 -- From the first state to what is delivered, and to the last answer. Assumes nothing.
 use Rattle.std.specs.Prelude.{◌≡◌, refl, true, List, ◌++◌, ℕ, ◌+◌, ◌≤◌, ◌<◌, ℤ, length, get_or, take, drop, replicate}
+use Rattle.step_tables.specs.declared.StepNode.{StepNode}
+use Rattle.step_tables.specs.Passes.{node_in}
 use Rattle.std.proofs.Common.{sym, ap, ◌∙◌, subst, arith, lt-ltb, le-ltb, length-take-le}
 use Rattle.std.proofs.lemmas.List.{length-replicate}
 use Rattle.plan.specs.Forest.{size}
@@ -37,7 +39,7 @@ pub fits : (room : ℕ) (b out out' : List ℕ) → length b ≤ room → out' �
 fits room b out out' h e = rw (le-ltb room (length b) h) (refl, e)
 
 -- ---- `step_in`
-module _ (s : List ℕ) (n : ℕ) (rows m : List ℕ) (u : ℕ) (slots nodes : List ℕ) (gone k len flags : ℕ) (counts : List ℕ)
+module _ (s : List ℕ) (n : ℕ) (rows m : List ℕ) (u : ℕ) (slots : List ℕ) (nodes : List StepNode) (gone k len flags : ℕ) (counts : List ℕ)
     (g : Given s n rows k) (t : Stands m u slots nodes gone (plan_of s)) (z : AsLong counts len flags) (lp : gone < len) (few : len < 1000000000) where
   module _ (cells : List ℤ) (nulls widths places order held queued : List ℕ)
       (b : Begins (plan_of s) rows nodes len cells nulls widths places order held queued) where
@@ -78,10 +80,10 @@ module _ (s : List ℕ) (n : ℕ) (rows m : List ℕ) (u : ℕ) (slots nodes : L
         q (plan_of s) (rows_in (plan_of s) rows) seated running (g.count ∙ sym (size_is s)) t.past b.enough
 
 -- what the last state's tables hold at the root's places is delivered
-pub delivers : (f : Plan) (rows nodes bytes : List ℕ) (len i : ℕ) (cells : List ℤ) (nulls widths places order counts held queued : List ℕ) →
+pub delivers : (f : Plan) (rows : List ℕ) (nodes : List StepNode) (bytes : List ℕ) (len i : ℕ) (cells : List ℤ) (nulls widths places order counts held queued : List ℕ) →
     well_formed f ≡ true → NodesOf f nodes →
     Running f nodes len i (book cells nulls widths places order counts held queued) (finished f (rows_in f rows) bytes) →
-    put_out (row_in cells nulls widths) places order (get_or nodes 3 0) ≡ delivered f (rows_in f rows) bytes
+    put_out (row_in cells nulls widths) places order (node_in nodes 0).outs ≡ delivered f (rows_in f rows) bytes
 delivers f rows nodes bytes len i cells nulls widths places order counts held queued w l r =
     ap (put_out (row_in cells nulls widths) places order) (root_streams_lem f nodes w l)
     ∙ root_delivers f (one_root f w) r.shows
@@ -96,7 +98,7 @@ last_is f rows bytes out out' x d e h =
 pub taken_long : (k : ℕ) → k ≤ 256 → k ≡ length (take k (replicate {A = ℕ} 256 0))
 taken_long k h = sym (length-take-le k (replicate {A = ℕ} 256 0) (omega (arith, length-replicate {A = ℕ} 256 0)))
 
-pub rows_lent : (s : List ℕ) (n : ℕ) (rows m : List ℕ) (u : ℕ) (slots nodes : List ℕ) (gone k flags : ℕ) (counts held : List ℕ) (cells : List ℤ) →
+pub rows_lent : (s : List ℕ) (n : ℕ) (rows m : List ℕ) (u : ℕ) (slots : List ℕ) (nodes : List StepNode) (gone k flags : ℕ) (counts held : List ℕ) (cells : List ℤ) →
     length cells ≡ 8192 → Given s n rows k → Stands m u slots nodes gone (plan_of s) → Counters gone counts held flags →
     Given s n rows (length (take k (replicate {A = ℕ} 256 0))) × Stands m u slots nodes gone (plan_of s)
     × ByRow (length (take k (replicate {A = ℕ} 256 0))) cells (replicate 256 0) (take k (replicate 256 0)) (take k (replicate 256 0)) (take k (replicate 256 0))
@@ -131,7 +133,7 @@ module _ (s : List ℕ) (n : ℕ) (rows : List ℕ) (k : ℕ) (m : List ℕ) (u 
   pub settled_few : size_t (tree_of m' h) ≤ 126
   settled_few = omega (arith, plan_size (tree_of m' h), ap size settled_is, few_nodes (plan_of s) g.well)
 
-  pub stands : (nodes slots : List ℕ) (r : Layout) → LaidOut m' u (plan_t (tree_of m' h)) nodes slots r →
+  pub stands : (nodes : List StepNode) (slots : List ℕ) (r : Layout) → LaidOut m' u (plan_t (tree_of m' h)) nodes slots r →
       Stands m' u slots nodes r.places (plan_of s) × (r.places < 258049)
   stands nodes slots r l =
       let d = subst (λ (f : Plan). LaidOut m' u f nodes slots r) settled_is l in

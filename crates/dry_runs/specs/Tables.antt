@@ -1,5 +1,6 @@
 -- What is asked before a dry run steps, and what it answers. These are definitions.
 use Rattle.std.specs.Prelude.{◌≡◌, Bool, true, cond, not, ◌&&◌, List, ℕ, ◌+◌, ◌*◌, ◌≤◌, ◌<◌, ℤ, length}
+use Rattle.step_tables.specs.declared.StepNode.{StepNode}
 use Rattle.plan.specs.Numbers.{number_of}
 use Rattle.plan.specs.Op.{Plan}
 use Rattle.plan.specs.WellFormed.{well_formed}
@@ -38,7 +39,7 @@ pub record Given (s : List ℕ) (n : ℕ) (rows : List ℕ) (k : ℕ) : Type 0 w
   pub few_rows : k ≤ 256
 
 -- The plan f stands in the arena and in the table of nodes, with so many places
-pub record Stands (m : List ℕ) (u : ℕ) (slots nodes : List ℕ) (gone : ℕ) (f : Plan) : Type 0 where
+pub record Stands (m : List ℕ) (u : ℕ) (slots : List ℕ) (nodes : List StepNode) (gone : ℕ) (f : Plan) : Type 0 where
   pub arena : Arena m u
   pub slotted : Slotted m u slots f
   pub listed : NodesOf f nodes

@@ -19,6 +19,7 @@ ghost use Rattle.dry_runs.specs.Begun.{book, Begins};
 ghost use Rattle.dry_runs.specs.Tables.{rows_refusal, last_answer, Given, Stands, Stored, ByRow, ByPlace, AsLong, Counters, places_of};
 
 use arena::SLOT;
+use step_tables::{NO_NODE, StepNode};
 
 // "256 plus the first such node's number, ahead of 26 and 27"; 26 "checked first", 27 "checked after 26"; 0 where none of them comes.
 fn refusal_of_rows(plan: &[u8], n: usize, rows: &[u8]) -> u32
@@ -46,7 +47,7 @@ fn load(
     plan: &[u8],
     n: usize,
     rows: &[u8],
-    nodes: &[usize],
+    nodes: &[StepNode],
     gone: usize,
     cells: &mut [i64],
     nulls: &mut [u32],
@@ -102,7 +103,7 @@ fn step_in(
     m: &[u8],
     u: usize,
     slots: &[usize],
-    nodes: &[usize],
+    nodes: &[StepNode],
     gone: usize,
     cells: &mut [i64],
     nulls: &mut [u32],
@@ -129,7 +130,7 @@ fn step_in(
         m, u, slots, nodes, n, gone, choices, cells, nulls, widths, places, order, counts, held,
         queued, flags,
     );
-    let s = nodes[3];
+    let s = nodes[0].outs;
     deliver(out, cells, nulls, widths, places, order, s)
 }
 
@@ -143,7 +144,7 @@ fn step_with_rows(
     m: &[u8],
     u: usize,
     slots: &[usize],
-    nodes: &[usize],
+    nodes: &[StepNode],
     gone: usize,
     counts: &mut [u16],
     held: &mut [u16],
@@ -185,8 +186,8 @@ fn step_with_rows(
     )
 }
 
-// The tables by place, for up to 511 places.
-fn in_512(
+// The tables by place, for fewer than PLACES of them.
+fn in_places<const PLACES: usize>(
     plan: &[u8],
     n: usize,
     rows: &[u8],
@@ -195,18 +196,19 @@ fn in_512(
     m: &[u8],
     u: usize,
     slots: &[usize],
-    nodes: &[usize],
+    nodes: &[StepNode],
     gone: usize,
     out: &mut [u8],
 ) -> u32
-    requires { Given plan.now n rows.now k × Stands m.now u slots.now nodes.now gone (plan_of plan.now) × (gone < 512) }
+    requires { Given plan.now n rows.now k × Stands m.now u slots.now nodes.now gone (plan_of plan.now) × (gone < PLACES)
+        × (PLACES < 1000000000) }
     ensures { (result ≡ number (last_answer (plan_of plan.now) rows.now choices.now (length out.old)))
         × (out.new ≡ output (last_answer (plan_of plan.now) rows.now choices.now (length out.old))
         out.old) }
 {
-    let mut counts = [0u16; 512];
-    let mut held = [0u16; 512];
-    let mut flags = [false; 512];
+    let mut counts = [0u16; PLACES];
+    let mut held = [0u16; PLACES];
+    let mut flags = [false; PLACES];
     step_with_rows(
         plan,
         n,
@@ -225,87 +227,7 @@ fn in_512(
     )
 }
 
-// The same for up to 16,383.
-fn in_16384(
-    plan: &[u8],
-    n: usize,
-    rows: &[u8],
-    k: usize,
-    choices: &[u8],
-    m: &[u8],
-    u: usize,
-    slots: &[usize],
-    nodes: &[usize],
-    gone: usize,
-    out: &mut [u8],
-) -> u32
-    requires { Given plan.now n rows.now k × Stands m.now u slots.now nodes.now gone (plan_of plan.now) × (gone < 16384) }
-    ensures { (result ≡ number (last_answer (plan_of plan.now) rows.now choices.now (length out.old)))
-        × (out.new ≡ output (last_answer (plan_of plan.now) rows.now choices.now (length out.old))
-        out.old) }
-{
-    let mut counts = [0u16; 16384];
-    let mut held = [0u16; 16384];
-    let mut flags = [false; 16384];
-    step_with_rows(
-        plan,
-        n,
-        rows,
-        k,
-        choices,
-        m,
-        u,
-        slots,
-        nodes,
-        gone,
-        &mut counts,
-        &mut held,
-        &mut flags,
-        out,
-    )
-}
-
-// And for all that there can be: a plan of 126 nodes has at most 258,048 places.
-fn in_258049(
-    plan: &[u8],
-    n: usize,
-    rows: &[u8],
-    k: usize,
-    choices: &[u8],
-    m: &[u8],
-    u: usize,
-    slots: &[usize],
-    nodes: &[usize],
-    gone: usize,
-    out: &mut [u8],
-) -> u32
-    requires { Given plan.now n rows.now k × Stands m.now u slots.now nodes.now gone (plan_of plan.now) × (gone < 258049) }
-    ensures { (result ≡ number (last_answer (plan_of plan.now) rows.now choices.now (length out.old)))
-        × (out.new ≡ output (last_answer (plan_of plan.now) rows.now choices.now (length out.old))
-        out.old) }
-{
-    let mut counts = [0u16; 258049];
-    let mut held = [0u16; 258049];
-    let mut flags = [false; 258049];
-    step_with_rows(
-        plan,
-        n,
-        rows,
-        k,
-        choices,
-        m,
-        u,
-        slots,
-        nodes,
-        gone,
-        &mut counts,
-        &mut held,
-        &mut flags,
-        out,
-    )
-}
-
-// The stepping with tables of so many places.
+// The stepping with tables of so many places. The last are for all that there can be: a plan of 126 nodes has at most 258,048.
 fn with_places(
     plan: &[u8],
     n: usize,
@@ -315,7 +237,7 @@ fn with_places(
     m: &[u8],
     u: usize,
     slots: &[usize],
-    nodes: &[usize],
+    nodes: &[StepNode],
     gone: usize,
     out: &mut [u8],
 ) -> u32
@@ -325,12 +247,12 @@ fn with_places(
         out.old) }
 {
     if gone < 512 {
-        return in_512(plan, n, rows, k, choices, m, u, slots, nodes, gone, out);
+        return in_places::<512>(plan, n, rows, k, choices, m, u, slots, nodes, gone, out);
     }
     if gone < 16384 {
-        return in_16384(plan, n, rows, k, choices, m, u, slots, nodes, gone, out);
+        return in_places::<16384>(plan, n, rows, k, choices, m, u, slots, nodes, gone, out);
     }
-    in_258049(plan, n, rows, k, choices, m, u, slots, nodes, gone, out)
+    in_places::<258049>(plan, n, rows, k, choices, m, u, slots, nodes, gone, out)
 }
 
 // The stepping of the plan that was read, the tree at h, with k rows.
@@ -351,7 +273,7 @@ fn stepped_answer(
         out.old) }
 {
     settling::settle_all(m, u);
-    let mut nodes = [0usize; 882];
+    let mut nodes = [NO_NODE; 126];
     let mut slots = [0usize; 126];
     let l = step_nodes::lay_out(m, u, h, &mut nodes, &mut slots);
     with_places(
@@ -368,15 +290,13 @@ pub fn dry_run(plan: &[u8], rows: &[u8], choices: &[u8], out: &mut [u8]) -> u32
 {
     let blocks = plan.len() / 512;
     if (blocks == 0) | (18 < blocks) {
-        return plan::number(plan_reader::refusal_of(plan));
+        return plan::number_of(plan_reader::refusal_of(plan));
     }
     let mut m = [0u8; SLOTS_126];
-    let a = plan_arena::read(plan, &mut m);
-    let x = a.refusal;
-    let number = plan::number(x);
-    if number != 0 {
-        return number;
-    }
+    let a = match plan_arena::read(plan, &mut m) {
+        Ok(a) => a,
+        Err(x) => return plan::number(x),
+    };
     let n = a.used;
     let refused = refusal_of_rows(plan, n, rows);
     if refused != 0 {

@@ -1,18 +1,14 @@
 -- One child in the loop of ensure_sorting.
-use Rattle.std.specs.Prelude.{◌≡◌, refl, Bool, true, false, cond, not, ◌||◌, List, [], ◌∷◌, ℕ, zero, suc, ◌+◌, ◌*◌, ◌≤◌, ◌<◌, ltb, length}
+use Rattle.std.specs.Prelude.{◌≡◌, refl, Bool, true, false, cond, not, ◌||◌, List, [], ◌∷◌, ℕ, zero, suc, ◌+◌, ◌*◌, ◌≤◌, ◌<◌, ltb, length, Option, None, Some}
 use Rattle.std.proofs.Common.{sym, ap, ap₂, ◌∙◌, subst, arith}
 use Rattle.row_order.specs.Iso.{Key}
 use Rattle.row_order.specs.Lists.{All}
 use Rattle.row_order.proofs.Order.{no_bool}
 use Rattle.plan.specs.Forest.{none, tree}
-use Rattle.plan.specs.declared.Fetch.{Fetch}
-use Rattle.plan.specs.declared.Fetch.TheVariants.{Unlimited}
 use Rattle.semantics.specs.Facts.{is_nil, met, nf, prefixb, at0, known_order}
 use Rattle.semantics.specs.Properties.{fresh_keys}
 use Rattle.key_lists.specs.Keys.{keys_in, keys_of, order_of, Real}
 use Rattle.key_lists.specs.declared.Keys.{Keys}
-use Rattle.key_lists.specs.declared.Order.{Order}
-use Rattle.key_lists.specs.declared.Order.TheVariants.{Unordered, By}
 use Rattle.asked_facts.specs.Asked.{told}
 use Rattle.arena.specs.Arena.{slot_size}
 use Rattle.arena.specs.declared.At.{At}
@@ -38,17 +34,17 @@ use Rattle.sort_removal.specs.Removing.{remove_one, marked_grown}
 
 -- ---- a marked sort over a tree, whose mark is put right
 
-pub record Sorts (b : List ℕ) (w h : ℕ) (ks : List Key) (f : Fetch) : Type 0 where
+pub record Sorts (b : List ℕ) (w h : ℕ) (ks : List Key) (f : Option ℕ) : Type 0 where
   pub under : Under b w h 1
   pub keys : Sortable (tree_of b h) ks f
   pub some : is_nil (fresh_keys (fact (tree_of b h)) [] ks) ≡ false
 
-above : (p : Bool) (l : List Key) (f : Fetch) (t : Tree) → is_nil l ≡ false → set_mark true (cover (new_sort p l f) (set_mark (connected (op_t t) t.kids) t))
+above : (p : Bool) (l : List Key) (f : Option ℕ) (t : Tree) → is_nil l ≡ false → set_mark true (cover (new_sort p l f) (set_mark (connected (op_t t) t.kids) t))
     ≡ update_sort_ctx_children_data true (cover (new_sort p l f) t)
 above p [] f t e = no_bool (sym e)
 above p (k ∷ l) f t e = refl
 
-module _ (b : List ℕ) (w h : ℕ) (ks : List Key) (f : Fetch) (p : Sorts b w h ks f) where
+module _ (b : List ℕ) (w h : ℕ) (ks : List Key) (f : Option ℕ) (p : Sorts b w h ks f) where
   pub sort_standing : Standing b w h
   sort_standing = record { arena = p.under.arena; here = p.under.here }
 
@@ -115,7 +111,7 @@ some-keys : (n w : ℕ) → 0 < n → is_nil (keys_in n w) ≡ false
 some-keys zero w h = absurd (omega arith)
 some-keys (suc n) w h = refl
 
-by_some : (ks : List Key) (b s : Bool) (f : Fetch) (t : Tree) → is_nil ks ≡ false
+by_some : (ks : List Key) (b s : Bool) (f : Option ℕ) (t : Tree) → is_nil ks ≡ false
     → ensure_child ks b s f t ≡ cond (met (fact t) ks) t
     (update_sort_ctx_children_data true (add_sort_above ks f (cond (is_nil (known_order (fact t))) t (update_child_to_remove_unnecessary_sort s t))))
 by_some [] b s f t e = no_bool (sym e)
@@ -138,21 +134,21 @@ module _ (b : List ℕ) (u h : ℕ) (p : Ensures b u h) where
 
     -- nothing is wanted
     module _ (keeps : Bool) where
-      no_want : ensure_child [] keeps s Unlimited (tree_of b h) ≡ cond (not x || not keeps) (update_child_to_remove_unnecessary_sort s (tree_of b h)) (tree_of b h)
+      no_want : ensure_child [] keeps s None (tree_of b h) ≡ cond (not x || not keeps) (update_child_to_remove_unnecessary_sort s (tree_of b h)) (tree_of b h)
       no_want = ap (λ y. cond (y || not keeps) (update_child_to_remove_unnecessary_sort s t) t) nil_is
 
       pub updated : (not x || not keeps) ≡ true → (b' : List ℕ) (a : At) → Grown b u b' a (update_child_to_remove_unnecessary_sort s (tree_of b h))
-          (u + 2 * size_t (tree_of b h)) → Grown b u b' a (ensure_child [] keeps s Unlimited (tree_of b h)) (u + 2 * size_t (tree_of b h) + 1)
+          (u + 2 * size_t (tree_of b h)) → Grown b u b' a (ensure_child [] keeps s None (tree_of b h)) (u + 2 * size_t (tree_of b h) + 1)
       updated q b' a g =
           subst (λ v. Grown b u b' a v (u + 2 * size_t (tree_of b h) + 1)) (sym (no_want ∙ ap (λ y. cond y (update_child_to_remove_unnecessary_sort s t) t) q))
           (grown_more b u b' a (update_child_to_remove_unnecessary_sort s t) (u + 2 * size_t (tree_of b h)) (u + 2 * size_t (tree_of b h) + 1) (omega arith) g)
 
-      pub kept_free : (not x || not keeps) ≡ false → Grown b u b (record { used = u; root = h }) (ensure_child [] keeps s Unlimited (tree_of b h))
+      pub kept_free : (not x || not keeps) ≡ false → Grown b u b (record { used = u; root = h }) (ensure_child [] keeps s None (tree_of b h))
           (u + 2 * size_t (tree_of b h) + 1)
-      kept_free q = stays (ensure_child [] keeps s Unlimited t) (no_want ∙ ap (λ y. cond y (update_child_to_remove_unnecessary_sort s t) t) q)
+      kept_free q = stays (ensure_child [] keeps s None t) (no_want ∙ ap (λ y. cond y (update_child_to_remove_unnecessary_sort s t) t) q)
 
     -- an order is wanted
-    module _ (k : Keys) (e : 0 < k.len) (f : Fetch) (o : Sortable (tree_of b h) (keys_of k) f) (m : Bool) (hm : m ≡ met (told row) (keys_of k)) where
+    module _ (k : Keys) (e : 0 < k.len) (f : Option ℕ) (o : Sortable (tree_of b h) (keys_of k) f) (m : Bool) (hm : m ≡ met (told row) (keys_of k)) where
       abbrev E : Tree
       E = ensure_child (keys_of k) false s f t
 
@@ -226,16 +222,16 @@ module _ (b : List ℕ) (u h : ℕ) (p : Ensures b u h) where
 
 -- ---- as the code has the wanted order
 
-pub child_unordered : (b : List ℕ) (u : ℕ) (b' : List ℕ) (a : At) (o : Order) → o ≡ Unordered → (keeps s : Bool) (f : Fetch) (t : Tree) (top : ℕ)
-    → Grown b u b' a (ensure_child [] keeps s Unlimited t) top → Grown b u b' a (ensure_child (order_of o) keeps s f t) top
+pub child_unordered : (b : List ℕ) (u : ℕ) (b' : List ℕ) (a : At) (o : Option Keys) → o ≡ None → (keeps s : Bool) (f : Option ℕ) (t : Tree) (top : ℕ)
+    → Grown b u b' a (ensure_child [] keeps s None t) top → Grown b u b' a (ensure_child (order_of o) keeps s f t) top
 child_unordered b u b' a o e keeps s f t top g = subst (λ x. Grown b u b' a (ensure_child (order_of x) keeps s f t) top) (sym e) g
 
-pub child_ordered : (b : List ℕ) (u : ℕ) (b' : List ℕ) (a : At) (o : Order) (k : Keys) → o ≡ By k → Real o → (keeps s : Bool) (f : Fetch) (t : Tree)
+pub child_ordered : (b : List ℕ) (u : ℕ) (b' : List ℕ) (a : At) (o : Option Keys) (k : Keys) → o ≡ Some k → Real o → (keeps s : Bool) (f : Option ℕ) (t : Tree)
     (top : ℕ) → Grown b u b' a (ensure_child (keys_of k) false s f t) top → Grown b u b' a (ensure_child (order_of o) keeps s f t) top
 child_ordered b u b' a o k e r keeps s f t top g =
     let n = some-keys k.len k.word (subst Real e r).0 in
     subst (λ x. Grown b u b' a (ensure_child (order_of x) keeps s f t) top) (sym e)
     (subst (λ x. Grown b u b' a x top) (by_some (keys_of k) false s f t n ∙ sym (by_some (keys_of k) keeps s f t n)) g)
 
-pub ordered_asks : (o : Order) (k : Keys) → o ≡ By k → Real o → (t : Tree) (f : Fetch) → Sortable t (order_of o) f → (0 < k.len) × Sortable t (keys_of k) f
+pub ordered_asks : (o : Option Keys) (k : Keys) → o ≡ Some k → Real o → (t : Tree) (f : Option ℕ) → Sortable t (order_of o) f → (0 < k.len) × Sortable t (keys_of k) f
 ordered_asks o k e r t f s = ((subst Real e r).0, subst (λ x. Sortable t (order_of x) f) e s)

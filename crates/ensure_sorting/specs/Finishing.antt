@@ -1,14 +1,12 @@
 -- The end of ensure_sorting: the node at h, with the record r, over its children after the loop.
-use Rattle.std.specs.Prelude.{◌≡◌, refl, Bool, true, false, cond, not, List, [], map, ℕ, zero, suc, ◌+◌, ◌*◌, ◌≤◌, ◌<◌, ltb, leb, length, get_or}
+use Rattle.std.specs.Prelude.{◌≡◌, refl, Bool, true, false, cond, not, List, [], map, ℕ, zero, suc, ◌+◌, ◌*◌, ◌≤◌, ◌<◌, ltb, leb, length, get_or, Option, Some, None, is_some}
 use Rattle.std.proofs.Common.{sym, ap, ap₂, ◌∙◌, subst, arith, lt-ltb}
 use Rattle.std.proofs.lemmas.Bool.{lt-leb}
 use Rattle.row_order.proofs.Order.{no_bool}
 use Rattle.plan.specs.Forest.{size}
 use Rattle.plan.specs.Op.{Op, source, filter, projection, union, repartition, coalesce, sort_op, merge_op, global_limit, local_limit, sort_merge_join, hash_join, output_requirement, partial_sort, aggregate}
 use Rattle.plan.specs.Numbers.{code}
-use Rattle.plan.specs.WellFormed.{some_fetch, node_ok}
-use Rattle.plan.specs.declared.Fetch.{Fetch}
-use Rattle.plan.specs.declared.Fetch.TheVariants.{AtMost, Unlimited}
+use Rattle.plan.specs.WellFormed.{node_ok}
 use Rattle.plan_codec.specs.NodeRecord.{NodeRecord}
 use Rattle.plan_codec.specs.Decode.{from_bytes, decode}
 use Rattle.plan_codec.specs.Encode.{encode}
@@ -70,13 +68,13 @@ several_not zero = refl
 several_not (suc zero) = refl
 several_not (suc (suc n)) = lt-leb (suc (suc n)) 1 (omega arith) ∙ ap not (sym (lt-ltb 1 (suc (suc n)) (omega arith)))
 
-unmerged_some : (f : Fetch) (t : Tree) → some_fetch f ≡ true → unmerged f t ≡ node (local_limit f (limit_note t)) false t.kids
-unmerged_some Unlimited t e = no_bool e
-unmerged_some (AtMost n) t e = refl
+unmerged_some : (f : Option ℕ) (t : Tree) → is_some f ≡ true → unmerged f t ≡ node (local_limit f (limit_note t)) false t.kids
+unmerged_some None t e = no_bool e
+unmerged_some (Some n) t e = refl
 
-unmerged_none : (f : Fetch) (t : Tree) → some_fetch f ≡ false → unmerged f t ≡ kid0 t t.kids
-unmerged_none Unlimited t e = refl
-unmerged_none (AtMost n) t e = no_bool (sym e)
+unmerged_none : (f : Option ℕ) (t : Tree) → is_some f ≡ false → unmerged f t ≡ kid0 t t.kids
+unmerged_none None t e = refl
+unmerged_none (Some n) t e = no_bool (sym e)
 
 module _ (b : List ℕ) (w h : ℕ) (r ks : List ℕ) (p : Finishes b w h r ks) where
   abbrev o : Op
@@ -184,9 +182,9 @@ module _ (b : List ℕ) (w h : ℕ) (r ks : List ℕ) (p : Finishes b w h r ks) 
         more-end l b' a g = subst (λ z. Grown b w b' a z (w + 1))
             (sym (by_streams ∙ ap (λ y. cond (not y) (unmerged x.fetch v) (update_sort_ctx_children_data false v)) l)) g
 
-    module _ (f : Fetch) (hf : f ≡ (from_bytes r).fetch) where
+    module _ (f : Option ℕ) (hf : f ≡ (from_bytes r).fetch) where
       -- of one stream it goes, with no fetch
-      pub goes_grown : some_fetch f ≡ false → Grown b w b (record { used = w; root = get_or ks 0 0 })
+      pub goes_grown : is_some f ≡ false → Grown b w b (record { used = w; root = get_or ks 0 0 })
           (unmerged (from_bytes r).fetch (rebuild (decode r) false (forest b ks))) (w + 1)
       goes_grown z =
           let y = low in
@@ -195,19 +193,19 @@ module _ (b : List ℕ) (w h : ℕ) (r ks : List ℕ) (p : Finishes b w h r ks) 
             old = refl;
             more = omega arith;
             here = y;
-            tree = kid_is b ks v merge_some ∙ sym (unmerged_none x.fetch v (ap some_fetch (sym hf) ∙ z));
+            tree = kid_is b ks v merge_some ∙ sym (unmerged_none x.fetch v (ap is_some (sym hf) ∙ z));
             room = omega arith;
           }
 
       -- with one it becomes a limit
-      module _ (z : some_fetch f ≡ true) (ok : OkT (unmerged (from_bytes r).fetch (rebuild (decode r) false (forest b ks)))) (row : List ℕ)
+      module _ (z : is_some f ≡ true) (ok : OkT (unmerged (from_bytes r).fetch (rebuild (decode r) false (forest b ks)))) (row : List ℕ)
           (sh : Tells (tree_of b (get_or ks 0 0)) row) (k : Keys) (hk : Keyed (from_bytes r).keys k)
           (note : Keys) (hn : Keyed (nf (told row) [] (keys_of k)) note) (y : List ℕ) (hy : y ≡ encode 1 (local_limit f (keys_of note))) where
         note_is : keys_of note ≡ limit_note (rebuild (decode r) false (forest b ks))
         note_is = hn.is ∙ ap₂ (λ F l. nf F [] l) (first row sh) hk.is ∙ sym (ap (λ k. known_order (facts_op (rebuilt k fs) fs)) merges)
 
         limit_is : node (local_limit f (keys_of note)) false (forest b ks) ≡ unmerged (from_bytes r).fetch (rebuild (decode r) false (forest b ks))
-        limit_is = ap₂ (λ g k. node (local_limit g k) false (forest b ks)) hf note_is ∙ sym (unmerged_some x.fetch v (ap some_fetch (sym hf) ∙ z))
+        limit_is = ap₂ (λ g k. node (local_limit g k) false (forest b ks)) hf note_is ∙ sym (unmerged_some x.fetch v (ap is_some (sym hf) ∙ z))
 
         ok_new : OkT (node (local_limit f (keys_of note)) false (forest b ks))
         ok_new = subst OkT (sym limit_is) ok

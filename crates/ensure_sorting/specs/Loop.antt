@@ -1,5 +1,5 @@
 -- The loop of ensure_sorting over the children of the node at h.
-use Rattle.std.specs.Prelude.{◌≡◌, refl, Bool, true, false, cond, not, ◌&&◌, ◌||◌, List, [], ◌∷◌, map, ℕ, zero, suc, ◌+◌, ◌*◌, ◌≤◌, ◌<◌, ltb, length, get_or, take, drop, set}
+use Rattle.std.specs.Prelude.{◌≡◌, refl, Bool, true, false, cond, not, ◌&&◌, ◌||◌, List, [], ◌∷◌, map, ℕ, zero, suc, ◌+◌, ◌*◌, ◌≤◌, ◌<◌, ltb, length, get_or, take, drop, set, Option}
 use Rattle.std.proofs.Common.{sym, ap, ap₂, ◌∙◌, subst, add-one, drop-cons}
 use native.Mathlib.Omega.{arith}
 use Rattle.row_order.specs.Iso.{Key}
@@ -8,12 +8,11 @@ use Rattle.scan.specs.Below.{and_left, and_right}
 use Rattle.plan.specs.Forest.{Forest, none, tree, roots, size}
 use Rattle.plan.specs.Op.{Op}
 use Rattle.plan.specs.WellFormed.{node_ok}
-use Rattle.plan.specs.declared.Fetch.{Fetch}
 use Rattle.plan_codec.specs.Decode.{decode}
 use Rattle.semantics.specs.Facts.{Facts, is_nil, met, nothing, known_order}
 use Rattle.semantics.specs.Properties.{fresh_keys, wanted, maintains, singles}
+use Rattle.key_lists.specs.declared.Keys.{Keys}
 use Rattle.key_lists.specs.Keys.{order_of, Ordered, Real}
-use Rattle.key_lists.specs.declared.Order.{Order}
 use Rattle.arena.specs.Arena.{slot_size, index, slot}
 use Rattle.arena.specs.declared.At.{At}
 use Rattle.walks.specs.Marks.{Marked, Tree, strip, known, at, node, plant, cover, op_t, fact, size_t, shape, rebuild}
@@ -53,11 +52,11 @@ pub record Loops (b : List ℕ) (u h : ℕ) : Type 0 where
 
 -- ---- sizes
 
-new_sort_size : (p : Bool) (ks : List Key) (f : Fetch) (t : Tree) → size_t (cover (new_sort p ks f) t) ≤ suc (size_t t)
+new_sort_size : (p : Bool) (ks : List Key) (f : Option ℕ) (t : Tree) → size_t (cover (new_sort p ks f) t) ≤ suc (size_t t)
 new_sort_size p [] f t = omega arith
 new_sort_size p (k ∷ ks) f t = omega arith
 
-child_size : (w : List Key) (b s : Bool) (f : Fetch) (t : Tree) → size_t (ensure_child w b s f t) ≤ 2 * size_t t + 1
+child_size : (w : List Key) (b s : Bool) (f : Option ℕ) (t : Tree) → size_t (ensure_child w b s f t) ≤ 2 * size_t t + 1
 child_size [] b s f t = let x = update_size s t in
     cond_le (2 * size_t t + 1) (is_nil (known_order (fact t)) || not b) (update_child_to_remove_unnecessary_sort s t) t (omega arith) (omega arith)
 child_size (k ∷ w) b s f t =
@@ -71,7 +70,7 @@ child_size (k ∷ w) b s f t =
     (update_sort_ctx_children_data true (add_sort_above (k ∷ w) f (cond (is_nil (known_order (fact t))) t (update_child_to_remove_unnecessary_sort s t))))
     (omega arith) (omega arith)
 
-each_size : (w : ℕ → List Key) (b s : ℕ → Bool) (f : Fetch) (c : Forest Marked) → size (ensure_each w b s f c) ≤ 2 * size c + length (roots c)
+each_size : (w : ℕ → List Key) (b s : ℕ → Bool) (f : Option ℕ) (c : Forest Marked) → size (ensure_each w b s f c) ≤ 2 * size c + length (roots c)
 each_size w b s f none = omega arith
 each_size w b s f (tree m c r) =
     let x = child_size (w 0) (b 0) (s 0) f (at m c) in
@@ -128,7 +127,7 @@ module _ (b₀ : List ℕ) (u h : ℕ) (p : Loops b₀ u h) where
   abbrev S : ℕ → Bool
   S = singles o
 
-  abbrev F : Fetch
+  abbrev F : Option ℕ
   F = output_fetch o
 
   -- the roots from number j on
@@ -159,9 +158,9 @@ module _ (b₀ : List ℕ) (u h : ℕ) (p : Loops b₀ u h) where
       width_is : get_or (known (forest b₀ (slot b₀ (index h)).kids)) j nothing ≡ fact (tree_of b k)
       width_is = facts_at b₀ hs j l ∙ ap fact (sym (kid_same p.arena p.here q.made l e))
 
-      module _ (ord : Order) (ho : Ordered (wanted (decode (slot b₀ (index h)).rec) j) ord) (keeps : Bool)
+      module _ (ord : Option Keys) (ho : Ordered (wanted (decode (slot b₀ (index h)).rec) j) ord) (keeps : Bool)
           (hb : keeps ≡ maintains (op_t (tree_of b h)) (known (tree_of b h).kids) j)
-          (one : Bool) (hs₁ : one ≡ singles (decode (slot b₀ (index h)).rec) j) (f : Fetch) (hf : f ≡ output_fetch (decode (slot b₀ (index h)).rec)) where
+          (one : Bool) (hs₁ : one ≡ singles (decode (slot b₀ (index h)).rec) j) (f : Option ℕ) (hf : f ≡ output_fetch (decode (slot b₀ (index h)).rec)) where
         keeps_is : keeps ≡ maintains (decode (slot b₀ (index h)).rec) (known (forest b₀ (slot b₀ (index h)).kids)) j
         keeps_is = hb ∙ ap (λ t. maintains (op_t t) (known t.kids) j) (same_tree p.arena p.here q.made ∙ tree_is b₀ u h standing)
 

@@ -1,5 +1,5 @@
 -- ensure_sorting at one node.
-use Rattle.std.specs.Prelude.{◌≡◌, refl, Bool, true, false, cond, List, [], ◌∷◌, ◌++◌, map, ℕ, zero, suc, ◌+◌, ◌*◌, ◌≤◌, ◌<◌, eqb, length, get_or, take, set, replicate}
+use Rattle.std.specs.Prelude.{◌≡◌, refl, Bool, true, false, cond, List, [], ◌∷◌, ◌++◌, map, ℕ, zero, suc, ◌+◌, ◌*◌, ◌≤◌, ◌<◌, eqb, length, get_or, take, set, replicate, Option}
 use Rattle.std.proofs.Common.{sym, ap, ap₂, ◌∙◌, subst, arith, add-one, eq-eqb, ne_eqb, length-set, take-suc, take-suc-set, take_all}
 use Rattle.plan.specs.Forest.{none, tree, roots, size}
 use Rattle.plan.specs.Op.{Op, source, filter, projection, union, repartition, coalesce, sort_op, merge_op, global_limit, local_limit, sort_merge_join, hash_join, output_requirement, partial_sort, aggregate}
@@ -10,8 +10,8 @@ use Rattle.plan_codec.specs.NodeRecord.{NodeRecord}
 use Rattle.plan_codec.specs.Decode.{from_bytes, decode}
 use Rattle.plan_codec.specs.Encode.{encode}
 use Rattle.semantics.specs.Facts.{facts, is_nil, met, at0, known_order}
+use Rattle.key_lists.specs.declared.Keys.{Keys}
 use Rattle.key_lists.specs.Keys.{order_of, Ordered}
-use Rattle.key_lists.specs.declared.Order.{Order}
 use Rattle.asked_facts.specs.Asked.{told}
 use Rattle.arena.specs.Arena.{slot_size, index, slot}
 use Rattle.arena.specs.declared.At.{At}
@@ -116,7 +116,7 @@ module _ (b : List ℕ) (u h : ℕ) (p : EnsuresMarked b u h) where
       -- a sort: x says whether its child meets its order
       module _ (z : code (decode (slot b (index h)).rec) ≡ 7) (k : ℕ) (hk : k ≡ get_or (slot b (index h)).kids 0 0) (row : List ℕ)
           (sh : Tells (tree_of b k) row) (own : List ℕ) (so : Tells (tree_of b h) own)
-          (o : Order) (ho : Ordered (known_order (told own)) o) (x : Bool) (hx : x ≡ met (told row) (order_of o)) where
+          (o : Option Keys) (ho : Ordered (known_order (told own)) o) (x : Bool) (hx : x ≡ met (told row) (order_of o)) where
         abbrev r : NodeRecord
         r = from_bytes (slot b (index h)).rec
 

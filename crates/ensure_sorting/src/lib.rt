@@ -1,10 +1,9 @@
 // enforce_sorting/mod.rs: the ensuring walk's step at one node.
 #![tactic(auto)]
 
-ghost use Rattle.std.specs.Prelude.{◌≡◌, true, false, [], suc, ◌+◌, ◌*◌, ◌≤◌, ◌<◌, length};
+ghost use Rattle.std.specs.Prelude.{◌≡◌, true, false, [], suc, ◌+◌, ◌*◌, ◌≤◌, ◌<◌, length, None};
 ghost use Rattle.plan.specs.Forest.{size};
 ghost use Rattle.plan.specs.Numbers.{code};
-ghost use Rattle.plan.specs.declared.Fetch.TheVariants.{Unlimited};
 ghost use Rattle.plan_codec.specs.Decode.{from_bytes, decode};
 ghost use Rattle.key_lists.specs.Keys.{keys_of, order_of, Real};
 ghost use Rattle.walks.specs.Marks.{node, op_t, size_t, shape, rebuild};
@@ -22,12 +21,11 @@ ghost use Rattle.ensure_sorting.specs.Step.{EnsuresMarked, KeysCopied};
 use arena::{At, child, child_count, read64, record_at};
 use asked_facts::{is_ordered, known_order, several_streams};
 use immediate_sort_removal::analyze_immediate_sort_removal::analyze_immediate_sort_removal;
-use key_lists::{Keys, Order};
+use key_lists::Keys;
 use met_orders::{meets, meets_order, normal_form};
 use new_records::local_limit_record;
-use node_fetches::{output_fetch, some_fetch};
+use node_fetches::output_fetch;
 use node_properties::{fetch_field, is_sort, is_sort_preserving_merge, keys};
-use plan::Fetch;
 use plan_context::handles::set_mark;
 use plan_context::kept::row;
 use plan_updates::{put, put_again, update_plan_from_children};
@@ -41,7 +39,7 @@ use wanted_inputs::{wanted_order, wants_single};
 // ---- one child
 
 // A marked sort over the tree at h, which is marked where it is connected to a sort.
-fn add_marked_sort(m: &mut [u8], u: usize, h: usize, keys: Keys, fetch: Fetch) -> At
+fn add_marked_sort(m: &mut [u8], u: usize, h: usize, keys: Keys, fetch: Option<u32>) -> At
     requires { Sorts m.old u h (keys_of keys) fetch }
     ensures { Grown m.old u m.new result
         (update_sort_ctx_children_data true (add_sort_above (keys_of keys) fetch (tree_of m.old h))) (u + 1) }
@@ -58,7 +56,7 @@ fn add_marked_sort(m: &mut [u8], u: usize, h: usize, keys: Keys, fetch: Fetch) -
 // No order is wanted of the tree at h: sorts below it go, unless its order is maintained.
 fn ensure_unordered(m: &mut [u8], u: usize, h: usize, keeps: bool, single: bool) -> At
     requires { Ensures m.old u h }
-    ensures { Grown m.old u m.new result (ensure_child [] keeps single Unlimited (tree_of m.old h))
+    ensures { Grown m.old u m.new result (ensure_child [] keeps single None (tree_of m.old h))
         (u + 2 * size_t (tree_of m.old h) + 1) }
 {
     let ordered = is_ordered(row(m, h));
@@ -69,7 +67,14 @@ fn ensure_unordered(m: &mut [u8], u: usize, h: usize, keeps: bool, single: bool)
 }
 
 // An order is wanted of it.
-fn ensure_ordered(m: &mut [u8], u: usize, h: usize, keys: Keys, single: bool, fetch: Fetch) -> At
+fn ensure_ordered(
+    m: &mut [u8],
+    u: usize,
+    h: usize,
+    keys: Keys,
+    single: bool,
+    fetch: Option<u32>,
+) -> At
     requires { Ensures m.old u h × (0 < keys.len) × Sortable (tree_of m.old h) (keys_of keys) fetch }
     ensures { Grown m.old u m.new result (ensure_child (keys_of keys) false single fetch (tree_of m.old h))
         (u + 2 * size_t (tree_of m.old h) + 1) }
@@ -91,18 +96,18 @@ fn ensure_child(
     m: &mut [u8],
     u: usize,
     h: usize,
-    order: Order,
+    order: Option<Keys>,
     keeps: bool,
     single: bool,
-    fetch: Fetch,
+    fetch: Option<u32>,
 ) -> At
     requires { Ensures m.old u h × Real order × Sortable (tree_of m.old h) (order_of order) fetch }
     ensures { Grown m.old u m.new result (ensure_child (order_of order) keeps single fetch (tree_of m.old h))
         (u + 2 * size_t (tree_of m.old h) + 1) }
 {
     match order {
-        Order::Unordered => ensure_unordered(m, u, h, keeps, single),
-        Order::By(keys) => ensure_ordered(m, u, h, keys, single, fetch),
+        None => ensure_unordered(m, u, h, keeps, single),
+        Some(keys) => ensure_ordered(m, u, h, keys, single, fetch),
     }
 }
 
@@ -126,7 +131,7 @@ fn unmerge(m: &mut [u8], u: usize, h: usize, r: &[u8], ks: &[usize]) -> At
         (unmerged (from_bytes r.now).fetch (rebuild (decode r.now) false (forest m.old ks.now))) (u + 1) }
 {
     let fetch = fetch_field(r);
-    if some_fetch(fetch) {
+    if fetch.is_some() {
         let note = normal_form(row(m, ks[0]), keys(r));
         let x = local_limit_record(fetch, note);
         put(m, u, &x, ks);
@@ -171,8 +176,7 @@ fn ensure_children(m: &mut [u8], u: usize, h: usize) -> At
     let n = child_count(m, i);
     let mut kids = [0usize; 8];
     let mut w = u;
-    let mut j = 0;
-    while j < n {
+    for j in 0..n {
         let k = child(m, i, j);
         let keeps = maintains_child(m, w, h, j);
         let single = wants_single(&r, j);
@@ -180,7 +184,6 @@ fn ensure_children(m: &mut [u8], u: usize, h: usize) -> At
         let a = ensure_child(m, w, k, order, keeps, single, fetch);
         w = a.used;
         kids[j] = a.root;
-        j += 1;
     }
     finish(m, w, h, &r, &mut kids[..n])
 }
@@ -223,11 +226,7 @@ fn copied(ks: &[usize]) -> [usize; 8]
     ensures { KeysCopied ks.now (length ks.now) result }
 {
     let mut out = [0usize; 8];
-    let mut j = 0;
-    while j < ks.len() {
-        out[j] = ks[j];
-        j += 1;
-    }
+    out[..ks.len()].copy_from_slice(ks);
     out
 }
 

@@ -1,5 +1,5 @@
 -- A projection's order and facts. Assumes nothing.
-use Rattle.std.specs.Prelude.{◌≡◌, true, false, ◌&&◌, List, [], ◌∷◌, ℕ, zero, suc, ◌-◌, ◌/◌, ◌≤◌, ◌<◌, eqb, ltb, length, get_or}
+use Rattle.std.specs.Prelude.{◌≡◌, true, false, ◌&&◌, List, [], ◌∷◌, ℕ, zero, suc, ◌≤◌, ◌<◌, eqb, ltb, length, get_or}
 use Rattle.std.proofs.Common.{ap, sym, ◌∙◌, subst, arith, lt-ltb, le-ltb, ltb-true}
 use Rattle.std.proofs.Math.Path.{fun_ext}
 use Rattle.row_order.specs.Iso.{Key}
@@ -11,8 +11,8 @@ use Rattle.semantics.proofs.Theorems.Common.Lowest.{lowest_le}
 use Rattle.column_sets.specs.Sets.{Holding, below}
 use Rattle.class_tables.specs.Tables.{at, Filled, Columns, carries, projection_low}
 use Rattle.key_lists.specs.declared.Keys.{Keys}
-use Rattle.key_lists.specs.Keys.{keys_in, Keyed, Longer}
-use Rattle.key_lists.specs.Lists.{next, end, Building, rebuilt, grown, built}
+use Rattle.key_lists.specs.Keys.{Keyed, Longer, Tight}
+use Rattle.key_lists.specs.Lists.{begun, Building, rebuilt, grown, built}
 use Rattle.facts.specs.declared.Facts.{Facts as Coded}
 use Rattle.facts.specs.Known.{known, Coherent, Says, Agrees}
 use Rattle.facts.specs.Reading.{cl_is, constants}
@@ -30,37 +30,37 @@ carried_is F t cols h c =
     let e : at t ≡ cl F = fun_ext (λ d. sym (h d)) in
     ap (λ (low : ℕ → ℕ). lowest (λ i. eqb (low (get_or cols i 0)) (low c)) (length cols)) e
 
--- the loop over the known order ks, with n keys of the word w left
-abbrev pub Projecting : List ℕ → List ℕ → List Key → Keys → ℕ → ℕ → Type 0
-Projecting t cols ks out w n = (F : Facts) → Agrees F t → Building (proj_order F cols ks) out (proj_order F cols (keys_in n w))
+-- the loop over the known order ks, with the keys l left
+abbrev pub Projecting : List ℕ → List ℕ → List Key → Keys → List Key → Type 0
+Projecting t cols ks out l = (F : Facts) → Agrees F t → Building (proj_order F cols ks) out (proj_order F cols l)
 
-module _ (t cols : List ℕ) (ks : List Key) (out : Keys) (w n : ℕ) (p : Projecting t cols ks out w n) (j : ℕ)
-    (e : j ≡ lowest (carries t cols (at t (key_of w).col)) (length cols)) (h : 0 < n) where
+pub none_projected : (t cols : List ℕ) (ks : List Key) (out : Keys) (l : List Key) → l ≡ ks → Keyed [] out → Tight out → Projecting t cols ks out l
+none_projected t cols ks out l e h i F a = rebuilt (ap (proj_order F cols) (sym e)) (begun (proj_order F cols ks) out h i)
+
+module _ (t cols : List ℕ) (ks : List Key) (out : Keys) (l : List Key) (p : Projecting t cols ks out l) (w : ℕ) (m : List Key) (i : l ≡ key_of w ∷ m) (j : ℕ)
+    (e : j ≡ lowest (carries t cols (at t (key_of w).col)) (length cols)) where
   found : (F : Facts) → Agrees F t → j ≡ carried F cols (key_of w).col
   found F a = e ∙ carried_is F t cols a (key_of w).col
 
-  pub projected : j < length cols → (x : ℕ) → key_of x ≡ with_column j (key_of w) → (r : Keys) → Longer out x r → Projecting t cols ks r (w / 256) (n - 1)
-  projected m x y r l F a =
+  pub projected : j < length cols → (x : ℕ) → key_of x ≡ with_column j (key_of w) → (r : Keys) → Longer out x r → Projecting t cols ks r m
+  projected h x y r g F a =
       let k : Key = key_of w in
       let z = found F a in
-      let b : ltb (carried F cols k.col) (length cols) ≡ true = rw (← z) (lt-ltb j (length cols) m) in
-      let d : proj_order F cols (keys_in n w) ≡ with_column (carried F cols k.col) k ∷ proj_order F cols (keys_in (n - 1) (w / 256)) = rw (next n w h, b) in
-      grown _ out x r (with_column (carried F cols k.col) k) (proj_order F cols (keys_in (n - 1) (w / 256))) (rebuilt d (p F a)) l
-      (y ∙ ap (λ c. with_column c k) z)
+      let b : ltb (carried F cols k.col) (length cols) ≡ true = rw (← z) (lt-ltb j (length cols) h) in
+      let d : proj_order F cols l ≡ with_column (carried F cols k.col) k ∷ proj_order F cols m = rw (i, b) in
+      grown _ out x r (with_column (carried F cols k.col) k) (proj_order F cols m) (rebuilt d (p F a)) g (y ∙ ap (λ c. with_column c k) z)
 
   -- a key that no output carries ends the order
   pub stopped : out.len ≤ 8 → length cols ≤ j → (F : Facts) → Agrees F t → Keyed (proj_order F cols ks) out
-  stopped l m F a =
+  stopped few h F a =
       let z = found F a in
-      let b : ltb (carried F cols (key_of w).col) (length cols) ≡ false = rw (← z) (le-ltb j (length cols) m) in
-      let d : proj_order F cols (keys_in n w) ≡ [] = rw (next n w h, b) in
-      built _ out l (rebuilt d (p F a))
+      let b : ltb (carried F cols (key_of w).col) (length cols) ≡ false = rw (← z) (le-ltb j (length cols) h) in
+      let d : proj_order F cols l ≡ [] = rw (i, b) in
+      built _ out few (rebuilt d (p F a))
 
-pub all_projected : (t cols : List ℕ) (ks : List Key) (out : Keys) (w n : ℕ) → Projecting t cols ks out w n → n ≤ 0 → out.len ≤ 8 → (F : Facts)
+pub all_projected : (t cols : List ℕ) (ks : List Key) (out : Keys) (l : List Key) → Projecting t cols ks out l → l ≡ [] → out.len ≤ 8 → (F : Facts)
     → Agrees F t → Keyed (proj_order F cols ks) out
-all_projected t cols ks out w n p h l F a =
-    let d : proj_order F cols (keys_in n w) ≡ [] = rw (end n w h) in
-    built _ out l (rebuilt d (p F a))
+all_projected t cols ks out l p e few F a = built _ out few (rebuilt (ap (proj_order F cols) e) (p F a))
 
 pub says_projection : (f : Coded) (cols t : List ℕ) (s : ℕ) (o : Keys) → Coherent f → length cols ≤ 32
     → Filled (length cols) (projection_low f.low cols) t

@@ -1,10 +1,10 @@
 -- The semantics' questions to facts, answered from the struct. Assumes nothing.
-use Rattle.std.specs.Prelude.{◌≡◌, refl, Bool, true, false, not, List, [], ◌∷◌, map, ℕ, zero, suc, ◌<◌, eqb, ltb, length, take, get_or}
-use Rattle.std.proofs.Common.{ap₂, sym, ◌∙◌, arith, get_or-take, length-take-le, ltb-true, ltb-false, ne_eqb}
+use Rattle.std.specs.Prelude.{◌≡◌, refl, Bool, true, false, List, [], ◌∷◌, ℕ, zero, suc, ◌<◌, eqb, ltb, length, take, get_or}
+use Rattle.std.proofs.Common.{ap₂, sym, ◌∙◌, arith, get_or-take, length-take-le, ltb-true, ltb-false}
 use Rattle.std.proofs.Math.Path.{fun_ext}
 use Rattle.std.proofs.Math.ListN.{get_or-eq_default}
 use Rattle.row_order.specs.Iso.{Key}
-use Rattle.row_order.specs.Packed.{bit, key_of}
+use Rattle.row_order.specs.Packed.{bit}
 use Rattle.row_order.specs.Lists.{tab}
 use Rattle.row_order.specs.ListLaws.{length-tab, get_or-tab}
 use Rattle.semantics.specs.Facts.{cl, is_c, nf_by, nf, is_nil}

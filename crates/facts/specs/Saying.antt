@@ -1,9 +1,9 @@
 -- What a struct that is made of a table, a set and a key list says: one rule for every kind of node. Assumes nothing.
-use Rattle.std.specs.Prelude.{◌≡◌, refl, Bool, true, false, cond, ◌&&◌, List, [], ◌∷◌, map, ℕ, zero, suc, ◌+◌, ◌-◌, ◌/◌, ◌^◌, ◌≤◌, ◌<◌, eqb, ltb, take}
+use Rattle.std.specs.Prelude.{◌≡◌, refl, Bool, true, false, cond, ◌&&◌, List, [], ◌∷◌, ℕ, zero, suc, ◌+◌, ◌-◌, ◌/◌, ◌^◌, ◌≤◌, ◌<◌, eqb, ltb, take}
 use Rattle.std.proofs.Common.{ap, ap₂, sym, ◌∙◌, subst, arith, pow_pos, shr-shr, eqb-true, ltb-false, lt-ltb, le-ltb}
 use Rattle.std.proofs.Math.Nat.{div-eq_of_lt}
 use Rattle.row_order.specs.Iso.{Key}
-use Rattle.row_order.specs.Packed.{bit, key_of}
+use Rattle.row_order.specs.Packed.{bit}
 use Rattle.row_order.specs.Lists.{tab}
 use Rattle.plan.specs.WellFormed.{set_fits}
 use Rattle.semantics.specs.Facts.{cl, ordered, unknown, source_facts, lowest, both, common}

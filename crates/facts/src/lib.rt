@@ -110,16 +110,12 @@ fn projection_order(table: &Table, cols: &[usize], keys: Keys) -> Keys
     ensures { (F : sem.Facts) → Agrees F table.now → Keyed (sem.proj_order F cols.now (keys_of keys)) result }
 {
     let mut out = no_keys();
-    let mut rest = keys.word;
-    let mut left = keys.len;
-    while 0 < left {
-        let c = carried(table, cols, low(table, column(rest)), cols.len());
+    for key in keys.iter() {
+        let c = carried(table, cols, low(table, column(key)), cols.len());
         if cols.len() <= c {
             return out;
         }
-        out = appended(out, with_column(rest, c));
-        rest = rest >> 8;
-        left -= 1;
+        out = appended(out, with_column(key, c));
     }
     out
 }

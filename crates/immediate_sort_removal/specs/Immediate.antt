@@ -1,13 +1,11 @@
 -- A sort at h over a child that meets its order: a merge, a limit or nothing in its place.
-use Rattle.std.specs.Prelude.{◌≡◌, refl, Bool, true, false, cond, not, ◌&&◌, List, [], ◌∷◌, ◌++◌, map, ℕ, ◌+◌, ◌*◌, ◌≤◌, ◌<◌, eqb, ltb, length, get_or, take, set}
+use Rattle.std.specs.Prelude.{◌≡◌, refl, Bool, true, false, cond, not, ◌&&◌, List, [], ◌∷◌, ◌++◌, map, ℕ, ◌+◌, ◌*◌, ◌≤◌, ◌<◌, eqb, ltb, length, get_or, take, set, Option, Some, None, is_some}
 use Rattle.std.proofs.Common.{sym, ap, ap₂, ◌∙◌, subst, arith, add-one, length-set, take-suc, take-suc-set, length-take-le}
 use Rattle.row_order.proofs.Order.{no_bool}
 use Rattle.plan.specs.Forest.{Forest, none, tree, size}
 use Rattle.plan.specs.Op.{Op, sort_op, merge_op, global_limit, local_limit}
 use Rattle.plan.specs.Numbers.{code}
-use Rattle.plan.specs.WellFormed.{some_fetch, node_ok}
-use Rattle.plan.specs.declared.Fetch.{Fetch}
-use Rattle.plan.specs.declared.Fetch.TheVariants.{AtMost, Unlimited}
+use Rattle.plan.specs.WellFormed.{node_ok}
 use Rattle.plan_codec.specs.NodeRecord.{NodeRecord}
 use Rattle.plan_codec.specs.Decode.{from_bytes, decode}
 use Rattle.plan_codec.specs.Encode.{encode}
@@ -139,20 +137,20 @@ pub record Immediates (b : List ℕ) (w h : ℕ) : Type 0 where
   pub sort : code (decode (slot b (index h)).rec) ≡ 7
   pub ok : OkT (immediate_at b h)
 
-limited_some : (f : Fetch) (t c : Tree) → some_fetch f ≡ true
+limited_some : (f : Option ℕ) (t c : Tree) → is_some f ≡ true
     → limited f t c ≡ over (cond (eqb (fact t).streams 1) (global_limit 0 f (limit_note t)) (local_limit f (limit_note t))) false (set_mark false c)
-limited_some Unlimited t c e = no_bool e
-limited_some (AtMost n) t c e = refl
+limited_some None t c e = no_bool e
+limited_some (Some n) t c e = refl
 
-limited-none : (f : Fetch) (t c : Tree) → some_fetch f ≡ false → limited f t c ≡ node (op_t c) false (unmark c.kids)
-limited-none Unlimited t c e = refl
-limited-none (AtMost n) t c e = no_bool (sym e)
+limited-none : (f : Option ℕ) (t c : Tree) → is_some f ≡ false → limited f t c ≡ node (op_t c) false (unmark c.kids)
+limited-none None t c e = refl
+limited-none (Some n) t c e = no_bool (sym e)
 
-pub limit_global : (s : Bool) (f : Fetch) (note : Keys) (x : List ℕ) → s ≡ true → x ≡ encode 1 (global_limit 0 f (keys_of note))
+pub limit_global : (s : Bool) (f : Option ℕ) (note : Keys) (x : List ℕ) → s ≡ true → x ≡ encode 1 (global_limit 0 f (keys_of note))
     → x ≡ encode 1 (cond s (global_limit 0 f (keys_of note)) (local_limit f (keys_of note)))
 limit_global s f note x e q = q ∙ ap (λ b. encode 1 (cond b (global_limit 0 f (keys_of note)) (local_limit f (keys_of note)))) (sym e)
 
-pub limit_local : (s : Bool) (f : Fetch) (note : Keys) (x : List ℕ) → s ≡ false → x ≡ encode 1 (local_limit f (keys_of note))
+pub limit_local : (s : Bool) (f : Option ℕ) (note : Keys) (x : List ℕ) → s ≡ false → x ≡ encode 1 (local_limit f (keys_of note))
     → x ≡ encode 1 (cond s (global_limit 0 f (keys_of note)) (local_limit f (keys_of note)))
 limit_local s f note x e q = q ∙ ap (λ b. encode 1 (cond b (global_limit 0 f (keys_of note)) (local_limit f (keys_of note)))) (sym e)
 
@@ -217,7 +215,7 @@ module _ (b : List ℕ) (w h : ℕ) (p : Immediates b w h) where
           (cover_grown b w k' under op fits y hy b' a (w + 1) g)
 
     module _ (row : List ℕ) (sh : Tells (tree_of b k) row) (several : Bool) (hv : several ≡ ltb 1 (told row).streams) (r : List ℕ)
-        (hr : r ≡ (slot b (index h)).rec) (pr : Bool) (hp : pr ≡ (from_bytes r).preserve) (f : Fetch) (hf : f ≡ (from_bytes r).fetch)
+        (hr : r ≡ (slot b (index h)).rec) (pr : Bool) (hp : pr ≡ (from_bytes r).preserve) (f : Option ℕ) (hf : f ≡ (from_bytes r).fetch)
         (ks : Keys) (hks : Keyed (from_bytes r).keys ks) where
       preserve_is : pr ≡ (from_bytes (slot b (index h)).rec).preserve
       preserve_is = hp ∙ ap (λ z. (from_bytes z).preserve) hr
@@ -249,12 +247,12 @@ module _ (b : List ℕ) (w h : ℕ) (p : Immediates b w h) where
         pub goes_asks : Unmarks b w k
         goes_asks = record { arena = p.arena; here = sort_kid.here; room = p.room; small = p.small }
 
-        pub goes_grown : some_fetch f ≡ false → (b' : List ℕ) (a : At) → Grown b w b' a (node (op_t (tree_of b k)) false (unmark (tree_of b k).kids)) (w + 1)
+        pub goes_grown : is_some f ≡ false → (b' : List ℕ) (a : At) → Grown b w b' a (node (op_t (tree_of b k)) false (unmark (tree_of b k).kids)) (w + 1)
             → Grown b w b' a (immediate_at b h) (w + 1)
         goes_grown z b' a g = subst (λ v. Grown b w b' a v (w + 1)) (sym (limited-is ∙ limited-none f t (tree_of b k) z)) g
 
         -- a limit
-        module _ (z : some_fetch f ≡ true) (own_row : List ℕ) (so : Tells (tree_of b h) own_row) (single : Bool) (hs : single ≡ eqb (told own_row).streams 1)
+        module _ (z : is_some f ≡ true) (own_row : List ℕ) (so : Tells (tree_of b h) own_row) (single : Bool) (hs : single ≡ eqb (told own_row).streams 1)
             (note : Keys) (hn : Keyed (nf (told row) [] (keys_of ks)) note) where
           note_is : keys_of note ≡ limit_note (tree_of b h)
           note_is =

@@ -12,9 +12,7 @@ use asked_facts::{one_stream, several_streams};
 use key_lists::Keys;
 use met_orders::normal_form;
 use new_records::{global_limit_record, local_limit_record, merge_record};
-use node_fetches::some_fetch;
 use node_properties::{fetch_field, keys, preserve_mark};
-use plan::Fetch;
 use plan_context::handles::set_mark;
 use plan_context::kept::row;
 use plan_updates::{put_again, put_over};
@@ -29,16 +27,14 @@ fn unmark_children(m: &mut [u8], u: usize, h: usize) -> At
     let r = read64(record_at(m, i));
     let n = child_count(m, i);
     let mut kids = [0usize; 8];
-    let mut j = 0;
-    while j < n {
+    for j in 0..n {
         kids[j] = set_mark(child(m, i, j), false);
-        j += 1;
     }
     put_again(m, u, &r, &kids[..n], i)
 }
 
 // A limit with a note of the order, global over one stream.
-fn limit_record(single: bool, fetch: Fetch, note: Keys) -> [u8; 64]
+fn limit_record(single: bool, fetch: Option<u32>, note: Keys) -> [u8; 64]
     requires { note.len ≤ 8 }
     ensures { result ≡ encode 1 (cond single (global_limit 0 fetch (keys_of note)) (local_limit fetch (keys_of note))) }
 {
@@ -66,7 +62,7 @@ pub fn analyze_immediate_sort_removal(m: &mut [u8], u: usize, h: usize) -> At
         let x = merge_record(own_keys, fetch);
         return put_over(m, u, &x, bare);
     }
-    if some_fetch(fetch) {
+    if fetch.is_some() {
         let single = one_stream(row(m, h));
         let x = limit_record(single, fetch, note);
         return put_over(m, u, &x, bare);

@@ -98,12 +98,10 @@ fn link_all(f: Facts, lefts: &[usize], rights: &[usize], w: usize) -> Facts
     ensures { Says (sem.link_all w (on_of lefts.now rights.now) (known f)) result }
 {
     let mut g = f;
-    let mut i = 0;
-    while i < lefts.len() {
+    for i in 0..lefts.len() {
         let a = column(lefts[i]);
         let b = w + rights[i];
         g = linked(g, a, b);
-        i += 1;
     }
     g
 }

@@ -1,37 +1,33 @@
 -- A join's sides as the code answers. These are definitions.
-use Rattle.std.specs.Prelude.{◌≡◌, Bool, true, false, ◌&&◌, List, ℕ, ◌+◌, ◌≤◌, eqb, ltb, leb}
-use Rattle.row_order.specs.Iso.{Key}
+use Rattle.std.specs.Prelude.{Bool, true, false, ◌&&◌, ℕ, ◌+◌, ◌≤◌, eqb, ltb, leb, Option, Some, None}
 use Rattle.plan.specs.declared.JoinType.{JoinType}
 use Rattle.plan.specs.declared.JoinType.TheVariants as type
 use Rattle.semantics.specs.Facts.{lowest}
-use Rattle.key_lists.specs.Keys.{keys_of, Keyed}
+use Rattle.key_lists.specs.declared.Keys.{Keys}
+use Rattle.key_lists.specs.Keys.{Keyed}
 use Rattle.walks.specs.SortPushdown as walk
-use Rattle.join_sides.specs.declared.SideColumn.{SideColumn}
-use Rattle.join_sides.specs.declared.SideColumn.TheVariants.{At, Nowhere}
-use Rattle.join_sides.specs.declared.SideOrder.{SideOrder}
-use Rattle.join_sides.specs.declared.SideOrder.TheVariants.{Valid, Invalid}
 use Rattle.join_sides.specs.declared.JoinSide.{JoinSide}
 use Rattle.join_sides.specs.declared.JoinSide.TheVariants.{Left, Right, Neither}
 
-abbrev pub found_if : Bool → ℕ → SideColumn → SideColumn
-found_if true c s = At c
+abbrev pub found_if : Bool → ℕ → Option ℕ → Option ℕ
+found_if true c s = Some c
 found_if false c s = s
 
 -- The lowest of n columns from lo on whose class is the given one
-abbrev pub lowest_from : (ℕ → ℕ) → ℕ → ℕ → ℕ → SideColumn
-lowest_from low lo n class = let i : ℕ = lowest (λ j. eqb (low (lo + j)) class) n in found_if (ltb i n) (lo + i) Nowhere
+abbrev pub lowest_from : (ℕ → ℕ) → ℕ → ℕ → ℕ → Option ℕ
+lowest_from low lo n class = let i : ℕ = lowest (λ j. eqb (low (lo + j)) class) n in found_if (ltb i n) (lo + i) None
 
 -- Column c if it is there, else the lowest equal one
-abbrev pub side_column : (ℕ → ℕ) → ℕ → ℕ → ℕ → SideColumn
+abbrev pub side_column : (ℕ → ℕ) → ℕ → ℕ → ℕ → Option ℕ
 side_column low lo n c = found_if (leb lo c && ltb c (lo + n)) c (lowest_from low lo n (low c))
 
 -- ---- 01's values for each answer
 
-abbrev pub Valids : walk.Valid → SideOrder → Type 0
-Valids walk.invalid Invalid = Unit {0}
-Valids walk.invalid (Valid k) = ⊥
-Valids (walk.valid ks) Invalid = ⊥
-Valids (walk.valid ks) (Valid k) = Keyed ks k
+abbrev pub Valids : walk.Valid → Option Keys → Type 0
+Valids walk.invalid None = Unit {0}
+Valids walk.invalid (Some k) = ⊥
+Valids (walk.valid ks) None = ⊥
+Valids (walk.valid ks) (Some k) = Keyed ks k
 
 abbrev pub SideIs : walk.JoinSide → JoinSide → Type 0
 SideIs walk.no_side Neither = Unit {0}

@@ -13,30 +13,21 @@ use key_lists::{Keys, appended, no_keys, with_column};
 use plan::JoinType;
 use row_order::column;
 
-// A column of the side, or that there is none.
-#[derive(Clone, Copy)]
-pub enum SideColumn {
-    At(usize),
-    Nowhere,
-}
-
 // The lowest of n columns from lo on whose class is the given one.
-fn lowest_on_side(own: &[u8], lo: usize, n: usize, class: usize) -> SideColumn
+fn lowest_on_side(own: &[u8], lo: usize, n: usize, class: usize) -> Option<usize>
     requires { FactRow own.now × (lo + n ≤ 32) }
     ensures { result ≡ lowest_from (sem.cl (told own.now)) lo n class }
 {
-    let mut j = 0;
-    while j < n {
+    for j in 0..n {
         if lowest_equal(own, lo + j) == class {
-            return SideColumn::At(lo + j);
+            return Some(lo + j);
         }
-        j += 1;
     }
-    SideColumn::Nowhere
+    None
 }
 
 // Column c if it stands on the side, else the lowest column there that is equal to it.
-fn side_column(own: &[u8], lo: usize, n: usize, c: usize) -> SideColumn
+fn side_column(own: &[u8], lo: usize, n: usize, c: usize) -> Option<usize>
     requires { FactRow own.now × (lo + n ≤ 32) × (c < 32) }
     ensures { result ≡ side_column (sem.cl (told own.now)) lo n c }
 {
@@ -44,35 +35,22 @@ fn side_column(own: &[u8], lo: usize, n: usize, c: usize) -> SideColumn
         return lowest_on_side(own, lo, n, lowest_equal(own, c));
     }
     if c < lo + n {
-        return SideColumn::At(c);
+        return Some(c);
     }
     lowest_on_side(own, lo, n, lowest_equal(own, c))
 }
 
-// An order whose columns all have one on a side, with those columns; or not.
-#[derive(Clone, Copy)]
-pub enum SideOrder {
-    Valid(Keys),
-    Invalid,
-}
-
-// The order in the columns of the side that has n columns from lo on.
-fn on_side(own: &[u8], lo: usize, n: usize, keys: Keys) -> SideOrder
+// The order in the columns of the side that has n columns from lo on, if all its columns have one there.
+fn on_side(own: &[u8], lo: usize, n: usize, keys: Keys) -> Option<Keys>
     requires { FactRow own.now × (lo + n ≤ 32) × (keys.len ≤ 8) }
     ensures { Valids (on_side (told own.now) lo n (keys_of keys)) result }
 {
     let mut out = no_keys();
-    let mut rest = keys.word;
-    let mut left = keys.len;
-    while 0 < left {
-        let SideColumn::At(c) = side_column(own, lo, n, column(rest)) else {
-            return SideOrder::Invalid;
-        };
-        out = appended(out, with_column(rest, c));
-        rest = rest >> 8;
-        left -= 1;
+    for key in keys.iter() {
+        let c = side_column(own, lo, n, column(key))?;
+        out = appended(out, with_column(key, c));
     }
-    SideOrder::Valid(out)
+    Some(out)
 }
 
 // The side on which an order stands, with its columns there.
@@ -89,11 +67,11 @@ fn either_side(own: &[u8], keys: Keys, left: usize) -> JoinSide
     ensures { SideIs (either_side (told own.now) (keys_of keys) left) result }
 {
     let on_left = on_side(own, 0, left, keys);
-    if let SideOrder::Valid(k) = on_left {
+    if let Some(k) = on_left {
         return JoinSide::Left(k);
     }
     let on_right = on_side(own, left, width(own) - left, keys);
-    let SideOrder::Valid(k) = on_right else {
+    let Some(k) = on_right else {
         return JoinSide::Neither;
     };
     JoinSide::Right(k)

@@ -1,29 +1,12 @@
 -- Two key lists compared key by key: prefix and common front. Assumes nothing.
-use Rattle.std.specs.Prelude.{◌≡◌, refl, Bool, true, false, cond, ◌&&◌, List, [], ◌∷◌, ℕ, suc, ◌+◌, ◌-◌, ◌/◌, ◌≤◌, ◌<◌, eqb, length, take}
-use Rattle.std.proofs.Common.{ap, ap₂, sym, ◌∙◌, arith, eq-eqb, ne_eqb}
+use Rattle.std.specs.Prelude.{◌≡◌, refl, Bool, true, false, cond, ◌&&◌, ◌⊎◌, List, [], ◌∷◌, ℕ, suc, ◌+◌, eqb, length, take}
+use Rattle.std.proofs.Common.{ap, ap₂, sym, ◌∙◌, arith, eq-eqb, ne_eqb, inl, inr}
 use Rattle.row_order.specs.Iso.{Key}
 use Rattle.row_order.specs.Packed.{key_of}
 use Rattle.semantics.specs.Facts.{eq_key, prefixb, common}
 use Rattle.key_lists.specs.declared.Keys.{Keys}
-use Rattle.key_lists.specs.Keys.{keys_in, keys_of, Keyed}
-use Rattle.key_lists.specs.Lists.{next, end, length_keys, take_keys}
-
--- what is left to compare: n keys of a, m of b
-abbrev pub left : ℕ → ℕ → ℕ → ℕ → Bool
-left n a m b = prefixb (keys_in n a) (keys_in m b)
-
-module _ (n a m b : ℕ) where
-  pub left_end : n ≤ 0 → left n a m b ≡ true
-  left_end h = rw (end n a h)
-
-  pub left_short : 0 < n → m ≤ 0 → left n a m b ≡ false
-  left_short h l = rw (end m b l, next n a h)
-
-  pub left_differ : 0 < n → 0 < m → eq_key (key_of a) (key_of b) ≡ false → left n a m b ≡ false
-  left_differ h l e = rw (next n a h, next m b l, e)
-
-  pub left-more : 0 < n → 0 < m → eq_key (key_of a) (key_of b) ≡ true → left (n - 1) (a / 256) (m - 1) (b / 256) ≡ left n a m b
-  left-more h l e = rw (next n a h, next m b l, e)
+use Rattle.key_lists.specs.Keys.{keys_of, Keyed}
+use Rattle.key_lists.specs.Lists.{length_keys}
 
 take-common : (p q : List Key) → take (length (common p q)) p ≡ common p q
 take-common [] q = refl
@@ -34,31 +17,40 @@ take-common (k ∷ p) (l ∷ q) = go (take-common p q) (eq_key k l)
     go ih true = ap (λ m. k ∷ m) ih
     go ih false = refl
 
--- how many are common from here on: n keys of a, m of b are left
-abbrev pub more : ℕ → ℕ → ℕ → ℕ → ℕ
-more n a m b = length (common (keys_in n a) (keys_in m b))
+-- n keys are passed, which both lists have; of the list k the keys l are left, of the list m the keys r
+pub record Sharing (k : Keys) (m : List Key) (n : ℕ) (l r : List Key) : Type 0 where
+  pub is : n + length (common l r) ≡ length (common (keys_of k) m)
+  pub room : n + length l ≡ k.len
 
-module _ (n a m b : ℕ) where
-  pub more-end : n ≤ 0 → more n a m b ≡ 0
-  more-end h = rw (end n a h)
+pub share_none : (k : Keys) (m l r : List Key) → l ≡ keys_of k → r ≡ m → Sharing k m 0 l r
+share_none k m l r e f =
+    let z : length (common l r) ≡ length (common (keys_of k) m) = ap₂ (λ a b. length (common a b)) e f in
+    record { is = omega arith; room = omega (arith, ap length e, length_keys k.len k.word) }
 
-  pub more_short : 0 < n → m ≤ 0 → more n a m b ≡ 0
-  more_short h l = rw (end m b l, next n a h)
+module _ {k : Keys} {m : List Key} {n : ℕ} {l r : List Key} (g : Sharing k m n l r) where
+  pub share_more : (a b : ℕ) (l' r' : List Key) → l ≡ key_of a ∷ l' → r ≡ key_of b ∷ r' → eq_key (key_of a) (key_of b) ≡ true → Sharing k m (n + 1) l' r'
+  share_more a b l' r' e f t =
+      let z : length (common l r) ≡ suc (length (common l' r')) = ap₂ (λ x y. length (common x y)) e f ∙ ap (λ x. length (cond x (key_of a ∷ common l' r') [])) t in
+      record { is = omega (arith, g.is, z); room = omega (arith, g.room, ap length e) }
 
-  pub more_differ : 0 < n → 0 < m → eq_key (key_of a) (key_of b) ≡ false → more n a m b ≡ 0
-  more_differ h l e = rw (next n a h, next m b l, e)
+  -- the first n keys are what is common
+  shared : (s : Keys) → length (common l r) ≡ 0 → Keyed (take n (keys_of k)) s → Keyed (common (keys_of k) m) s
+  shared s z h =
+      let e : n ≡ length (common (keys_of k) m) = omega (arith, g.is, z) in
+      record { is = h.is ∙ ap (λ i. take i (keys_of k)) e ∙ take-common (keys_of k) m; few = h.few }
 
-  pub more_one : 0 < n → 0 < m → eq_key (key_of a) (key_of b) ≡ true → more n a m b ≡ suc (more (n - 1) (a / 256) (m - 1) (b / 256))
-  more_one h l e = rw (next n a h, next m b l, e)
+  pub share_differ : (a b : ℕ) (l' r' : List Key) (s : Keys) → l ≡ key_of a ∷ l' → r ≡ key_of b ∷ r' → eq_key (key_of a) (key_of b) ≡ false
+      → Keyed (take n (keys_of k)) s → Keyed (common (keys_of k) m) s
+  share_differ a b l' r' s e f t =
+      shared s (ap₂ (λ x y. length (common x y)) e f ∙ ap (λ x. length (cond x (key_of a ∷ common l' r') [])) t)
 
--- the first i keys are what is common
-pub shared : (p q : Keys) (i : ℕ) (r : Keys) → Keyed (take i (keys_of p)) r → i ≡ length (common (keys_of p) (keys_of q))
-    → Keyed (common (keys_of p) (keys_of q)) r
-shared p q i r k e = record { is = k.is ∙ ap (λ n. take n (keys_of p)) e ∙ take-common (keys_of p) (keys_of q); few = k.few }
-
-pub all_shared : (p q : Keys) → p.len ≤ 8 → p.len ≡ length (common (keys_of p) (keys_of q)) → Keyed (common (keys_of p) (keys_of q)) p
-all_shared p q h e =
-    record { is = take_keys p.len p.len p.word (omega arith) ∙ ap (λ n. take n (keys_of p)) e ∙ take-common (keys_of p) (keys_of q); few = h }
+  pub share_all : (s : Keys) → l ≡ [] ⊎ (r ≡ []) → Keyed (take n (keys_of k)) s → Keyed (common (keys_of k) m) s
+  share_all s (inl e) = shared s (ap (λ x. length (common x r)) e)
+  share_all s (inr e) = shared s (ap (λ x. length (common l x)) e ∙ none l)
+    where
+      none : (x : List Key) → length (common x []) ≡ 0
+      none [] = refl
+      none (y ∷ x) = refl
 
 -- two lists are the same, or their lengths differ
 same_length : (p q : Keys) → eqb p.len q.len ≡ eqb (length (keys_of p)) (length (keys_of q))

@@ -1,5 +1,5 @@
 -- The loop that makes a normal form, and the lists that are normal forms by other tables. Assumes nothing.
-use Rattle.std.specs.Prelude.{◌≡◌, refl, Bool, true, false, cond, ◌||◌, List, [], ◌∷◌, ℕ, ◌+◌, ◌-◌, ◌/◌, ◌≤◌, ◌<◌, eqb}
+use Rattle.std.specs.Prelude.{◌≡◌, refl, Bool, true, false, cond, ◌||◌, List, [], ◌∷◌, ℕ, ◌+◌, ◌≤◌, eqb, length}
 use Rattle.std.proofs.Common.{ap, ap₂, sym, ◌∙◌, arith}
 use Rattle.row_order.specs.Iso.{Key}
 use Rattle.row_order.specs.Packed.{bit, key_of}
@@ -8,15 +8,15 @@ use Rattle.semantics.specs.Facts.{Facts, is_c, with_column, nf_by, drop_repeats}
 use Rattle.semantics.specs.Properties.{fresh_keys}
 use Rattle.column_sets.specs.Sets.{Holding}
 use Rattle.key_lists.specs.declared.Keys.{Keys}
-use Rattle.key_lists.specs.Keys.{keys_in, keys_of, Keyed, Tight, Longer}
-use Rattle.key_lists.specs.Lists.{next, end, begun, no_length, Building, rebuilt, grown, built}
+use Rattle.key_lists.specs.Keys.{keys_of, Keyed, Tight, Longer}
+use Rattle.key_lists.specs.Lists.{length_keys, begun, no_length, Building, rebuilt, grown, built}
 
--- the loop with n keys of the word w left: the list out so far; the set holds the constants and the columns seen
-pub record Normalising (cs : ℕ → Bool) (low : ℕ → ℕ) (ks : List Key) (out : Keys) (set w n : ℕ) : Type 0 where
-  pub few : out.len + n ≤ 8
+-- the loop with the keys l left: the list out so far; the set holds the constants and the columns seen
+pub record Normalising (cs : ℕ → Bool) (low : ℕ → ℕ) (ks : List Key) (out : Keys) (set : ℕ) (l : List Key) : Type 0 where
+  pub few : out.len + length l ≤ 8
   pub seen : List ℕ
   pub holds : Holding (λ c. cs c || member c seen) set
-  pub builds : Building (nf_by cs low [] ks) out (nf_by cs low seen (keys_in n w))
+  pub builds : Building (nf_by cs low [] ks) out (nf_by cs low seen l)
 
 pub none_seen : (a : Bool) → a ≡ a || false
 none_seen true = refl
@@ -27,44 +27,43 @@ swap true true c = refl
 swap true false c = refl
 swap false b c = refl
 
-pub normal_none : (cs : ℕ → Bool) (low : ℕ → ℕ) (k out : Keys) (s : ℕ) → k.len ≤ 8 → Keyed [] out → Tight out → ((c : ℕ) → bit s c ≡ cs c)
-    → Normalising cs low (keys_of k) out s k.word k.len
-normal_none cs low k out s h e t g =
+pub normal_none : (cs : ℕ → Bool) (low : ℕ → ℕ) (k out : Keys) (s : ℕ) (l : List Key) → l ≡ keys_of k → k.len ≤ 8 → Keyed [] out → Tight out
+    → ((c : ℕ) → bit s c ≡ cs c) → Normalising cs low (keys_of k) out s l
+normal_none cs low k out s l i h e t g =
     let z = no_length out e in
-    record { few = omega arith; seen = []; holds = λ c. g c ∙ none_seen (cs c); builds = begun _ out e t }
+    record {
+      few = omega (arith, ap length i, length_keys k.len k.word);
+      seen = [];
+      holds = λ c. g c ∙ none_seen (cs c);
+      builds = rebuilt (ap (nf_by cs low []) (sym i)) (begun _ out e t);
+    }
 
-module _ (cs : ℕ → Bool) (low : ℕ → ℕ) (ks : List Key) (out : Keys) (s w n : ℕ) (b : Normalising cs low ks out s w n) (h : 0 < n) (c : ℕ)
-    (e : c ≡ low (key_of w).col) where
+module _ {cs : ℕ → Bool} {low : ℕ → ℕ} {ks : List Key} {out : Keys} {s : ℕ} {l : List Key} (b : Normalising cs low ks out s l) (w : ℕ) (m : List Key)
+    (i : l ≡ key_of w ∷ m) (c : ℕ) (e : c ≡ low (key_of w).col) where
   dropped : (x : Bool) → bit s c ≡ x → cs (low (key_of w).col) || member (low (key_of w).col) b.seen ≡ x
   dropped x f = sym (b.holds (low (key_of w).col)) ∙ ap (bit s) (sym e) ∙ f
 
-  pub skipped : bit s c ≡ true → Normalising cs low ks out s (w / 256) (n - 1)
+  pub skipped : bit s c ≡ true → Normalising cs low ks out s m
   skipped f =
-      let z = b.few in
-      let d : nf_by cs low b.seen (keys_in n w) ≡ nf_by cs low b.seen (keys_in (n - 1) (w / 256)) = rw (next n w h, dropped true f) in
-      record { few = omega arith; seen = b.seen; holds = b.holds; builds = rebuilt d b.builds }
+      let d : nf_by cs low b.seen l ≡ nf_by cs low b.seen m = rw (i, dropped true f) in
+      record { few = omega (arith, b.few, ap length i); seen = b.seen; holds = b.holds; builds = rebuilt d b.builds }
 
   pub kept : bit s c ≡ false → (t : ℕ) → Holding (λ d. eqb d c || bit s d) t → (x : ℕ) → key_of x ≡ with_column c (key_of w) → (r : Keys) → Longer out x r
-      → Normalising cs low ks r t (w / 256) (n - 1)
-  kept f t m x y r l =
-      let z = b.few in let g = l.len in
-      let d : nf_by cs low b.seen (keys_in n w) ≡ with_column (low (key_of w).col) (key_of w) ∷ nf_by cs low (low (key_of w).col ∷ b.seen)
-      (keys_in (n - 1) (w / 256)) =
-      rw (next n w h, dropped false f) in
+      → Normalising cs low ks r t m
+  kept f t h x y r g =
+      let d : nf_by cs low b.seen l ≡ with_column (low (key_of w).col) (key_of w) ∷ nf_by cs low (low (key_of w).col ∷ b.seen) m = rw (i, dropped false f) in
       record {
-        few = omega arith;
+        few = omega (arith, b.few, g.len, ap length i);
         seen = low (key_of w).col ∷ b.seen;
-        holds = λ a. m a ∙ rw (e, b.holds a) (swap (eqb a (low (key_of w).col)) (cs a) (member a b.seen));
-        builds = grown _ out x r (with_column (low (key_of w).col) (key_of w)) (nf_by cs low (low (key_of w).col ∷ b.seen) (keys_in (n - 1) (w / 256)))
-            (rebuilt d b.builds) l (y ∙ ap (λ c. with_column c (key_of w)) e);
+        holds = λ a. h a ∙ rw (e, b.holds a) (swap (eqb a (low (key_of w).col)) (cs a) (member a b.seen));
+        builds = grown _ out x r (with_column (low (key_of w).col) (key_of w)) (nf_by cs low (low (key_of w).col ∷ b.seen) m)
+            (rebuilt d b.builds) g (y ∙ ap (λ c. with_column c (key_of w)) e);
       }
 
-pub normalised : (cs : ℕ → Bool) (low : ℕ → ℕ) (ks : List Key) (out : Keys) (s w n : ℕ) → Normalising cs low ks out s w n → n ≤ 0
+pub normalised : {cs : ℕ → Bool} {low : ℕ → ℕ} {ks : List Key} {out : Keys} {s : ℕ} {l : List Key} → Normalising cs low ks out s l → l ≡ []
     → Keyed (nf_by cs low [] ks) out
-normalised cs low ks out s w n b h =
-    let z = b.few in
-    let d : nf_by cs low b.seen (keys_in n w) ≡ [] = rw (end n w h) in
-    built _ out (omega arith) (rebuilt d b.builds)
+normalised {cs} {low} {ks} {out} {s} {l} b e =
+    built _ out (omega (arith, b.few)) (rebuilt (ap (nf_by cs low b.seen) e) b.builds)
 
 -- fresh keys are a normal form where each column is alone, and repeats dropped one without constants too
 pub fresh_normal : (F : Facts) (seen : List ℕ) (ks : List Key) → fresh_keys F seen ks ≡ nf_by (is_c F) (λ c. c) seen ks

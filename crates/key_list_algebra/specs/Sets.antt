@@ -1,8 +1,7 @@
 -- The set of a list's columns, collected from the last key on. Assumes nothing.
-use Rattle.std.specs.Prelude.{◌≡◌, refl, List, [], ◌∷◌, map, ℕ, suc, ◌+◌, ◌-◌, ◌*◌, ◌/◌, ◌^◌, ◌≤◌, ◌<◌}
+use Rattle.std.specs.Prelude.{◌≡◌, List, ◌∷◌, map, ℕ, ◌+◌, ◌-◌, ◌*◌, ◌/◌, ◌^◌, ◌≤◌, ◌<◌}
 use Rattle.std.proofs.Common.{sym, ap, ap₂, ◌∙◌, arith, shr-shr}
 use Rattle.std.specs.Int.Bits.{bit_or}
-use Rattle.row_order.specs.Iso.{Key}
 use Rattle.row_order.specs.Packed.{key_of}
 use Rattle.semantics.specs.Properties.{column_set}
 use Rattle.key_lists.specs.declared.Keys.{Keys}

@@ -1,7 +1,7 @@
 // Key lists compared and changed: prefix, normal form, repeats dropped, columns moved by an offset, the set of their columns.
 #![tactic(auto)]
 
-ghost use Rattle.std.specs.Prelude.{◌≡◌, ◌&&◌, [], map, ◌*◌, ◌<◌, ◌≤◌, ◌^◌, eqb, length, pos, ◌+ℤ◌};
+ghost use Rattle.std.specs.Prelude.{◌≡◌, ◌&&◌, [], map, ℕ, ◌*◌, ◌<◌, ◌≤◌, ◌^◌, eqb, length, pos, ◌+ℤ◌};
 ghost use Rattle.std.specs.Int.Bits.{bit_or};
 ghost use Rattle.row_order.specs.Packed.{bit};
 ghost use Rattle.row_order.specs.Lists.{All};
@@ -19,21 +19,14 @@ use row_order::column;
 pub fn prefix(p: Keys, q: Keys) -> bool
     ensures { result ≡ prefixb (keys_of p) (keys_of q) }
 {
-    let mut a = p.word;
-    let mut b = q.word;
-    let mut left = p.len;
-    let mut more = q.len;
-    while 0 < left {
-        if more == 0 {
+    let mut others = q.iter();
+    for a in p.iter() {
+        let Some(b) = others.next() else {
             return false;
-        }
+        };
         if !same_key(a, b) {
             return false;
         }
-        a = a >> 8;
-        b = b >> 8;
-        left -= 1;
-        more -= 1;
     }
     true
 }
@@ -50,45 +43,42 @@ pub fn common_keys(p: Keys, q: Keys) -> Keys
     requires { p.len ≤ 8 }
     ensures { Keyed (common (keys_of p) (keys_of q)) result }
 {
-    let mut a = p.word;
-    let mut b = q.word;
-    let mut left = p.len;
-    let mut more = q.len;
-    while 0 < left {
-        if more == 0 {
-            return front(p, p.len - left);
-        }
+    let mut n = 0;
+    for (a, b) in p.iter().zip(q.iter()) {
         if !same_key(a, b) {
-            return front(p, p.len - left);
+            break;
         }
-        a = a >> 8;
-        b = b >> 8;
-        left -= 1;
-        more -= 1;
+        n += 1;
     }
-    p
+    front(p, n)
 }
 
-// The normal form: each column replaced by its class's lowest, constants dropped, later repeats dropped.
+// The normal form: each column replaced by the lowest equal one, constants dropped, later repeats dropped.
+pub fn normal_by<L: Fn(usize) -> usize>(consts: u32, k: Keys, lowest: L) -> Keys
+    requires callable { (c : ℕ) → c < 32 → L.pre lowest c }
+    requires columns { (c r : ℕ) → c < 32 → L.post lowest c r → r < 32 }
+    requires len_bound { k.len ≤ 8 }
+    ensures { (low : ℕ → ℕ) → ((c r : ℕ) → c < 32 → L.post lowest c r → r ≡ low c) → Keyed (nf_by (bit consts) low [] (keys_of k)) result }
+{
+    let mut out = no_keys();
+    let mut seen = consts;
+    for key in k.iter() {
+        let c = lowest(column(key));
+        if !has(seen, c) {
+            seen = with(seen, c);
+            out = appended(out, with_column(key, c));
+        }
+    }
+    out
+}
+
+// The normal form by a table of classes.
 pub fn normal(table: &Table, consts: u32, k: Keys) -> Keys
     requires small { Small table.now }
     requires len_bound { k.len ≤ 8 }
     ensures { Keyed (nf_by (bit consts) (at table.now) [] (keys_of k)) result }
 {
-    let mut out = no_keys();
-    let mut seen = consts;
-    let mut rest = k.word;
-    let mut left = k.len;
-    while 0 < left {
-        let c = low(table, column(rest));
-        if !has(seen, c) {
-            seen = with(seen, c);
-            out = appended(out, with_column(rest, c));
-        }
-        rest = rest >> 8;
-        left -= 1;
-    }
-    out
+    normal_by(consts, k, |c| low(table, c))
 }
 
 // The list less its constants and a column's later repeats.
@@ -96,20 +86,7 @@ pub fn fresh_keys(consts: u32, k: Keys) -> Keys
     requires { k.len ≤ 8 }
     ensures { Keyed (nf_by (bit consts) (λ c. c) [] (keys_of k)) result }
 {
-    let mut out = no_keys();
-    let mut gone = consts;
-    let mut rest = k.word;
-    let mut left = k.len;
-    while 0 < left {
-        let c = column(rest);
-        if !has(gone, c) {
-            gone = with(gone, c);
-            out = appended(out, rest);
-        }
-        rest = rest >> 8;
-        left -= 1;
-    }
-    out
+    normal_by(consts, k, |c| c)
 }
 
 // The list less a column's later repeats.
@@ -135,13 +112,9 @@ pub fn move_keys(k: Keys, by: isize) -> Keys
     ensures { Keyed (map (moved_by by) (keys_of k)) result }
 {
     let mut out = no_keys();
-    let mut rest = k.word;
-    let mut left = k.len;
-    while 0 < left {
-        let c = move_column(column(rest), by);
-        out = appended(out, with_column(rest, c));
-        rest = rest >> 8;
-        left -= 1;
+    for key in k.iter() {
+        let c = move_column(column(key), by);
+        out = appended(out, with_column(key, c));
     }
     out
 }
@@ -160,9 +133,7 @@ pub fn column_set(k: Keys) -> u32
     ensures { result ≡ column_set (map (λ k. k.col) (keys_of k)) }
 {
     let mut set: u32 = 0;
-    let mut i = k.len;
-    while 0 < i {
-        i -= 1;
+    for i in (0..k.len).rev() {
         set = joined(set, column(k.word >> (8 * i)));
     }
     set

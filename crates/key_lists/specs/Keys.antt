@@ -1,11 +1,10 @@
 -- Key lists and orders as the code holds them, and offsets of columns. These are definitions.
-use Rattle.std.specs.Prelude.{◌≡◌, List, [], ◌∷◌, ◌++◌, ℕ, zero, suc, ◌*◌, ◌/◌, ◌^◌, ◌≤◌, ◌<◌, ℤ, pos, nat_abs, ◌+ℤ◌, ◌≤ℤ◌, ◌<ℤ◌}
+use Rattle.std.specs.Prelude.{◌≡◌, List, [], ◌∷◌, ◌++◌, ℕ, zero, suc, ◌*◌, ◌/◌, ◌^◌, ◌≤◌, ◌<◌, ℤ, pos, nat_abs, ◌+ℤ◌, ◌≤ℤ◌, ◌<ℤ◌, Option, Some, None}
 use Rattle.row_order.specs.Iso.{Key}
 use Rattle.row_order.specs.Packed.{key_of}
 use Rattle.semantics.specs.Facts.{with_column}
+use Rattle.key_lists.specs.declared.Iter.{Iter}
 use Rattle.key_lists.specs.declared.Keys.{Keys}
-use Rattle.key_lists.specs.declared.Order.{Order}
-use Rattle.key_lists.specs.declared.Order.TheVariants.{Unordered, By}
 
 -- n keys of a word, a byte for each, the first in the lowest: key_of reads seven bits of it
 abbrev pub keys_in : ℕ → ℕ → List Key
@@ -14,6 +13,10 @@ keys_in (suc n) w = key_of w ∷ keys_in n (w / 256)
 
 abbrev pub keys_of : Keys → List Key
 keys_of k = keys_in k.len k.word
+
+-- the keys that an iterator has still to give
+abbrev pub keys_left : Iter → List Key
+keys_left it = keys_in it.left it.word
 
 -- k holds the list ks
 pub record Keyed (ks : List Key) (k : Keys) : Type 0 where
@@ -31,17 +34,17 @@ pub record Longer (k : Keys) (key : ℕ) (r : Keys) : Type 0 where
   pub tight : Tight r
 
 -- "an empty one is no order"
-abbrev pub order_of : Order → List Key
-order_of Unordered = []
-order_of (By k) = keys_of k
+abbrev pub order_of : Option Keys → List Key
+order_of None = []
+order_of (Some k) = keys_of k
 
 -- An order has one key at least
-abbrev pub Real : Order → Type 0
-Real Unordered = Unit {0}
-Real (By k) = (0 < k.len) × (k.len ≤ 8)
+abbrev pub Real : Option Keys → Type 0
+Real None = Unit {0}
+Real (Some k) = (0 < k.len) × (k.len ≤ 8)
 
 -- o is the order ks; no order where ks is empty
-pub record Ordered (ks : List Key) (o : Order) : Type 0 where
+pub record Ordered (ks : List Key) (o : Option Keys) : Type 0 where
   pub is : order_of o ≡ ks
   pub real : Real o
 

@@ -35,20 +35,18 @@ pub no_keys_is : (n w : ℕ) → is_nil (keys_in n w) ≡ eqb n 0
 no_keys_is zero w = refl
 no_keys_is (suc n) w = sym (ne_eqb (suc n) 0 (λ e. absurd (omega arith)))
 
-pub map_next : (f : Key → Key) (n w : ℕ) → 0 < n → map f (keys_in n w) ≡ f (key_of w) ∷ map f (keys_in (n - 1) (w / 256))
-map_next f n w h = ap (map f) (next n w h)
-
-pub map-end : (f : Key → Key) (n w : ℕ) → n ≤ 0 → map f (keys_in n w) ≡ []
-map-end f n w h = ap (map f) (end n w h)
-
 -- the first key has what all keys have, and so have the rest
-pub first_of : (P : Key → Type 0) (n w : ℕ) → 0 < n → All P (keys_in n w) → P (key_of w)
-first_of P zero w h a = absurd (omega arith)
-first_of P (suc n) w h (all_cons p ps) = p
+pub first_of : (P : Key → Type 0) {k : Key} {l m : List Key} → l ≡ k ∷ m → All P l → P k
+first_of P {k} {l} {m} e a = go (subst (All P) e a)
+  where
+    go : All P (k ∷ m) → P k
+    go (all_cons p ps) = p
 
-pub rest_of : (P : Key → Type 0) (n w : ℕ) → 0 < n → All P (keys_in n w) → All P (keys_in (n - 1) (w / 256))
-rest_of P zero w h a = absurd (omega arith)
-rest_of P (suc n) w h (all_cons p ps) = subst (λ m. All P (keys_in m (w / 256))) (let e : n ≡ suc n - 1 = omega arith in e) ps
+pub rest_of : (P : Key → Type 0) {k : Key} {l m : List Key} → l ≡ k ∷ m → All P l → All P m
+rest_of P {k} {l} {m} e a = go (subst (All P) e a)
+  where
+    go : All P (k ∷ m) → All P m
+    go (all_cons p ps) = ps
 
 -- ---- one key more
 
@@ -160,3 +158,14 @@ grown whole k key r x more b l e =
 
 pub built : (whole : List Key) (k : Keys) → k.len ≤ 8 → Building whole k [] → Keyed whole k
 built whole k h b = record { is = sym (append-nil (keys_of k)) ∙ b.is; few = h }
+
+-- the same for a list that a function maps: nothing of it yet, one key more, all of it
+pub mapped_none : (f : Key → Key) (l m : List Key) (k : Keys) → m ≡ l → Keyed [] k → Tight k → Building (map f l) k (map f m)
+mapped_none f l m k e h t = rebuilt (ap (map f) (sym e)) (begun (map f l) k h t)
+
+pub mapped_more : (f : Key → Key) {whole l m : List Key} {k r : Keys} (w x : ℕ) → l ≡ key_of w ∷ m → Longer k x r → key_of x ≡ f (key_of w)
+    → Building whole k (map f l) → Building whole r (map f m)
+mapped_more f {whole} {l} {m} {k} {r} w x e g y b = grown whole k x r (f (key_of w)) (map f m) (rebuilt (ap (map f) e) b) g y
+
+pub mapped_all : (f : Key → Key) {whole l : List Key} {k : Keys} → l ≡ [] → k.len ≤ 8 → Building whole k (map f l) → Keyed whole k
+mapped_all f {whole} {l} {k} e h b = built whole k h (rebuilt (ap (map f) e) b)

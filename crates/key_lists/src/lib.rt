@@ -1,11 +1,11 @@
 // Key lists by value. A key is one number, column + 32 * options (row_order), and only its seven bits count. A list is one word of up to eight keys, a
-// byte for each, the first in the lowest byte.
+// byte for each, the first in the lowest byte. An order is an Option of a list of one key at least.
 #![tactic(auto)]
 
 ghost use Rattle.std.specs.Prelude.{◌≡◌, [], map, ◌*◌, ◌%◌, ◌<◌, ◌≤◌, ◌^◌, length, take};
 ghost use Rattle.row_order.specs.Packed.{key_of};
 ghost use Rattle.semantics.specs.Facts.{with_column, eq_key};
-ghost use Rattle.key_lists.specs.Keys.{keys_of, Keyed, Ordered, Tight, Longer};
+ghost use Rattle.key_lists.specs.Keys.{keys_of, keys_left, Keyed, Ordered, Tight, Longer};
 
 // The first len keys of the word.
 #[derive(Clone, Copy)]
@@ -14,11 +14,47 @@ pub struct Keys {
     pub len: usize,
 }
 
-// An order of one key at least, or none.
+impl Keys {
+    // The keys in order.
+    pub fn iter(self) -> Iter
+        ensures { keys_left result ≡ keys_of self }
+    {
+        Iter {
+            word: self.word,
+            left: self.len,
+        }
+    }
+}
+
+// The keys of a list that are still to come: the first left keys of the word.
 #[derive(Clone, Copy)]
-pub enum Order {
-    Unordered,
-    By(Keys),
+pub struct Iter {
+    word: usize,
+    left: usize,
+}
+
+impl Iterator for Iter {
+    ghost use Rattle.std.specs.Iterator.{YieldsFirstBy, item_count};
+    ghost use Rattle.row_order.specs.Packed.{key_of};
+    ghost use Rattle.key_lists.specs.Keys.{keys_left};
+
+    // A number of which only the low seven bits count; the keys behind it stand above them.
+    type Item = usize;
+
+    ghost next_gives = { YieldsFirstBy key_of keys_left };
+
+    ghost remaining = { item_count keys_left };
+
+    #[inline]
+    fn next(&mut self) -> Option<usize> {
+        if self.left == 0 {
+            return None;
+        }
+        let key = self.word;
+        self.word = key >> 8;
+        self.left -= 1;
+        Some(key)
+    }
 }
 
 pub fn no_keys() -> Keys
@@ -28,15 +64,11 @@ pub fn no_keys() -> Keys
 }
 
 // The order by the keys: of no keys none.
-pub fn order_of(k: Keys) -> Order
+pub fn order_of(k: Keys) -> Option<Keys>
     requires { k.len ≤ 8 }
     ensures { Ordered (keys_of k) result }
 {
-    if k.len == 0 {
-        Order::Unordered
-    } else {
-        Order::By(k)
-    }
+    if k.len == 0 { None } else { Some(k) }
 }
 
 // The first n keys.

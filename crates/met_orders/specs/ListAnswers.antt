@@ -1,5 +1,5 @@
 -- What is asked of key lists, by a row's bytes. Assumes nothing.
-use Rattle.std.specs.Prelude.{◌≡◌, Bool, true, List, [], ℕ}
+use Rattle.std.specs.Prelude.{◌≡◌, Bool, true, List, [], ℕ, Option, Some, None}
 use Rattle.std.proofs.Common.{sym, ap, ◌∙◌, subst}
 use Rattle.row_order.specs.Iso.{Key}
 use Rattle.row_order.specs.Packed.{bit}
@@ -7,8 +7,6 @@ use Rattle.scan.specs.Bytes.{le32}
 use Rattle.semantics.specs.Facts.{met, nf_by}
 use Rattle.semantics.specs.Properties.{fresh_keys}
 use Rattle.key_lists.specs.declared.Keys.{Keys}
-use Rattle.key_lists.specs.declared.Order.{Order}
-use Rattle.key_lists.specs.declared.Order.TheVariants.{Unordered, By}
 use Rattle.key_lists.specs.Keys.{keys_of, order_of, Keyed}
 use Rattle.key_list_algebra.specs.Normalising.{fresh_normal}
 use Rattle.facts.specs.Reading.{is_c_is}
@@ -24,8 +22,8 @@ fresh_is b s k r f e h =
     ∙ sym (fresh_normal (told b) [] (keys_of k))) h
 
 -- no order is met
-pub none-met : (b : List ℕ) (o : Order) → o ≡ Unordered → true ≡ met (told b) (order_of o)
+pub none-met : (b : List ℕ) (o : Option Keys) → o ≡ None → true ≡ met (told b) (order_of o)
 none-met b o e = sym (ap (λ x. met (told b) (order_of x)) e)
 
-pub some_met : (b : List ℕ) (o : Order) (k : Keys) (r : Bool) → o ≡ By k → r ≡ met (told b) (keys_of k) → r ≡ met (told b) (order_of o)
+pub some_met : (b : List ℕ) (o : Option Keys) (k : Keys) (r : Bool) → o ≡ Some k → r ≡ met (told b) (keys_of k) → r ≡ met (told b) (order_of o)
 some_met b o k r e h = h ∙ sym (ap (λ x. met (told b) (order_of x)) e)

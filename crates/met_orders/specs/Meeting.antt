@@ -1,5 +1,5 @@
 -- The loop that compares a list's normal form with an order, key by key, and what its number says. Assumes nothing.
-use Rattle.std.specs.Prelude.{◌≡◌, refl, Bool, true, false, cond, ◌||◌, ◌&&◌, List, [], ◌∷◌, ℕ, zero, suc, ◌+◌, ◌-◌, ◌/◌, ◌≤◌, ◌<◌, eqb, length, take}
+use Rattle.std.specs.Prelude.{◌≡◌, refl, Bool, true, false, cond, ◌||◌, ◌&&◌, List, [], ◌∷◌, ℕ, zero, suc, ◌+◌, ◌<◌, eqb, length, take}
 use Rattle.std.proofs.Common.{sym, ap, ap₂, ◌∙◌, arith, take_all, eq-eqb, ne_eqb}
 use Rattle.std.proofs.Math.Decide.{ℕ_discrete}
 use Rattle.row_order.specs.Iso.{Key}
@@ -7,34 +7,31 @@ use Rattle.row_order.proofs.Order.{no_bool}
 use Rattle.row_order.specs.Packed.{bit, key_of}
 use Rattle.plan.specs.WellFormed.{member}
 use Rattle.semantics.proofs.Theorems.Common.Bools.{and_left, and_right}
-use Rattle.semantics.specs.Facts.{Facts, is_c, cl, nf_by, nf, with_column, eq_key, prefixb, met}
+use Rattle.semantics.specs.Facts.{Facts, is_c, cl, nf_by, nf, with_column, eq_key, prefixb}
 use Rattle.column_sets.specs.Sets.{Holding}
-use Rattle.key_lists.specs.declared.Keys.{Keys}
-use Rattle.key_lists.specs.Keys.{keys_in, keys_of}
-use Rattle.key_lists.specs.Lists.{next, end, length_keys}
 use Rattle.key_list_algebra.specs.Normalising.{none_seen, swap}
 use Rattle.asked_facts.specs.Asked.{Fronts}
 
--- ---- the loop: i keys of ks are passed, n keys of the word w are left, and of the order q there are m keys of the word v
-pub record Fronting (F : Facts) (q ks : List Key) (s v m w n i : ℕ) : Type 0 where
-  pub far : i + n ≡ length ks
+-- ---- the loop: i keys of ks are passed, the keys l are left, and of the order q the keys p
+pub record Fronting (F : Facts) (q ks : List Key) (s : ℕ) (p l : List Key) (i : ℕ) : Type 0 where
+  pub far : i + length l ≡ length ks
   pub seen : List ℕ
   pub holds : Holding (λ c. is_c F c || member c seen) s
-  pub left : (j : ℕ) → prefixb (nf_by (is_c F) (cl F) seen (take j (keys_in n w))) (keys_in m v) ≡ prefixb (nf F [] (take (i + j) ks)) q
+  pub left : (j : ℕ) → prefixb (nf_by (is_c F) (cl F) seen (take j l)) p ≡ prefixb (nf F [] (take (i + j) ks)) q
   pub front : (j : ℕ) → j < i → prefixb (nf F [] (take (suc j) ks)) q ≡ true
 
-pub front-none : (F : Facts) (order k : Keys) (s : ℕ) → ((c : ℕ) → bit s c ≡ is_c F c) → Fronting F (keys_of order) (keys_of k) s order.word order.len
-    k.word k.len 0
-front-none F order k s h =
+pub front-none : (F : Facts) (q ks : List Key) (s : ℕ) (p l : List Key) → p ≡ q → l ≡ ks → ((c : ℕ) → bit s c ≡ is_c F c) → Fronting F q ks s p l 0
+front-none F q ks s p l e f h =
     record {
-      far = let e = length_keys k.len k.word in omega arith;
+      far = omega (arith, ap length f);
       seen = [];
       holds = λ c. h c ∙ none_seen (is_c F c);
-      left = λ j. ap (λ x. prefixb (nf F [] (take x (keys_of k))) (keys_of order)) (let e : j ≡ 0 + j = omega arith in e);
-      front = λ j l. absurd (omega arith);
+      left = λ j. ap₂ (λ x y. prefixb (nf F [] (take j x)) y) f e ∙ ap (λ x. prefixb (nf F [] (take x ks)) q) (let z : j ≡ 0 + j = omega arith in z);
+      front = λ j h. absurd (omega arith);
     }
 
-module _ (F : Facts) (q ks : List Key) (s v m w n i : ℕ) (g : Fronting F q ks s v m w n i) (h : 0 < n) (c : ℕ) (e : c ≡ cl F (key_of w).col) where
+module _ {F : Facts} {q ks : List Key} {s : ℕ} {p l : List Key} {i : ℕ} (g : Fronting F q ks s p l i) (w : ℕ) (m : List Key) (d : l ≡ key_of w ∷ m) (c : ℕ)
+    (e : c ≡ cl F (key_of w).col) where
   abbrev k : Key
   k = key_of w
 
@@ -53,22 +50,20 @@ module _ (F : Facts) (q ks : List Key) (s v m w n i : ℕ) (g : Fronting F q ks 
       go (no z) = g.front j (omega arith)
 
   module _ (f : bit s c ≡ true) where
-    skip_here : (l : List Key) → nf_by (is_c F) (cl F) g.seen (k ∷ l) ≡ nf_by (is_c F) (cl F) g.seen l
-    skip_here l = rw (dropped true f)
+    skip_here : (x : List Key) → nf_by (is_c F) (cl F) g.seen (k ∷ x) ≡ nf_by (is_c F) (cl F) g.seen x
+    skip_here x = rw (dropped true f)
 
-    skip_left : (j : ℕ) → prefixb (nf_by (is_c F) (cl F) g.seen (take j (keys_in (n - 1) (w / 256)))) (keys_in m v) ≡ prefixb
-        (nf F [] (take (i + 1 + j) ks)) q
+    skip_left : (j : ℕ) → prefixb (nf_by (is_c F) (cl F) g.seen (take j m)) p ≡ prefixb (nf F [] (take (i + 1 + j) ks)) q
     skip_left j =
-        ap (λ l. prefixb l (keys_in m v)) (sym (skip_here (take j (keys_in (n - 1) (w / 256)))))
-        ∙ ap (λ l. prefixb (nf_by (is_c F) (cl F) g.seen (take (suc j) l)) (keys_in m v)) (sym (next n w h))
+        ap (λ x. prefixb x p) (sym (skip_here (take j m)))
+        ∙ ap (λ x. prefixb (nf_by (is_c F) (cl F) g.seen (take (suc j) x)) p) (sym d)
         ∙ g.left (suc j)
         ∙ ap (λ x. prefixb (nf F [] (take x ks)) q) (step j)
 
-    pub front_skip : Fronting F q ks s v m (w / 256) (n - 1) (i + 1)
+    pub front_skip : Fronting F q ks s p m (i + 1)
     front_skip =
-        let z = g.far in
         record {
-          far = omega arith;
+          far = omega (arith, g.far, ap length d);
           seen = g.seen;
           holds = g.holds;
           left = skip_left;
@@ -76,50 +71,51 @@ module _ (F : Facts) (q ks : List Key) (s v m w n i : ℕ) (g : Fronting F q ks 
         }
 
   module _ (f : bit s c ≡ false) where
-    kept_here : (l : List Key) → nf_by (is_c F) (cl F) g.seen (k ∷ l) ≡ with_column (cl F k.col) k ∷ nf_by (is_c F) (cl F) (cl F k.col ∷ g.seen) l
-    kept_here l = rw (dropped false f)
+    kept_here : (x : List Key) → nf_by (is_c F) (cl F) g.seen (k ∷ x) ≡ with_column (cl F k.col) k ∷ nf_by (is_c F) (cl F) (cl F k.col ∷ g.seen) x
+    kept_here x = rw (dropped false f)
 
     -- this key alone decides as the first i + 1 keys do
-    alone : (b : Bool) → prefixb (with_column (cl F k.col) k ∷ []) (keys_in m v) ≡ b → prefixb (nf F [] (take (i + 1) ks)) q ≡ b
-    alone b z = sym (g.left 1) ∙ ap (λ l. prefixb (nf_by (is_c F) (cl F) g.seen (take 1 l)) (keys_in m v)) (next n w h) ∙ ap (λ l. prefixb l (keys_in m v))
-        (kept_here []) ∙ z
+    alone : (b : Bool) → prefixb (with_column (cl F k.col) k ∷ []) p ≡ b → prefixb (nf F [] (take (i + 1) ks)) q ≡ b
+    alone b z = sym (g.left 1) ∙ ap (λ x. prefixb (nf_by (is_c F) (cl F) g.seen (take 1 x)) p) d ∙ ap (λ x. prefixb x p) (kept_here []) ∙ z
 
     stopped : prefixb (nf F [] (take (i + 1) ks)) q ≡ false → Fronts F q ks i
     stopped z =
-        let y = g.far in
-        record { few = omega arith; front = g.front; stop = λ l. ap (λ x. prefixb (nf F [] (take x ks)) q) (let x : suc i ≡ i + 1 = omega arith in x) ∙ z }
+        record {
+          few = omega (arith, g.far);
+          front = g.front;
+          stop = λ h. ap (λ x. prefixb (nf F [] (take x ks)) q) (let x : suc i ≡ i + 1 = omega arith in x) ∙ z;
+        }
 
-    pub front_short : m ≤ 0 → Fronts F q ks i
-    front_short l = stopped (alone false (ap (prefixb (with_column (cl F k.col) k ∷ [])) (end m v l)))
+    pub front_short : p ≡ [] → Fronts F q ks i
+    front_short h = stopped (alone false (ap (prefixb (with_column (cl F k.col) k ∷ [])) h))
 
-    module _ (l : 0 < m) (x : ℕ) (y : key_of x ≡ with_column c k) (b : Bool) (z : b ≡ eq_key (key_of x) (key_of v)) where
+    module _ (v : ℕ) (r : List Key) (h : p ≡ key_of v ∷ r) (x : ℕ) (y : key_of x ≡ with_column c k) (b : Bool) (z : b ≡ eq_key (key_of x) (key_of v)) where
       tested : b ≡ eq_key (with_column (cl F k.col) k) (key_of v)
       tested = z ∙ ap (λ a. eq_key a (key_of v)) (y ∙ ap (λ a. with_column a k) e)
 
-      first : (t : Bool) → b ≡ t → (p : List Key) → prefixb (with_column (cl F k.col) k ∷ p) (keys_in m v) ≡ t && prefixb p (keys_in (m - 1) (v / 256))
-      first t u p = ap (prefixb (with_column (cl F k.col) k ∷ p)) (next m v l) ∙ ap (λ a. a && prefixb p (keys_in (m - 1) (v / 256))) (sym tested ∙ u)
+      first : (t : Bool) → b ≡ t → (o : List Key) → prefixb (with_column (cl F k.col) k ∷ o) p ≡ t && prefixb o r
+      first t u o = ap (prefixb (with_column (cl F k.col) k ∷ o)) h ∙ ap (λ a. a && prefixb o r) (sym tested ∙ u)
 
       pub front_differ : b ≡ false → Fronts F q ks i
       front_differ t = stopped (alone false (first false t []))
 
-      pub front_more : b ≡ true → (t : ℕ) → Holding (λ d. eqb d c || bit s d) t → Fronting F q ks t (v / 256) (m - 1) (w / 256) (n - 1) (i + 1)
+      pub front_more : b ≡ true → (t : ℕ) → Holding (λ d. eqb d c || bit s d) t → Fronting F q ks t r m (i + 1)
       front_more t u a =
-          let o = g.far in
           record {
-            far = omega arith;
+            far = omega (arith, g.far, ap length d);
             seen = cl F k.col ∷ g.seen;
             holds = λ d. a d ∙ rw (e, g.holds d) (swap (eqb d (cl F k.col)) (is_c F d) (member d g.seen));
             left =
-                λ j. sym (first true t (nf_by (is_c F) (cl F) (cl F k.col ∷ g.seen) (take j (keys_in (n - 1) (w / 256)))))
-                ∙ ap (λ p. prefixb p (keys_in m v)) (sym (kept_here (take j (keys_in (n - 1) (w / 256)))))
-                ∙ ap (λ p. prefixb (nf_by (is_c F) (cl F) g.seen (take (suc j) p)) (keys_in m v)) (sym (next n w h))
+                λ j. sym (first true t (nf_by (is_c F) (cl F) (cl F k.col ∷ g.seen) (take j m)))
+                ∙ ap (λ o. prefixb o p) (sym (kept_here (take j m)))
+                ∙ ap (λ o. prefixb (nf_by (is_c F) (cl F) g.seen (take (suc j) o)) p) (sym d)
                 ∙ g.left (suc j)
-                ∙ ap (λ p. prefixb (nf F [] (take p ks)) q) (step j);
+                ∙ ap (λ o. prefixb (nf F [] (take o ks)) q) (step j);
             front = passed (alone true (first true t []));
           }
 
-pub front-end : (F : Facts) (q ks : List Key) (s v m w n i : ℕ) → Fronting F q ks s v m w n i → n ≤ 0 → Fronts F q ks i
-front-end F q ks s v m w n i g h = let e = g.far in record { few = omega arith; front = g.front; stop = λ l. absurd (omega arith) }
+pub front-end : {F : Facts} {q ks : List Key} {s : ℕ} {p l : List Key} {i : ℕ} → Fronting F q ks s p l i → l ≡ [] → Fronts F q ks i
+front-end g e = record { few = omega (arith, g.far); front = g.front; stop = λ h. absurd (omega (arith, g.far, ap length e)) }
 
 -- ---- all keys are met exactly if their number is
 

@@ -10,7 +10,7 @@ ghost use Rattle.asked_facts.specs.Asked.{told, FactRow, MetKeys, Fronts};
 use asked_facts::lowest_equal;
 use column_sets::{has, with};
 use fact_slots::{CONSTANTS, order_keys};
-use key_lists::{Keys, Order, appended, no_keys, same_key, with_column};
+use key_lists::{Keys, same_key, with_column};
 use row_order::column;
 
 // The normal form: each column replaced by its class's lowest, constants dropped, later repeats dropped.
@@ -19,20 +19,7 @@ pub fn normal_form(b: &[u8], k: Keys) -> Keys
     requires len_bound { k.len ≤ 8 }
     ensures { Keyed (sem.nf (told b.now) [] (keys_of k)) result }
 {
-    let mut out = no_keys();
-    let mut seen = scan::get32(b, CONSTANTS);
-    let mut rest = k.word;
-    let mut left = k.len;
-    while 0 < left {
-        let c = lowest_equal(b, column(rest));
-        if !has(seen, c) {
-            seen = with(seen, c);
-            out = appended(out, with_column(rest, c));
-        }
-        rest = rest >> 8;
-        left -= 1;
-    }
-    out
+    key_list_algebra::normal_by(scan::get32(b, CONSTANTS), k, |c| lowest_equal(b, c))
 }
 
 // A new sort's keys: the list less the constants and a column's later repeats.
@@ -50,26 +37,19 @@ fn fronts(b: &[u8], order: Keys, k: Keys) -> usize
     ensures { Fronts (told b.now) (keys_of order) (keys_of k) result }
 {
     let mut seen = scan::get32(b, CONSTANTS);
-    let mut known = order.word;
-    let mut more = order.len;
-    let mut rest = k.word;
-    let mut left = k.len;
+    let mut known = order.iter();
     let mut i = 0;
-    while 0 < left {
-        let c = lowest_equal(b, column(rest));
+    for key in k.iter() {
+        let c = lowest_equal(b, column(key));
         if !has(seen, c) {
-            if more == 0 {
+            let Some(front) = known.next() else {
                 return i;
-            }
-            if !same_key(with_column(rest, c), known) {
+            };
+            if !same_key(with_column(key, c), front) {
                 return i;
             }
             seen = with(seen, c);
-            known = known >> 8;
-            more -= 1;
         }
-        rest = rest >> 8;
-        left -= 1;
         i += 1;
     }
     i
@@ -92,11 +72,11 @@ pub fn meets(b: &[u8], k: Keys) -> bool
 }
 
 // No order is always met.
-pub fn meets_order(b: &[u8], o: Order) -> bool
+pub fn meets_order(b: &[u8], o: Option<Keys>) -> bool
     requires { FactRow b.now }
     ensures { result ≡ sem.met (told b.now) (order_of o) }
 {
-    let Order::By(k) = o else {
+    let Some(k) = o else {
         return true;
     };
     meets(b, k)

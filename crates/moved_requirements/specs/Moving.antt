@@ -1,5 +1,5 @@
 -- Columns moved back by an offset, signed and with its range shown, or through a projection; keys compared. Assumes nothing.
-use Rattle.std.specs.Prelude.{◌≡◌, refl, Bool, true, false, List, [], ◌∷◌, map, ℕ, zero, suc, ◌+◌, ◌-◌, ◌/◌, ◌≤◌, ◌<◌, leb, ltb, ℤ, pos, neg_ℤ, nat_abs, ◌+ℤ◌, ◌-ℤ◌, get_or}
+use Rattle.std.specs.Prelude.{◌≡◌, refl, List, [], ◌∷◌, map, ℕ, zero, suc, ◌+◌, ◌-◌, ◌/◌, ◌≤◌, ◌<◌, ℤ, pos, neg_ℤ, nat_abs, ◌+ℤ◌, ◌-ℤ◌}
 use Rattle.std.proofs.Common.{ap, ap₂, ◌∙◌, arith, le→leb, lt→ltb, SFits, to_z, le-ltb}
 use Rattle.std.proofs.Math.Path.{subst⁻¹}
 use Rattle.std.proofs.Math.IntN.{+ℤ_idl}
@@ -8,75 +8,10 @@ use Rattle.std.proofs.lemmas.Int.{to_z-of_z}
 use Rattle.row_order.specs.Iso.{Key}
 use Rattle.row_order.specs.Packed.{key_of}
 use Rattle.row_order.specs.Lists.{All, all_nil, all_cons}
-use Rattle.plan.specs.WellFormed.{every}
-use Rattle.semantics.specs.Facts.{with_column, eq_key}
+use Rattle.semantics.specs.Facts.{with_column}
 use Rattle.key_lists.specs.declared.Keys.{Keys}
-use Rattle.key_lists.specs.Keys.{keys_in, keys_of, InRange, Movable, moved_by, Longer}
-use Rattle.key_lists.specs.Lists.{next, end, map_next, Building, rebuilt, grown}
-use Rattle.walks.specs.SortPushdown.{at_column, add_offset_to_physical_sort_exprs, none_equal}
-
--- ---- no key equals its counterpart
-
-abbrev pub unequal : ℕ → ℕ → ℕ → ℕ → Bool
-unequal n a m b = none_equal (keys_in n a) (keys_in m b)
-
-none_right : (ks : List Key) → none_equal ks [] ≡ true
-none_right [] = refl
-none_right (k ∷ ks) = refl
-
-module _ (n a m b : ℕ) where
-  pub unequal_left : n ≤ 0 → unequal n a m b ≡ true
-  unequal_left h = rw (end n a h)
-
-  pub unequal_right : m ≤ 0 → unequal n a m b ≡ true
-  unequal_right h = rw (end m b h) (none_right (keys_in n a))
-
-  pub unequal_not : 0 < n → 0 < m → eq_key (key_of a) (key_of b) ≡ true → unequal n a m b ≡ false
-  unequal_not h l e = rw (next n a h, next m b l, e)
-
-  pub unequal_more : 0 < n → 0 < m → eq_key (key_of a) (key_of b) ≡ false → unequal (n - 1) (a / 256) (m - 1) (b / 256) ≡ unequal n a m b
-  unequal_more h l e = rw (next n a h, next m b l, e)
-
--- ---- every column from the offset on
-
-abbrev pub all_from : ℕ → ℕ → ℕ → Bool
-all_from off n w = every (λ k. leb off k.col) (keys_in n w)
-
-module _ (off n w : ℕ) where
-  pub from_end : n ≤ 0 → all_from off n w ≡ true
-  from_end h = rw (end n w h)
-
-  pub from_not : 0 < n → leb off (key_of w).col ≡ false → all_from off n w ≡ false
-  from_not h e = rw (next n w h, e)
-
-  pub from_more : 0 < n → leb off (key_of w).col ≡ true → all_from off (n - 1) (w / 256) ≡ all_from off n w
-  from_more h e = rw (next n w h, e)
-
--- ---- every column below a number
-
-abbrev pub all_below : ℕ → ℕ → ℕ → Bool
-all_below m n w = every (λ k. ltb k.col m) (keys_in n w)
-
-module _ (m n w : ℕ) where
-  pub below_end : n ≤ 0 → all_below m n w ≡ true
-  below_end h = rw (end n w h)
-
-  pub below_not : 0 < n → ltb (key_of w).col m ≡ false → all_below m n w ≡ false
-  below_not h e = rw (next n w h, e)
-
-  pub below_more : 0 < n → ltb (key_of w).col m ≡ true → all_below m (n - 1) (w / 256) ≡ all_below m n w
-  below_more h e = rw (next n w h, e)
-
--- ---- through a projection, or an aggregate
-
--- one key more at its child column
-pub moved_more : (cols : List ℕ) (ks : List Key) (out : Keys) (w n c x : ℕ) (r : Keys) → 0 < n → c ≡ get_or cols (key_of w).col 0
-    → key_of x ≡ with_column c (key_of w) → Longer out x r
-    → Building (map (at_column (λ d. get_or cols d 0)) ks) out (map (at_column (λ d. get_or cols d 0)) (keys_in n w))
-    → Building (map (at_column (λ d. get_or cols d 0)) ks) r (map (at_column (λ d. get_or cols d 0)) (keys_in (n - 1) (w / 256)))
-moved_more cols ks out w n c x r h e y l b =
-    grown _ out x r (at_column (λ d. get_or cols d 0) (key_of w)) (map (at_column (λ d. get_or cols d 0)) (keys_in (n - 1) (w / 256)))
-    (rebuilt (map_next (at_column (λ d. get_or cols d 0)) n w h) b) l (y ∙ ap (λ d. with_column d (key_of w)) e)
+use Rattle.key_lists.specs.Keys.{keys_in, keys_of, InRange, Movable, moved_by}
+use Rattle.walks.specs.SortPushdown.{add_offset_to_physical_sort_exprs}
 
 -- ---- back by an offset: signed, range shown
 

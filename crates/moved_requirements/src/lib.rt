@@ -19,14 +19,10 @@ use row_order::column;
 pub fn all_from(off: usize, keys: Keys) -> bool
     ensures { result ≡ every (λ k. leb off k.col) (keys_of keys) }
 {
-    let mut rest = keys.word;
-    let mut left = keys.len;
-    while 0 < left {
-        if column(rest) < off {
+    for key in keys.iter() {
+        if column(key) < off {
             return false;
         }
-        rest = rest >> 8;
-        left -= 1;
     }
     true
 }
@@ -66,13 +62,9 @@ fn at_child_columns(cols: &[usize], keys: Keys) -> Keys
     ensures { Keyed (map (at_column (λ c. get_or cols.now c 0)) (keys_of keys)) result }
 {
     let mut out = no_keys();
-    let mut rest = keys.word;
-    let mut left = keys.len;
-    while 0 < left {
-        let c = column_at(cols, column(rest));
-        out = appended(out, with_column(rest, c));
-        rest = rest >> 8;
-        left -= 1;
+    for key in keys.iter() {
+        let c = column_at(cols, column(key));
+        out = appended(out, with_column(key, c));
     }
     out
 }
@@ -90,14 +82,10 @@ pub fn remap_requirement_through_projection(cols: &[usize], keys: Keys) -> Keys
 pub fn all_below(n: usize, keys: Keys) -> bool
     ensures { result ≡ every (λ k. ltb k.col n) (keys_of keys) }
 {
-    let mut rest = keys.word;
-    let mut left = keys.len;
-    while 0 < left {
-        if n <= column(rest) {
+    for key in keys.iter() {
+        if n <= column(key) {
             return false;
         }
-        rest = rest >> 8;
-        left -= 1;
     }
     true
 }
@@ -108,21 +96,14 @@ pub fn all_below(n: usize, keys: Keys) -> bool
 pub fn none_equal(p: Keys, q: Keys) -> bool
     ensures { result ≡ none_equal (keys_of p) (keys_of q) }
 {
-    let mut a = p.word;
-    let mut b = q.word;
-    let mut left = p.len;
-    let mut more = q.len;
-    while 0 < left {
-        if more == 0 {
+    let mut others = q.iter();
+    for a in p.iter() {
+        let Some(b) = others.next() else {
             return true;
-        }
+        };
         if same_key(a, b) {
             return false;
         }
-        a = a >> 8;
-        b = b >> 8;
-        left -= 1;
-        more -= 1;
     }
     true
 }

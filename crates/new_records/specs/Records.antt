@@ -1,12 +1,11 @@
 -- The bytes of new nodes are their operators' records. Assumes nothing.
-use Rattle.std.specs.Prelude.{◌≡◌, refl, Bool, true, false, List, [], ◌∷◌, ◌++◌, ℕ, zero, suc, ◌+◌, ◌-◌, ◌*◌, ◌/◌, ◌%◌, ◌≤◌, ◌<◌, eqb, length, get_or, drop, set, replicate}
+use Rattle.std.specs.Prelude.{◌≡◌, refl, Bool, true, false, List, [], ◌∷◌, ◌++◌, ℕ, zero, suc, ◌+◌, ◌-◌, ◌*◌, ◌/◌, ◌%◌, ◌≤◌, ◌<◌, eqb, length, get_or, drop, set, replicate, Option}
 use Rattle.std.proofs.Common.{sym, ap, ap₂, ◌∙◌, append_assoc, arith, length-append, take_at, drop_at}
 use Rattle.row_order.specs.Iso.{Key}
 use Rattle.row_order.specs.Packed.{key_of}
 use Rattle.scan.specs.Parts.{splice, splice-length}
 use Rattle.plan.specs.Op.{Op, source, filter, projection, union, repartition, coalesce, sort_op, merge_op, global_limit, local_limit, sort_merge_join, hash_join, output_requirement, partial_sort, aggregate}
 use Rattle.plan.specs.Numbers.{code}
-use Rattle.plan.specs.declared.Fetch.{Fetch}
 use Rattle.semantics.specs.Properties.{remark}
 use Rattle.scan.specs.Bytes.{one_if}
 use Rattle.plan_codec.specs.Encode.{fill, marks_byte, key_bytes, options_byte, fetch_number, encode}
@@ -14,35 +13,35 @@ use Rattle.plan_codec.specs.Decode.{decode}
 use Rattle.plan_codec.proofs.Fill.{length-fill}
 use Rattle.plan_codec.proofs.Keys.{length_bytes}
 use Rattle.key_lists.specs.declared.Keys.{Keys}
-use Rattle.key_lists.specs.Keys.{keys_in, keys_of}
-use Rattle.key_lists.specs.Lists.{next, end, length_keys}
+use Rattle.key_lists.specs.Keys.{keys_of}
+use Rattle.key_lists.specs.Lists.{length_keys}
 use Rattle.new_records.specs.Bytes.{head_of, new_bytes}
 use Rattle.record_fields.specs.Encoded.{code_byte}
 
 -- ---- the records are these
 
-pub merge_is : (ks : List Key) (f : Fetch) → new_bytes 8 0 f 0 ks 0 ≡ encode 1 (merge_op ks f)
+pub merge_is : (ks : List Key) (f : Option ℕ) → new_bytes 8 0 f 0 ks 0 ≡ encode 1 (merge_op ks f)
 unfolding encode
 merge_is ks f = refl
 
-pub sort_is : (p : Bool) (ks : List Key) (f : Fetch) → new_bytes 7 (one_if p) f 0 ks 0 ≡ encode 1 (sort_op p ks f)
+pub sort_is : (p : Bool) (ks : List Key) (f : Option ℕ) → new_bytes 7 (one_if p) f 0 ks 0 ≡ encode 1 (sort_op p ks f)
 unfolding encode
 sort_is true ks f = refl
 sort_is false ks f = refl
 
-pub coalesce-is : (f : Fetch) → new_bytes 6 0 f 0 [] 0 ≡ encode 1 (coalesce f)
+pub coalesce-is : (f : Option ℕ) → new_bytes 6 0 f 0 [] 0 ≡ encode 1 (coalesce f)
 unfolding encode
 coalesce-is f = refl
 
-pub local_is : (f : Fetch) (note : List Key) → new_bytes 10 0 f 0 note 0 ≡ encode 1 (local_limit f note)
+pub local_is : (f : Option ℕ) (note : List Key) → new_bytes 10 0 f 0 note 0 ≡ encode 1 (local_limit f note)
 unfolding encode
 local_is f note = refl
 
-pub global_is : (s : ℕ) (f : Fetch) (note : List Key) → new_bytes 9 0 f s note 0 ≡ encode 1 (global_limit s f note)
+pub global_is : (s : ℕ) (f : Option ℕ) (note : List Key) → new_bytes 9 0 f s note 0 ≡ encode 1 (global_limit s f note)
 unfolding encode
 global_is s f note = refl
 
-pub partial_is : (p : Bool) (ks : List Key) (n : ℕ) (f : Fetch) → new_bytes 14 (one_if p) f 0 ks n ≡ encode 1 (partial_sort p ks n f)
+pub partial_is : (p : Bool) (ks : List Key) (n : ℕ) (f : Option ℕ) → new_bytes 14 (one_if p) f 0 ks n ≡ encode 1 (partial_sort p ks n f)
 unfolding encode
 partial_is true ks n f = refl
 partial_is false ks n f = refl
@@ -70,41 +69,41 @@ fill-set zero l x h = absurd (omega arith)
 fill-set (suc N) [] x h = refl
 fill-set (suc N) (y ∷ l) x h = ap (λ r. y ∷ r) (fill-set N l x (omega arith))
 
--- the keys done are in the row, n keys of the word w are left
-pub record Row (ks : List Key) (row : List ℕ) (at w n : ℕ) : Type 0 where
+-- i keys are in the row, the keys l are left
+pub record Row (ks : List Key) (row : List ℕ) (i : ℕ) (l : List Key) : Type 0 where
   pub done : List Key
-  pub whole : done ++ keys_in n w ≡ ks
-  pub place : at ≡ 2 * length done
+  pub whole : done ++ l ≡ ks
+  pub place : i ≡ length done
   pub is : row ≡ fill 16 (key_bytes done)
 
-pub row_none : (k : Keys) → Row (keys_of k) (replicate 16 0) 0 k.word k.len
-row_none k = record { done = []; whole = refl; place = refl; is = refl }
+pub row_none : (ks l : List Key) → l ≡ ks → Row ks (replicate 16 0) 0 l
+row_none ks l e = record { done = []; whole = e; place = refl; is = refl }
 
 -- there is room for the keys that are left
-pub row_room : (ks : List Key) (row : List ℕ) (at w n : ℕ) → Row ks row at w n → at + 2 * n ≡ 2 * length ks
-row_room ks row at w n p = let a = p.place in let b = ap length p.whole in omega (arith, length-append p.done (keys_in n w), length_keys n w)
+pub row_room : {ks : List Key} {row : List ℕ} {i : ℕ} {l : List Key} → Row ks row i l → i + length l ≡ length ks
+row_room {l = l} p = omega (arith, p.place, ap length p.whole, length-append p.done l)
 
-pub row_more : (ks : List Key) (row : List ℕ) (at w n : ℕ) → length ks ≤ 8 → 0 < n → Row ks row at w n
-    → Row ks (set (set row at (w % 32)) (at + 1) (w / 32 % 4)) (at + 2) (w / 256) (n - 1)
-row_more ks row at w n h l p =
+pub row_more : (ks : List Key) (row : List ℕ) (i : ℕ) (l : List Key) (w : ℕ) (m : List Key) → length ks ≤ 8 → l ≡ key_of w ∷ m → Row ks row i l
+    → Row ks (set (set row (2 * i) (w % 32)) (2 * i + 1) (w / 32 % 4)) (i + 1) m
+row_more ks row i l w m h e p =
     let B : List ℕ = key_bytes p.done in
-    let r = row_room ks row at w n p in
-    let a : length B ≡ at = length_bytes p.done ∙ sym p.place in
-    let m : length (B ++ (w % 32 ∷ [])) ≡ at + 1 = length-append B (w % 32 ∷ []) ∙ omega arith in
+    let r = row_room p in let z = ap length e in
+    let a : length B ≡ 2 * i = length_bytes p.done ∙ ap (λ x. 2 * x) (sym p.place) in
+    let n : length (B ++ (w % 32 ∷ [])) ≡ 2 * i + 1 = length-append B (w % 32 ∷ []) ∙ omega arith in
     record {
       done = p.done ++ (key_of w ∷ []);
-      whole = append_assoc p.done (key_of w ∷ []) (keys_in (n - 1) (w / 256)) ∙ ap (λ x. p.done ++ x) (sym (next n w l)) ∙ p.whole;
+      whole = append_assoc p.done (key_of w ∷ []) m ∙ ap (λ x. p.done ++ x) (sym e) ∙ p.whole;
       place = (let d = p.place in omega (arith, length-append p.done (key_of w ∷ [])));
-      is = ap (λ x. set (set x at (w % 32)) (at + 1) (w / 32 % 4)) p.is
-          ∙ ap (λ i. set (set (fill 16 B) i (w % 32)) (at + 1) (w / 32 % 4)) (sym a) ∙ ap (λ x. set x (at + 1) (w / 32 % 4))
+      is = ap (λ x. set (set x (2 * i) (w % 32)) (2 * i + 1) (w / 32 % 4)) p.is
+          ∙ ap (λ j. set (set (fill 16 B) j (w % 32)) (2 * i + 1) (w / 32 % 4)) (sym a) ∙ ap (λ x. set x (2 * i + 1) (w / 32 % 4))
           (fill-set 16 B (w % 32) (omega arith))
-          ∙ ap (λ i. set (fill 16 (B ++ (w % 32 ∷ []))) i (w / 32 % 4)) (sym m) ∙ fill-set 16 (B ++ (w % 32 ∷ [])) (w / 32 % 4) (omega arith)
+          ∙ ap (λ j. set (fill 16 (B ++ (w % 32 ∷ []))) j (w / 32 % 4)) (sym n) ∙ fill-set 16 (B ++ (w % 32 ∷ [])) (w / 32 % 4) (omega arith)
           ∙ ap (fill 16) (append_assoc B (w % 32 ∷ []) (w / 32 % 4 ∷ []) ∙ ap (λ o. B ++ (w % 32 ∷ o ∷ [])) (sym (options w))
           ∙ sym (bytes_more p.done (key_of w)));
     }
 
-pub row_all : (ks : List Key) (row : List ℕ) (at w n : ℕ) → Row ks row at w n → n ≤ 0 → row ≡ fill 16 (key_bytes ks)
-row_all ks row at w n p h = p.is ∙ ap (λ l. fill 16 (key_bytes l)) (sym (append_none p.done) ∙ ap (λ l. p.done ++ l) (sym (end n w h)) ∙ p.whole)
+pub row_all : (ks : List Key) (row : List ℕ) (i : ℕ) (l : List Key) → Row ks row i l → l ≡ [] → row ≡ fill 16 (key_bytes ks)
+row_all ks row i l p e = p.is ∙ ap (λ x. fill 16 (key_bytes x)) (sym (append_none p.done) ∙ ap (λ x. p.done ++ x) (sym e) ∙ p.whole)
   where
     append_none : (l : List Key) → l ++ [] ≡ l
     append_none [] = refl
@@ -115,7 +114,7 @@ row_all ks row at w n p h = p.is ∙ ap (λ l. fill 16 (key_bytes l)) (sym (appe
 two_parts : (H R : List ℕ) → length H ≡ 16 → length R ≡ 16 → splice (splice (replicate 64 0) 0 16 H) 16 16 R ≡ H ++ (R ++ fill 32 [])
 two_parts H R h r = ap₂ (λ x y. x ++ (R ++ drop 16 y)) (take_at H (replicate 48 0) 16 h) (drop_at H (replicate 48 0) 16 h)
 
-pub new_is : (k m n s b c : ℕ) (f : Fetch) (keys : Keys) (H R : List ℕ) → keys.len ≤ 8 → n ≡ fetch_number f → c ≡ keys.len → H ≡ head_of k m n s c b
+pub new_is : (k m n s b c : ℕ) (f : Option ℕ) (keys : Keys) (H R : List ℕ) → keys.len ≤ 8 → n ≡ fetch_number f → c ≡ keys.len → H ≡ head_of k m n s c b
     → R ≡ fill 16 (key_bytes (keys_of keys))
     → splice (splice (replicate 64 0) 0 16 H) 16 16 R ≡ new_bytes k m f s (keys_of keys) b
 new_is k m n s b c f keys H R l e d h r =

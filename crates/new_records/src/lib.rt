@@ -12,7 +12,7 @@ ghost use Rattle.plan_codec.specs.Encode.{encode, fill, fetch_number, key_bytes}
 ghost use Rattle.new_records.specs.Bytes.{head_of, new_bytes};
 
 use key_lists::Keys;
-use plan::{Fetch, NO_FETCH};
+use plan::NO_FETCH;
 use record_fields::{KIND, MARKS};
 
 // The keys as a record has them, two bytes each.
@@ -21,15 +21,9 @@ fn key_row(k: Keys) -> [u8; 16]
     ensures { result ≡ fill 16 (key_bytes (keys_of k)) }
 {
     let mut row = [0u8; 16];
-    let mut keys = k.word;
-    let mut left = k.len;
-    let mut at = 0;
-    while 0 < left {
-        row[at] = (keys % 32) as u8;
-        row[at + 1] = (keys / 32 % 4) as u8;
-        keys = keys >> 8;
-        left -= 1;
-        at += 2;
+    for (i, key) in k.iter().enumerate() {
+        row[2 * i] = (key % 32) as u8;
+        row[2 * i + 1] = (key / 32 % 4) as u8;
     }
     row
 }
@@ -42,12 +36,12 @@ fn mark_byte(preserve: bool) -> u8
 }
 
 // The number in a record's bytes.
-fn fetch_number(f: Fetch) -> u32
+fn fetch_number(f: Option<u32>) -> u32
     ensures { result ≡ fetch_number f }
 {
     match f {
-        Fetch::Unlimited => NO_FETCH,
-        Fetch::AtMost(n) => n,
+        None => NO_FETCH,
+        Some(n) => n,
     }
 }
 
@@ -76,7 +70,7 @@ fn head_row(kind: u8, marks: u8, fetch: u32, skip: u32, count: u8, role: u8) -> 
 }
 
 // The record of a new node.
-fn new_record(kind: u8, marks: u8, fetch: Fetch, skip: u32, keys: Keys, role: u8) -> [u8; 64]
+fn new_record(kind: u8, marks: u8, fetch: Option<u32>, skip: u32, keys: Keys, role: u8) -> [u8; 64]
     requires { keys.len ≤ 8 }
     ensures { result ≡ new_bytes kind marks fetch skip (keys_of keys) role }
 {
@@ -89,41 +83,41 @@ fn new_record(kind: u8, marks: u8, fetch: Fetch, skip: u32, keys: Keys, role: u8
     out
 }
 
-pub fn sort_record(preserve: bool, keys: Keys, fetch: Fetch) -> [u8; 64]
+pub fn sort_record(preserve: bool, keys: Keys, fetch: Option<u32>) -> [u8; 64]
     requires { keys.len ≤ 8 }
     ensures { result ≡ encode 1 (sort_op preserve (keys_of keys) fetch) }
 {
     new_record(7, mark_byte(preserve), fetch, 0, keys, 0)
 }
 
-pub fn merge_record(keys: Keys, fetch: Fetch) -> [u8; 64]
+pub fn merge_record(keys: Keys, fetch: Option<u32>) -> [u8; 64]
     requires { keys.len ≤ 8 }
     ensures { result ≡ encode 1 (merge_op (keys_of keys) fetch) }
 {
     new_record(8, 0, fetch, 0, keys, 0)
 }
 
-pub fn coalesce_record(fetch: Fetch) -> [u8; 64]
+pub fn coalesce_record(fetch: Option<u32>) -> [u8; 64]
     ensures { result ≡ encode 1 (coalesce fetch) }
 {
     new_record(6, 0, fetch, 0, key_lists::no_keys(), 0)
 }
 
-pub fn global_limit_record(skip: u32, fetch: Fetch, note: Keys) -> [u8; 64]
+pub fn global_limit_record(skip: u32, fetch: Option<u32>, note: Keys) -> [u8; 64]
     requires { note.len ≤ 8 }
     ensures { result ≡ encode 1 (global_limit skip fetch (keys_of note)) }
 {
     new_record(9, 0, fetch, skip, note, 0)
 }
 
-pub fn local_limit_record(fetch: Fetch, note: Keys) -> [u8; 64]
+pub fn local_limit_record(fetch: Option<u32>, note: Keys) -> [u8; 64]
     requires { note.len ≤ 8 }
     ensures { result ≡ encode 1 (local_limit fetch (keys_of note)) }
 {
     new_record(10, 0, fetch, 0, note, 0)
 }
 
-pub fn partial_sort_record(preserve: bool, keys: Keys, prefix: u8, fetch: Fetch) -> [u8; 64]
+pub fn partial_sort_record(preserve: bool, keys: Keys, prefix: u8, fetch: Option<u32>) -> [u8; 64]
     requires { keys.len ≤ 8 }
     ensures { result ≡ encode 1 (partial_sort preserve (keys_of keys) prefix fetch) }
 {

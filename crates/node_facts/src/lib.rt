@@ -52,20 +52,13 @@ fn grouped(r: &[u8], f: Facts) -> Facts
     projection_facts(f, &cols[..n])
 }
 
-// How far w passes n.
-fn beyond(w: usize, n: usize) -> usize
-    ensures { result ≡ w - n }
-{
-    if n < w { w - n } else { 0 }
-}
-
 // An aggregate: its group columns before its aggregate columns, of which nothing is known.
 pub fn aggregated(r: &[u8], f: Facts) -> Facts
     requires { (length r.now ≡ 64) × (count r.now ≤ 8) × Coherent f × (below f.width (groups_in r.now) ≡ true)
         × (count r.now + (get_or r.now 13 0 - count r.now) ≤ 32) }
     ensures { Says (sem.placed (sem.proj_facts (known f) (groups_in r.now)) (get_or r.now 13 0 - count r.now)) result }
 {
-    let more = beyond(wide(r[WIDTH]), wide(r[KEY_COUNT]));
+    let more = wide(r[WIDTH]).saturating_sub(wide(r[KEY_COUNT]));
     placed(grouped(r, f), more)
 }
 

@@ -1,5 +1,5 @@
 -- Text put into a buffer word after word; digits; the keys of a record one after another. Assumes nothing.
-use Rattle.std.specs.Prelude.{◌≡◌, refl, Bool, true, false, cond, List, [], ◌∷◌, ◌++◌, ℕ, zero, suc, ◌+◌, ◌*◌, ◌-◌, ◌/◌, ◌%◌, ◌^◌, ◌≤◌, ◌<◌, min, ltb, eqb, length, get_or, take, drop}
+use Rattle.std.specs.Prelude.{◌≡◌, refl, Bool, true, false, cond, List, [], ◌∷◌, ◌++◌, ℕ, zero, suc, ◌+◌, ◌*◌, ◌-◌, ◌/◌, ◌%◌, ◌^◌, ◌≤◌, ◌<◌, min, ltb, eqb, length, get_or, take, drop, Option, None}
 use Rattle.std.proofs.Common.{sym, ap, ap₂, ◌∙◌, append_assoc, append-nil, arith, add-one, pow-suc, length-append, take-append-drop, take_at, drop_at, drop-drop, length-take-le, lt-ltb, le-ltb}
 use Rattle.std.proofs.Math.Nat.{one-le-pow, pow-le-pow_right}
 use Rattle.std.proofs.Math.Decide.{dec_lt}
@@ -11,8 +11,6 @@ use Rattle.scan.specs.Parts.{splice}
 use Rattle.row_order.specs.Iso.{Key}
 use Rattle.plan.specs.Numbers.{kind_of}
 use Rattle.plan.specs.declared.Kind.{Kind}
-use Rattle.plan.specs.declared.Fetch.{Fetch}
-use Rattle.plan.specs.declared.Fetch.TheVariants.{Unlimited}
 use Rattle.plan_format.specs.declared.Fields.{Fields}
 use Rattle.plan_format.specs.Fields.{fields_of}
 use Rattle.plan_codec.specs.Decode.{fetch_of, key_of_bytes, keys_of}
@@ -62,11 +60,11 @@ put_none b at = record { few = omega arith; ends = omega arith; is = sym (take-a
 
 -- ---- a fetch, and a key's letters
 
-pub fetch_known : (f : Fields) (k n : ℕ) (x : Fetch) → f ≡ fields_of k → f.fetch ≡ true → x ≡ fetch_of n → x ≡ fetch_in k n
-fetch_known f k n x e h i = i ∙ sym (ap (λ (b : Bool). cond b (fetch_of n) Unlimited) (ap (λ (y : Fields). y.fetch) (sym e) ∙ h))
+pub fetch_known : (f : Fields) (k n : ℕ) (x : Option ℕ) → f ≡ fields_of k → f.fetch ≡ true → x ≡ fetch_of n → x ≡ fetch_in k n
+fetch_known f k n x e h i = i ∙ sym (ap (λ (b : Bool). cond b (fetch_of n) None) (ap (λ (y : Fields). y.fetch) (sym e) ∙ h))
 
-pub fetch_unknown : (f : Fields) (k n : ℕ) → f ≡ fields_of k → f.fetch ≡ false → Unlimited ≡ fetch_in k n
-fetch_unknown f k n e h = sym (ap (λ (b : Bool). cond b (fetch_of n) Unlimited) (ap (λ (y : Fields). y.fetch) (sym e) ∙ h))
+pub fetch_unknown : (f : Fields) (k n : ℕ) → f ≡ fields_of k → f.fetch ≡ false → None ≡ fetch_in k n
+fetch_unknown f k n e h = sym (ap (λ (b : Bool). cond b (fetch_of n) None) (ap (λ (y : Fields). y.fetch) (sym e) ∙ h))
 
 pub key_text_lem : (c o x y : ℕ) → x ≡ cond (eqb (bit_and o 1) 1) 100 97 → y ≡ cond (eqb (bit_and (o / 2) 1) 1) 102 108
     → decimal c ++ (x ∷ y ∷ []) ≡ key_text (key_of_bytes c o)
@@ -202,15 +200,15 @@ keys_text_lem n r l h g e = keys_first r l (omega arith) (omega arith) ∙ ap ke
 abbrev pub place_text : ℕ → ℕ → Kind → List ℕ
 place_text node depth kind = (decimal node ++ space) ++ ((decimal depth ++ space) ++ (kind_name kind ++ space))
 
-abbrev pub shape_text : ℕ → Fetch → List Key → List ℕ
+abbrev pub shape_text : ℕ → Option ℕ → List Key → List ℕ
 shape_text streams fetch keys = (decimal streams ++ space) ++ (fetch_text fetch ++ (space ++ (keys_text keys ++ ascii "\n")))
 
-pub line_parts : (node depth streams : ℕ) (kind : Kind) (fetch : Fetch) (keys : List Key)
+pub line_parts : (node depth streams : ℕ) (kind : Kind) (fetch : Option ℕ) (keys : List Key)
     → place_text node depth kind ++ shape_text streams fetch keys ≡ line_of node depth kind streams fetch keys
 line_parts node depth streams kind fetch keys = simp append_assoc
 
 -- what the code reads of a slot
-pub line_slot : (s : List ℕ) (node depth : ℕ) (k : Kind) (x : Coded) (f : Fetch) → k ≡ kind_of (get_or s 0 0) → x ≡ loaded (part 80 112 s)
+pub line_slot : (s : List ℕ) (node depth : ℕ) (k : Kind) (x : Coded) (f : Option ℕ) → k ≡ kind_of (get_or s 0 0) → x ≡ loaded (part 80 112 s)
     → f ≡ fetch_in (get_or s 0 0) (le32 s 4) → place_text node depth k ++ shape_text x.streams f (keys_of (get_or s 12 0) (part 16 16 s)) ≡ slot_line s node depth
 unfolding slot_line
 line_slot s node depth k x f p q r =

@@ -1,5 +1,5 @@
 -- The line of a node in a listing: document 01, 'Worked on paper', "prints number, depth, kind, streams, fetch, keys". These are definitions.
-use Rattle.std.specs.Prelude.{◌≡◌, cond, List, [], ◌∷◌, ◌++◌, ℕ, zero, suc, ◌+◌, ◌/◌, ◌%◌, ◌≤◌, ltb, length, get_or, take, drop}
+use Rattle.std.specs.Prelude.{◌≡◌, cond, List, [], ◌∷◌, ◌++◌, ℕ, zero, suc, ◌+◌, ◌/◌, ◌%◌, ◌≤◌, ltb, length, get_or, take, drop, Option, Some, None}
 use Prim.Native.Char.{code}
 use Prim.Native.String.{String, [] as []ᵀ, ◌∷◌ as ◌∷ᵀ◌}
 use Rattle.row_order.specs.Iso.{Key}
@@ -7,8 +7,6 @@ use Rattle.scan.specs.Bytes.{part, le32}
 use Rattle.plan.specs.Numbers.{kind_of}
 use Rattle.plan.specs.declared.Kind.{Kind}
 use Rattle.plan.specs.declared.Kind.TheVariants.{Source, Filter, Projection, Union, Repartition, Coalesce, Sort, Merge, GlobalLimit, LocalLimit, SortMergeJoin, HashJoin, OutputRequirement, PartialSort, Aggregate}
-use Rattle.plan.specs.declared.Fetch.{Fetch}
-use Rattle.plan.specs.declared.Fetch.TheVariants.{Unlimited, AtMost}
 use Rattle.plan_format.specs.Fields.{fields_of}
 use Rattle.plan_codec.specs.Decode.{fetch_of, keys_of}
 use Rattle.fact_slots.specs.Slots.{loaded}
@@ -54,9 +52,9 @@ kind_name PartialSort = ascii "partial-sort"
 kind_name Aggregate = ascii "aggregate"
 
 -- "A hyphen stands for none"
-abbrev pub fetch_text : Fetch → List ℕ
-fetch_text Unlimited = ascii "-"
-fetch_text (AtMost n) = decimal n
+abbrev pub fetch_text : Option ℕ → List ℕ
+fetch_text None = ascii "-"
+fetch_text (Some n) = decimal n
 
 -- "keys (column, a or d, nulls f or l)"
 abbrev pub key_text : Key → List ℕ
@@ -80,7 +78,7 @@ row [] = ascii "\n"
 row (w ∷ []) = w ++ ascii "\n"
 row (w ∷ v ∷ ws) = w ++ (space ++ row (v ∷ ws))
 
-abbrev pub line_of : ℕ → ℕ → Kind → ℕ → Fetch → List Key → List ℕ
+abbrev pub line_of : ℕ → ℕ → Kind → ℕ → Option ℕ → List Key → List ℕ
 line_of node depth kind streams fetch keys =
     row (decimal node ∷ decimal depth ∷ kind_name kind ∷ decimal streams ∷ fetch_text fetch ∷ keys_text keys ∷ [])
 
@@ -88,8 +86,8 @@ line_of node depth kind streams fetch keys =
 -- reads, by the names that the codec has for them (plan_codec, from_bytes): a kind without keys has a key count of zero
 
 -- a record whose kind has no fetch has none
-abbrev pub fetch_in : ℕ → ℕ → Fetch
-fetch_in k n = cond (fields_of k).fetch (fetch_of n) Unlimited
+abbrev pub fetch_in : ℕ → ℕ → Option ℕ
+fetch_in k n = cond (fields_of k).fetch (fetch_of n) None
 
 unfoldable pub slot_line : List ℕ → ℕ → ℕ → List ℕ
 slot_line s node depth =

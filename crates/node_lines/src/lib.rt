@@ -8,7 +8,7 @@ ghost use Rattle.node_lines.specs.Lines.{space, comma, decimal, kind_name, fetch
 ghost use Rattle.node_lines.specs.Laws.{behind, place_text, shape_text};
 
 use arena::{KEPT_FROM, SLOT};
-use plan::{Fetch, Kind};
+use plan::Kind;
 use record_fields::fetch_from;
 
 // The text over the buffer from a place on. As all below do, it answers where the text ends.
@@ -64,22 +64,22 @@ fn put_kind(out: &mut [u8], at: usize, kind: Kind) -> usize
 }
 
 // The fetch of a record whose kind has the number k, from the bytes for it.
-fn fetch_of(k: u8, bytes: u32) -> Fetch
+fn fetch_of(k: u8, bytes: u32) -> Option<u32>
     ensures { result ≡ fetch_in k bytes }
 {
     let fields = plan_format::fields_of(k);
     if fields.fetch {
         fetch_from(bytes)
     } else {
-        Fetch::Unlimited
+        None
     }
 }
 
-fn put_fetch(out: &mut [u8], at: usize, fetch: Fetch) -> usize
+fn put_fetch(out: &mut [u8], at: usize, fetch: Option<u32>) -> usize
     requires { at + 20 ≤ length out.old }
     ensures { Put 20 (fetch_text fetch) at out.old result out.new }
 {
-    let Fetch::AtMost(n) = fetch else {
+    let Some(n) = fetch else {
         return put(out, at, b"-");
     };
     put_number(out, at, n as u64)
@@ -120,22 +120,13 @@ fn put_further_keys(out: &mut [u8], at: usize, n: usize, ks: &[u8]) -> usize
     ensures { Put 161 (behind ks.now n) at out.old result out.new }
 {
     let mut e = at;
-    let mut i = 1;
-    while i < n {
+    for i in 1..n {
         e = put_next_key(out, e, ks[2 * i], ks[2 * i + 1]);
-        i += 1;
     }
     e
 }
 
-// A record has room for eight keys.
-fn at_most_eight(n: usize) -> usize
-    ensures { result ≡ min n 8 }
-{
-    if n < 8 { n } else { 8 }
-}
-
-// The keys of a record from its bytes for them, ks.
+// The keys of a record from its bytes for them, ks: it has room for eight.
 fn put_keys(out: &mut [u8], at: usize, n: usize, ks: &[u8]) -> usize
     requires { (length ks.now ≡ 16) × (at + 183 ≤ length out.old) }
     ensures { Put 183 (keys_text (keys_of n ks.now)) at out.old result out.new }
@@ -144,7 +135,7 @@ fn put_keys(out: &mut [u8], at: usize, n: usize, ks: &[u8]) -> usize
         return put(out, at, b"-");
     }
     let e = put_key(out, at, ks[0], ks[1]);
-    put_further_keys(out, e, at_most_eight(n), ks)
+    put_further_keys(out, e, n.min(8), ks)
 }
 
 // The first words of a line: the node's number, its depth, its kind.
@@ -159,7 +150,14 @@ fn put_place(out: &mut [u8], at: usize, node: usize, depth: usize, kind: Kind) -
 }
 
 // The other words: streams, fetch, keys.
-fn put_shape(out: &mut [u8], at: usize, streams: usize, fetch: Fetch, n: usize, ks: &[u8]) -> usize
+fn put_shape(
+    out: &mut [u8],
+    at: usize,
+    streams: usize,
+    fetch: Option<u32>,
+    n: usize,
+    ks: &[u8],
+) -> usize
     requires { (length ks.now ≡ 16) × (at + 226 ≤ length out.old) }
     ensures { Put 226 (shape_text streams fetch (keys_of n ks.now)) at out.old result out.new }
 {

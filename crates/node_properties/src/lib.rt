@@ -16,8 +16,10 @@ ghost use Rattle.walks.specs.ParallelizeSorts.{same_partitioning};
 use byte_rows::wide;
 use key_list_algebra::same_keys;
 use key_lists::Keys;
-use plan::{Fetch, JoinType};
-use record_fields::{FETCH, KIND, MARKS, ROLE, STREAMS, fetch_from, join_type_of, preserves};
+use plan::{JoinType, Kind};
+use record_fields::{
+    FETCH, KIND, MARKS, ROLE, STREAMS, fetch_from, join_type_of, kind_of, preserves,
+};
 use record_keys::key_list;
 
 // ---- kinds: is_sort, is_sort_preserving_merge, is_coalesce_partitions, is_repartition and is_limit of utils.rs
@@ -26,42 +28,42 @@ pub fn is_projection(r: &[u8]) -> bool
     requires { Proper r.now }
     ensures { result ≡ eqb (code (decode r.now)) 3 }
 {
-    r[KIND] == 3
+    matches!(kind_of(r[KIND]), Kind::Projection)
 }
 
 pub fn is_repartition(r: &[u8]) -> bool
     requires { Proper r.now }
     ensures { result ≡ eqb (code (decode r.now)) 5 }
 {
-    r[KIND] == 5
+    matches!(kind_of(r[KIND]), Kind::Repartition)
 }
 
 pub fn is_coalesce_partitions(r: &[u8]) -> bool
     requires { Proper r.now }
     ensures { result ≡ eqb (code (decode r.now)) 6 }
 {
-    r[KIND] == 6
+    matches!(kind_of(r[KIND]), Kind::Coalesce)
 }
 
 pub fn is_sort(r: &[u8]) -> bool
     requires { Proper r.now }
     ensures { result ≡ eqb (code (decode r.now)) 7 }
 {
-    r[KIND] == 7
+    matches!(kind_of(r[KIND]), Kind::Sort)
 }
 
 pub fn is_sort_preserving_merge(r: &[u8]) -> bool
     requires { Proper r.now }
     ensures { result ≡ eqb (code (decode r.now)) 8 }
 {
-    r[KIND] == 8
+    matches!(kind_of(r[KIND]), Kind::Merge)
 }
 
 pub fn is_limit(r: &[u8]) -> bool
     requires { Proper r.now }
     ensures { result ≡ node.is_limit (decode r.now) }
 {
-    (r[KIND] == 9) | (r[KIND] == 10)
+    matches!(kind_of(r[KIND]), Kind::GlobalLimit | Kind::LocalLimit)
 }
 
 // ---- fields: what the operator of a kind that has them keeps there (plan_codec, operator_of)
@@ -73,7 +75,7 @@ pub fn keys(r: &[u8]) -> Keys
     key_list(r)
 }
 
-pub fn fetch_field(r: &[u8]) -> Fetch
+pub fn fetch_field(r: &[u8]) -> Option<u32>
     requires { Proper r.now }
     ensures { result ≡ (from_bytes r.now).fetch }
 {

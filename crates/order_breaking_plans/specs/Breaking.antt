@@ -1,5 +1,5 @@
 -- plan_with_order_breaking_variants in the arena.
-use Rattle.std.specs.Prelude.{◌≡◌, refl, Bool, true, false, cond, not, ◌&&◌, ◌||◌, List, [], ◌∷◌, map, ℕ, zero, suc, ◌+◌, ◌≤◌, ◌<◌, eqb, length, get_or, take, drop, set}
+use Rattle.std.specs.Prelude.{◌≡◌, refl, Bool, true, false, cond, not, ◌&&◌, ◌||◌, List, [], ◌∷◌, map, ℕ, zero, suc, ◌+◌, ◌≤◌, ◌<◌, eqb, length, get_or, take, drop, set, Option, Some, None}
 use Rattle.std.proofs.Common.{sym, ap, ap₂, ◌∙◌, subst, arith}
 use Rattle.row_order.proofs.Order.{no_bool}
 use Rattle.plan.specs.Forest.{Forest, none, tree, size}
@@ -12,8 +12,6 @@ use Rattle.semantics.specs.Facts.{Facts, at0, is_nil, keeps_order, met, nothing}
 use Rattle.semantics.specs.Properties.{maintains, wanted, cuts, remark}
 use Rattle.key_lists.specs.Keys.{keys_in, keys_of, order_of, Real, Ordered}
 use Rattle.key_lists.specs.declared.Keys.{Keys}
-use Rattle.key_lists.specs.declared.Order.{Order}
-use Rattle.key_lists.specs.declared.Order.TheVariants.{Unordered, By}
 use Rattle.arena.specs.Arena.{index, marked, slot}
 use Rattle.arena.specs.declared.At.{At}
 use Rattle.walks.specs.Marks.{Marked, Tree, strip, known, at, node, plant, size_t, set_mark, Shape, a_sort, a_merge, a_repartition, a_coalesce, another, shape, rebuild}
@@ -48,11 +46,11 @@ module _ (o : Op) (fs : List Facts) (j : ℕ) where
     pub enters_merge : y ≡ true → true ≡ enters o fs j
     enters_merge e = tests true true _ _ (sym ex ∙ a) (sym e ∙ b) refl refl
 
-    module _ (ey : y ≡ false) (v : Order) (q : Ordered (wanted o j) v) where
-      pub enters_unasked : v ≡ Unordered → true ≡ enters o fs j
+    module _ (ey : y ≡ false) (v : Option Keys) (q : Ordered (wanted o j) v) where
+      pub enters_unasked : v ≡ None → true ≡ enters o fs j
       enters_unasked e = tests true false true _ (sym ex ∙ a) (sym ey ∙ b) (ap (λ l. is_nil (order_of l)) (sym e) ∙ ap is_nil q.is) refl
 
-      pub enters-asked : (k : Keys) → v ≡ By k → (F : Facts) → F ≡ get_or fs j nothing → (w : Bool) → w ≡ met F (keys_of k) → not w ≡ enters o fs j
+      pub enters-asked : (k : Keys) → v ≡ Some k → (F : Facts) → F ≡ get_or fs j nothing → (w : Bool) → w ≡ met F (keys_of k) → not w ≡ enters o fs j
       enters-asked k e F ef w c =
           tests true false false w (sym ex ∙ a) (sym ey ∙ b)
           (some k.len k.word (subst Real e q.real).0 ∙ ap (λ l. is_nil (order_of l)) (sym e) ∙ ap is_nil q.is)

@@ -12,7 +12,6 @@ ghost use Rattle.order_breaking_plans.specs.Breaking.{broken_repartition, broken
 ghost use Rattle.order_preservation_marks.specs.Entering.{Enters};
 
 use arena::{At, child, child_count, read64, record_at};
-use key_lists::Order;
 use met_orders::meets;
 use new_records::{coalesce_record, with_mark};
 use node_properties::{is_repartition, is_sort_preserving_merge};
@@ -35,7 +34,7 @@ fn enters(m: &[u8], i: usize, j: usize) -> bool
         return true;
     }
     let order = wanted_order(r, j);
-    let Order::By(keys) = order else {
+    let Some(keys) = order else {
         return true;
     };
     let k = child(m, i, j);
@@ -94,14 +93,12 @@ fn break_entered(m: &mut [u8], u: usize, h: usize, entered: bool) -> At
     let n = child_count(m, i);
     let mut kids = [0usize; 8];
     let mut w = u;
-    let mut j = 0;
-    while j < n {
+    for j in 0..n {
         let k = child(m, i, j);
         let e = enters(m, i, j);
         let r = break_entered(m, w, k, e);
         w = r.used;
         kids[j] = r.root;
-        j += 1;
     }
     break_over(m, w, i, &kids[..n])
 }

@@ -1,12 +1,11 @@
 -- The kinds that the walk treats apart, by the tests that the code makes.
-use Rattle.std.specs.Prelude.{◌≡◌, refl, Bool, true, false, ◌||◌, List, ℕ, eqb}
+use Rattle.std.specs.Prelude.{◌≡◌, refl, Bool, true, false, ◌||◌, List, ℕ, eqb, Option}
 use Rattle.std.proofs.Common.{sym, ap, ap₂, ◌∙◌, eqb-true}
 use Rattle.row_order.specs.Iso.{Key}
 use Rattle.row_order.proofs.Order.{no_bool}
 use Rattle.plan.specs.Op.{Op, source, filter, projection, union, repartition, coalesce, sort_op, merge_op, global_limit, local_limit, sort_merge_join, hash_join, output_requirement, partial_sort, aggregate}
 use Rattle.plan.specs.Numbers.{code}
 use Rattle.plan.specs.WellFormed.{children_ok}
-use Rattle.plan.specs.declared.Fetch.{Fetch}
 use Rattle.walks.specs.Marks.{another, shape}
 use Rattle.semantics.proofs.Theorems.Common.Bools.{or_right}
 
@@ -14,8 +13,8 @@ use Rattle.semantics.proofs.Theorems.Common.Bools.{or_right}
 abbrev Apart : Op → Type 0
 Apart o = (shape o ≡ another) × (eqb (code o) 5 ≡ false) × (eqb (code o) 6 ≡ false) × (eqb (code o) 7 ≡ false) × (eqb (code o) 8 ≡ false)
 
-pub op_ind : (P : Op → Type 0) → ((p : Bool) (ks : List Key) (f : Fetch) → P (sort_op p ks f)) → ((ks : List Key) (f : Fetch) → P (merge_op ks f))
-    → ((p : Bool) (n : ℕ) (h : Bool) (ks : List Key) → P (repartition p n h ks)) → ((f : Fetch) → P (coalesce f)) → ((o : Op) → Apart o → P o) → (o : Op)
+pub op_ind : (P : Op → Type 0) → ((p : Bool) (ks : List Key) (f : Option ℕ) → P (sort_op p ks f)) → ((ks : List Key) (f : Option ℕ) → P (merge_op ks f))
+    → ((p : Bool) (n : ℕ) (h : Bool) (ks : List Key) → P (repartition p n h ks)) → ((f : Option ℕ) → P (coalesce f)) → ((o : Op) → Apart o → P o) → (o : Op)
     → P o
 op_ind P s m r c q (source d) = q (source d) (refl, refl, refl, refl, refl)
 op_ind P s m r c q filter = q filter (refl, refl, refl, refl, refl)

@@ -1,5 +1,6 @@
 -- update_order_preservation_ctx_children_data in the arena: the marks of a node's children, and of theirs.
-use Rattle.std.specs.Prelude.{◌≡◌, Bool, true, cond, ◌&&◌, ◌||◌, get_or, take, drop, set}
+use Rattle.std.specs.Prelude.{◌≡◌, Bool, true, cond, ◌&&◌, ◌||◌, get_or, take, drop, set, is_some}
+use Rattle.std.specs.List.{list_any}
 use Rattle.std.proofs.Math.Path.{refl, sym, ap, ap₂}
 use Rattle.std.proofs.Common.{◌∙◌, subst, add-one, drop_of_length-le, drop-cons, length-take-le}
 use Rattle.std.proofs.Math.Bool.{false}
@@ -9,7 +10,7 @@ use native.Mathlib.Omega.{arith}
 use Rattle.std.proofs.Math.ListN.{length}
 use Rattle.plan.specs.Forest.{Forest, none, tree, roots, size}
 use Rattle.plan.specs.Op.{Op, Plan}
-use Rattle.plan.specs.WellFormed.{some_fetch, node_ok}
+use Rattle.plan.specs.WellFormed.{node_ok}
 use Rattle.plan_codec.specs.Decode.{decode}
 use Rattle.plan_codec.specs.Encode.{encode}
 use Rattle.semantics.specs.Facts.{facts, is_nil}
@@ -34,8 +35,7 @@ use Rattle.order_preservation_marks.specs.Nodes.{shown, kid_below}
 -- ---- marks of handles
 
 abbrev pub any_marked : List ℕ → Bool
-any_marked [] = false
-any_marked (h ∷ hs) = marked h || any_marked hs
+any_marked hs = list_any marked hs
 
 any_is : (m ks : List ℕ) → any_marked ks ≡ any_mark (forest m ks)
 unfolding forest
@@ -47,38 +47,10 @@ unfolding forest
 roots_some m [] l = absurd (omega arith)
 roots_some m (h ∷ hs) l = refl
 
--- b says whether one of the first j is marked
-pub record Any (ks : List ℕ) (j : ℕ) (b : Bool) : Type 0 where
-  pub low : j ≤ length ks
-  pub is : b || any_marked (drop j ks) ≡ any_marked ks
-
-pub any_none : (ks : List ℕ) → Any ks 0 false
-any_none ks = record { low = omega arith; is = refl }
-
-pub any_more : (ks : List ℕ) (j : ℕ) (b x : Bool) → j < length ks → x ≡ marked (get_or ks j 0) → Any ks j b → Any ks (j + 1) (b || x)
-any_more ks j b x l e p =
-    record {
-      low = omega arith;
-      is = rw (add-one j)
-          (assoc b x (any_marked (drop (suc j) ks)) ∙ ap (λ y. b || (y || any_marked (drop (suc j) ks))) e
-          ∙ ap (λ y. b || any_marked y) (sym (drop-cons ks j 0 l)) ∙ p.is);
-    }
-  where
-    assoc : (a b c : Bool) → (a || b) || c ≡ a || (b || c)
-    assoc true b c = refl
-    assoc false b c = refl
-
-pub any_all : (ks : List ℕ) (j : ℕ) (b : Bool) → length ks ≤ j → Any ks j b → b ≡ any_marked ks
-any_all ks j b l p = right b ∙ ap (λ y. b || any_marked y) (sym (drop_of_length-le ks {i = j} l)) ∙ p.is
-  where
-    right : (b : Bool) → b ≡ b || false
-    right true = refl
-    right false = refl
-
 -- ---- "A fetched coalesce selects rows in arrival order"
 
 abbrev pub is_fetched_coalesce : Op → Bool
-is_fetched_coalesce o = is_coalesce_partitions o && some_fetch (cuts o).fetch
+is_fetched_coalesce o = is_coalesce_partitions o && is_some (cuts o).fetch
 
 pub nothing_left : (x : Bool) → x && false ≡ false
 nothing_left true = refl

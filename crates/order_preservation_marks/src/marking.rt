@@ -13,7 +13,6 @@ ghost use Rattle.order_preservation_marks.specs.Marking.{is_fetched_coalesce, Cu
 use arena::{At, child, child_count, read64, record_at};
 use asked_facts::is_ordered;
 use maintained_orders::maintains;
-use node_fetches::some_fetch;
 use node_properties::{is_coalesce_partitions, is_repartition};
 use plan_context::handles::{is_marked, set_mark};
 use plan_context::kept::row;
@@ -40,7 +39,7 @@ pub fn is_fetched_coalesce(r: &[u8]) -> bool
     requires { Proper r.now }
     ensures { result ≡ is_fetched_coalesce (decode r.now) }
 {
-    is_coalesce_partitions(r) & some_fetch(node_fetches::fetch(r))
+    is_coalesce_partitions(r) & node_fetches::fetch(r).is_some()
 }
 
 // Whether a path goes on from node i to its child j.
@@ -60,12 +59,10 @@ fn inspected(m: &[u8], i: usize) -> [usize; 8]
 {
     let n = child_count(m, i);
     let mut kids = [0usize; 8];
-    let mut j = 0;
-    while j < n {
+    for j in 0..n {
         let k = child(m, i, j);
         let b = is_marked(k) & inspect_child(m, i, j);
         kids[j] = set_mark(k, b);
-        j += 1;
     }
     kids
 }
@@ -74,13 +71,7 @@ fn inspected(m: &[u8], i: usize) -> [usize; 8]
 fn any_marked(ks: &[usize]) -> bool
     ensures { result ≡ any_marked ks.now }
 {
-    let mut any = false;
-    let mut j = 0;
-    while j < ks.len() {
-        any = any | is_marked(ks[j]);
-        j += 1;
-    }
-    any
+    ks.iter().any(|k| is_marked(*k))
 }
 
 // Whether node i is a repartition or a coalesce that loses its input's order.
@@ -136,12 +127,10 @@ pub fn update_order_preservation_ctx_children_data(m: &mut [u8], u: usize, ks: &
 {
     let mut kids = [0usize; 8];
     let mut w = u;
-    let mut j = 0;
-    while j < ks.len() {
+    for j in 0..ks.len() {
         let r = carry(m, w, ks[j]);
         w = r.used;
         kids[j] = r.root;
-        j += 1;
     }
     Children {
         used: w,

@@ -1,22 +1,18 @@
 -- plan_with_order_preserving_variants in the arena.
-use Rattle.std.specs.Prelude.{◌≡◌, refl, Bool, true, false, cond, not, ◌&&◌, List, [], ◌∷◌, ℕ, zero, suc, ◌+◌, ◌≤◌, ◌<◌, eqb, length, get_or, take, set}
+use Rattle.std.specs.Prelude.{◌≡◌, refl, Bool, true, false, cond, not, ◌&&◌, List, [], ◌∷◌, ℕ, zero, suc, ◌+◌, ◌≤◌, ◌<◌, eqb, length, get_or, take, set, Option, Some, None, is_some}
 use Rattle.std.proofs.Common.{sym, ap, ap₂, ◌∙◌, subst, arith}
 use Rattle.row_order.specs.Iso.{Key}
 use Rattle.row_order.proofs.Order.{no_bool}
 use Rattle.plan.specs.Forest.{Forest, none, tree, size}
 use Rattle.plan.specs.Op.{Op, repartition, coalesce, merge_op}
 use Rattle.plan.specs.Numbers.{code}
-use Rattle.plan.specs.WellFormed.{fetch_ok, some_fetch}
-use Rattle.plan.specs.declared.Fetch.{Fetch}
-use Rattle.plan.specs.declared.Fetch.TheVariants.{AtMost, Unlimited}
+use Rattle.plan.specs.WellFormed.{fetch_ok}
 use Rattle.plan_codec.specs.Decode.{decode}
 use Rattle.plan_codec.specs.Encode.{encode}
 use Rattle.semantics.specs.Facts.{at0, is_nil, keeps_order, known_order}
 use Rattle.semantics.specs.Properties.{maintains, cuts, remark, is_all}
 use Rattle.key_lists.specs.Keys.{keys_in, keys_of, order_of, Real, Ordered}
 use Rattle.key_lists.specs.declared.Keys.{Keys}
-use Rattle.key_lists.specs.declared.Order.{Order}
-use Rattle.key_lists.specs.declared.Order.TheVariants.{Unordered, By}
 use Rattle.asked_facts.specs.Asked.{told}
 use Rattle.arena.specs.Arena.{index, marked, slot}
 use Rattle.arena.specs.declared.At.{At}
@@ -43,7 +39,7 @@ use Rattle.walks.proofs.Theorems.Calls.Counts.{cond_le}
 abbrev pub preserved_repartition : Bool → Op → Forest Marked → Forest Marked → Tree
 preserved_repartition spr o c d = cond (not (maintains o (known c) 0) && spr) (rebuild (remark (λ p. true) o) false (mark_first true d)) (rebuild o false d)
 
-module _ (spr spm : Bool) (f : Fetch) (x : Bool) (c d : Forest Marked) where
+module _ (spr spm : Bool) (f : Option ℕ) (x : Bool) (c d : Forest Marked) where
   abbrev Variant : Op → Tree
   Variant o = preserve_by (shape o) spr spm f (record { op = o; mark = x }) c d
 
@@ -56,11 +52,11 @@ module _ (spr spm : Bool) (f : Fetch) (x : Bool) (c d : Forest Marked) where
   by_fetched : (o : Op) → is_fetched_coalesce o ≡ true → preserve_by (shape o) spr spm f (record { op = o; mark = x }) c d ≡ node o false c
   by_fetched =
       op_ind (λ o. is_fetched_coalesce o ≡ true → Variant o ≡ node o false c) (λ p ks g e. no_bool e) (λ ks g e. no_bool e) (λ p n h ks e. no_bool e) fetched
-      (λ o a e. no_bool (ap (λ y. y && some_fetch (cuts o).fetch) (sym a.2) ∙ e))
+      (λ o a e. no_bool (ap (λ y. y && is_some (cuts o).fetch) (sym a.2) ∙ e))
     where
-      fetched : (g : Fetch) → is_fetched_coalesce (coalesce g) ≡ true → Variant (coalesce g) ≡ node (coalesce g) false c
-      fetched Unlimited e = no_bool e
-      fetched (AtMost n) e = refl
+      fetched : (g : Option ℕ) → is_fetched_coalesce (coalesce g) ≡ true → Variant (coalesce g) ≡ node (coalesce g) false c
+      fetched None e = no_bool e
+      fetched (Some n) e = refl
 
   pub by_coalesce : (o : Op) → eqb (code o) 6 ≡ true → is_fetched_coalesce o ≡ false → preserve_by (shape o) spr spm f (record { op = o; mark = x }) c d
       ≡ merge_over spm f (record { op = o; mark = true }) d
@@ -70,10 +66,10 @@ module _ (spr spm : Bool) (f : Fetch) (x : Bool) (c d : Forest Marked) where
       (λ ks g e. no_bool e) (λ p n h ks e. no_bool e) plain
       (λ o a e. no_bool (sym a.2 ∙ e))
     where
-      plain : (g : Fetch) → eqb (code (coalesce g)) 6 ≡ true → is_fetched_coalesce (coalesce g) ≡ false → Variant (coalesce g)
+      plain : (g : Option ℕ) → eqb (code (coalesce g)) 6 ≡ true → is_fetched_coalesce (coalesce g) ≡ false → Variant (coalesce g)
           ≡ merge_over spm f (record { op = coalesce g; mark = true }) d
-      plain Unlimited e q = refl
-      plain (AtMost n) e q = no_bool (sym q)
+      plain None e q = refl
+      plain (Some n) e q = no_bool (sym q)
 
   pub by_other : (o : Op) → eqb (code o) 5 ≡ false → eqb (code o) 6 ≡ false → preserve_by (shape o) spr spm f (record { op = o; mark = x }) c d
       ≡ rebuild o false d
@@ -83,18 +79,18 @@ module _ (spr spm : Bool) (f : Fetch) (x : Bool) (c d : Forest Marked) where
       (λ o a e q. ap (λ s. preserve_by s spr spm f (record { op = o; mark = x }) c d) a.0)
 
 -- the node's own mark does not matter
-by_mark : (spr spm : Bool) (f : Fetch) (x y : Bool) (o : Op) (c d : Forest Marked) (s : Shape) → preserve_by s spr spm f (record { op = o; mark = x }) c d
+by_mark : (spr spm : Bool) (f : Option ℕ) (x y : Bool) (o : Op) (c d : Forest Marked) (s : Shape) → preserve_by s spr spm f (record { op = o; mark = x }) c d
     ≡ preserve_by s spr spm f (record { op = o; mark = y }) c d
 by_mark spr spm f x y o c d (a_sort p ks g) = refl
 by_mark spr spm f x y o c d (a_merge ks g) = refl
 by_mark spr spm f x y o c d (a_repartition p n h ks) = refl
-by_mark spr spm f x y o c d (a_coalesce Unlimited) = refl
-by_mark spr spm f x y o c d (a_coalesce (AtMost n)) = refl
+by_mark spr spm f x y o c d (a_coalesce None) = refl
+by_mark spr spm f x y o c d (a_coalesce (Some n)) = refl
 by_mark spr spm f x y o c d another = refl
 
 -- ---- sizes: nothing is added
 
-by_size : (s : Shape) (spr spm : Bool) (f : Fetch) (m : Marked) (c d : Forest Marked) → size d ≤ size c → size_t (preserve_by s spr spm f m c d) ≤ suc
+by_size : (s : Shape) (spr spm : Bool) (f : Option ℕ) (m : Marked) (c d : Forest Marked) → size d ≤ size c → size_t (preserve_by s spr spm f m c d) ≤ suc
     (size c)
 by_size (a_sort p ks g) spr spm f m c d h = omega arith
 by_size (a_merge ks g) spr spm f m c d h = omega arith
@@ -103,14 +99,14 @@ by_size (a_repartition p n q ks) spr spm f m c d h =
     cond_le (suc (size c)) (not (keeps_order p (at0 (known c))) && spr) (rebuild (repartition true n q ks) false (mark_first true d))
     (rebuild m.op false d)
     (omega arith) (omega arith)
-by_size (a_coalesce Unlimited) spr spm f m c d h =
+by_size (a_coalesce None) spr spm f m c d h =
     let x = first_size true d in
     cond_le (suc (size c)) (spm && not (is_nil (known_order (at0 (known d))))) (node (merge_op (known_order (at0 (known d))) f) false (mark_first true d))
     (rebuild m.op false d) (omega arith) (omega arith)
-by_size (a_coalesce (AtMost n)) spr spm f m c d h = omega arith
+by_size (a_coalesce (Some n)) spr spm f m c d h = omega arith
 by_size another spr spm f m c d h = omega arith
 
-each_size : (spr spm : Bool) (f : Fetch) (c : Forest Marked) → size (preserve_each spr spm f c) ≤ size c
+each_size : (spr spm : Bool) (f : Option ℕ) (c : Forest Marked) → size (preserve_each spr spm f c) ≤ size c
 each_size spr spm f none = omega arith
 each_size spr spm f (tree m c r) =
     let x = cond_le (suc (size c)) m.mark (preserve_by (shape m.op) spr spm f m c (preserve_each spr spm f c)) (at m c)
@@ -156,10 +152,10 @@ module _ (m : List ℕ) (w i : ℕ) (r ks : List ℕ) (p : Puts m w r ks) (h : i
 
 -- ---- a coalesce
 
-pub order_few : (ks : List Key) (v : Order) (k : Keys) → Ordered ks v → v ≡ By k → k.len ≤ 8
+pub order_few : (ks : List Key) (v : Option Keys) (k : Keys) → Ordered ks v → v ≡ Some k → k.len ≤ 8
 order_few ks v k q z = (subst Real z q.real).1
 
-module _ (m : List ℕ) (w : ℕ) (r ks : List ℕ) (p : Puts m w r ks) (e : eqb (code (decode r)) 6 ≡ true) (spm : Bool) (f : Fetch) where
+module _ (m : List ℕ) (w : ℕ) (r ks : List ℕ) (p : Puts m w r ks) (e : eqb (code (decode r)) 6 ≡ true) (spm : Bool) (f : Option ℕ) where
   pub one_below : length ks ≡ 1
   one_below = single m w r ks p (treated_6 (decode r) e)
 
@@ -180,7 +176,7 @@ module _ (m : List ℕ) (w : ℕ) (r ks : List ℕ) (p : Puts m w r ks) (e : eqb
         q
 
     -- the child has no order
-    pub coalesce_unordered : (v : Order) → Ordered (known_order (told b)) v → v ≡ Unordered → (m' : List ℕ) (a : At)
+    pub coalesce_unordered : (v : Option Keys) → Ordered (known_order (told b)) v → v ≡ None → (m' : List ℕ) (a : At)
         → Grown m w m' a (rebuild (decode r) false (forest m ks)) (w + 1)
         → Grown m w m' a (merge_over spm f (record { op = decode r; mark = true }) (forest m ks)) (w + 1)
     coalesce_unordered v q z m' a g =
@@ -188,7 +184,7 @@ module _ (m : List ℕ) (w : ℕ) (r ks : List ℕ) (p : Puts m w r ks) (e : eqb
         (sym (ap (λ z. cond z (node (merge_op [] f) false (mark_first true (forest m ks))) (rebuild (decode r) false (forest m ks))) (nothing_left spm))
         ∙ by_order [] (ap order_of (sym z) ∙ q.is ∙ order_is)) g
 
-    module _ (v : Order) (q : Ordered (known_order (told b)) v) (keys : Keys) (z : v ≡ By keys) (s : spm ≡ true)
+    module _ (v : Option Keys) (q : Ordered (known_order (told b)) v) (keys : Keys) (z : v ≡ Some keys) (s : spm ≡ true)
         (ok : OkT (merge_over spm f (record { op = decode r; mark = true }) (forest m ks)))
         (x : List ℕ) (hx : x ≡ encode 1 (merge_op (keys_of keys) f)) (h : ℕ) (hh : Marks k true h) where
       some : (n v : ℕ) → 0 < n → not (is_nil (keys_in n v)) ≡ true
@@ -217,25 +213,25 @@ module _ (m : List ℕ) (w : ℕ) (r ks : List ℕ) (p : Puts m w r ks) (e : eqb
 
 -- ---- any node
 
-abbrev pub Became : List ℕ → ℕ → List ℕ → Bool → Bool → Fetch → Tree
+abbrev pub Became : List ℕ → ℕ → List ℕ → Bool → Bool → Option ℕ → Tree
 Became m i ks spr spm f =
     preserve_by (shape (decode (slot m i).rec)) spr spm f (record { op = decode (slot m i).rec; mark = true }) (forest m (slot m i).kids) (forest m ks)
 
 -- One root of preserve_each
-abbrev pub preserve_one : Bool → Bool → Fetch → Tree → Tree
+abbrev pub preserve_one : Bool → Bool → Option ℕ → Tree → Tree
 preserve_one spr spm f t = cond t.top.mark (plan_with_order_preserving_variants spr spm f t) t
 
 -- ---- the recursion
 
-pub record Preserves (m : List ℕ) (u h : ℕ) (f : Fetch) : Type 0 where
+pub record Preserves (m : List ℕ) (u h : ℕ) (f : Option ℕ) : Type 0 where
   pub enters : Enters m u h
   pub fetch : fetch_ok f ≡ true
 
 -- What children become, from any number on
-abbrev pub each_of : Bool → Bool → Fetch → ℕ → Forest Marked → Forest Marked
+abbrev pub each_of : Bool → Bool → Option ℕ → ℕ → Forest Marked → Forest Marked
 each_of spr spm f j c = preserve_each spr spm f c
 
-module _ (m₀ : List ℕ) (u h : ℕ) (spr spm : Bool) (f : Fetch) (p : Preserves m₀ u h f) where
+module _ (m₀ : List ℕ) (u h : ℕ) (spr spm : Bool) (f : Option ℕ) (p : Preserves m₀ u h f) where
   abbrev E : Enters m₀ u h
   E = p.enters
 
@@ -330,7 +326,7 @@ module _ (m₀ : List ℕ) (u h : ℕ) (spr spm : Bool) (f : Fetch) (p : Preserv
 
 -- ---- entered whether it is marked or not
 
-module _ (m : List ℕ) (u h : ℕ) (spr spm : Bool) (f : Fetch) (p : Preserves m u h f) (k : ℕ) (e : Marks h true k) where
+module _ (m : List ℕ) (u h : ℕ) (spr spm : Bool) (f : Option ℕ) (p : Preserves m u h f) (k : ℕ) (e : Marks h true k) where
   pub entered_asks : Preserves m u k f
   entered_asks =
       let v = p.enters in let l = v.here in let s = e.slot in let t = ap size_t (e.tree m) in let r = v.room in let n = v.small in

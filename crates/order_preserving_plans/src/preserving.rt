@@ -13,11 +13,9 @@ ghost use Rattle.order_preserving_plans.specs.Preserving.{preserved_repartition,
 
 use arena::{At, child, child_count, read64, record_at};
 use asked_facts::known_order;
-use key_lists::Order;
 use new_records::{merge_record, with_mark};
 use node_properties::{is_coalesce_partitions, is_repartition};
 use order_preservation_marks::marking::{is_fetched_coalesce, maintains_input_order};
-use plan::Fetch;
 use plan_context::handles::{is_marked, set_mark};
 use plan_context::kept::row;
 use plan_updates::{put_over, update_plan_from_children};
@@ -46,7 +44,7 @@ fn preserve_coalesce(
     r: &[u8],
     ks: &[usize],
     spm: bool,
-    fetch: Fetch,
+    fetch: Option<u32>,
 ) -> At
     requires { Puts m.old w r.now ks.now × (i < w) × (eqb (code (decode r.now)) 6 ≡ true)
         × OkT (merge_over spm fetch (record { op = decode r.now; mark = true }) (forest m.old ks.now)) }
@@ -58,7 +56,7 @@ fn preserve_coalesce(
     }
     let k = ks[0];
     let order = known_order(row(m, k));
-    let Order::By(keys) = order else {
+    let Some(keys) = order else {
         return update_plan_from_children(m, w, r, ks, i);
     };
     let x = merge_record(keys, fetch);
@@ -73,7 +71,7 @@ fn preserve_over(
     ks: &[usize],
     spr: bool,
     spm: bool,
-    fetch: Fetch,
+    fetch: Option<u32>,
 ) -> At
     requires { Puts m.old w (slot m.old i).rec ks.now × (i < w) × (is_fetched_coalesce (decode (slot m.old i).rec) ≡ false)
         × OkT (Became m.old i ks.now spr spm fetch) }
@@ -90,7 +88,7 @@ fn preserve_over(
 }
 
 // The tree at h, if it is marked; any other stays. A fetched coalesce stays too, unmarked, and nothing below it is entered.
-fn preserve_marked(m: &mut [u8], u: usize, h: usize, spr: bool, spm: bool, fetch: Fetch) -> At
+fn preserve_marked(m: &mut [u8], u: usize, h: usize, spr: bool, spm: bool, fetch: Option<u32>) -> At
     requires { Preserves m.old u h fetch }
     ensures { Grown m.old u m.new result (preserve_one spr spm fetch (tree_of m.old h))
         (u + size_t (tree_of m.old h)) }
@@ -108,13 +106,11 @@ fn preserve_marked(m: &mut [u8], u: usize, h: usize, spr: bool, spm: bool, fetch
     let n = child_count(m, i);
     let mut kids = [0usize; 8];
     let mut w = u;
-    let mut j = 0;
-    while j < n {
+    for j in 0..n {
         let k = child(m, i, j);
         let r = preserve_marked(m, w, k, spr, spm, fetch);
         w = r.used;
         kids[j] = r.root;
-        j += 1;
     }
     preserve_over(m, w, i, &kids[..n], spr, spm, fetch)
 }
@@ -127,7 +123,7 @@ pub fn plan_with_order_preserving_variants(
     h: usize,
     spr: bool,
     spm: bool,
-    fetch: Fetch,
+    fetch: Option<u32>,
 ) -> At
     requires { Preserves m.old u h fetch }
     ensures { Grown m.old u m.new result (plan_with_order_preserving_variants spr spm fetch (tree_of m.old h))

@@ -1,12 +1,11 @@
 -- A sort, a merge or a coalesce rebuilt over what is left below it, and the step.
-use Rattle.std.specs.Prelude.{◌≡◌, refl, Bool, true, false, cond, List, [], ◌∷◌, ℕ, suc, ◌+◌, ◌*◌, ◌≤◌, ◌<◌, ltb, length, get_or}
+use Rattle.std.specs.Prelude.{◌≡◌, refl, Bool, true, false, cond, List, [], ◌∷◌, ℕ, suc, ◌+◌, ◌*◌, ◌≤◌, ◌<◌, ltb, length, get_or, Option}
 use Rattle.std.proofs.Common.{sym, ap, ap₂, ◌∙◌, subst, arith}
 use Rattle.row_order.specs.Iso.{Key}
 use Rattle.row_order.specs.Lists.{All}
 use Rattle.plan.specs.Forest.{Forest, none, tree, size}
 use Rattle.plan.specs.Op.{Op, coalesce, sort_op, merge_op}
 use Rattle.plan.specs.WellFormed.{fetch_ok, node_ok}
-use Rattle.plan.specs.declared.Fetch.{Fetch}
 use Rattle.plan_codec.specs.Decode.{decode}
 use Rattle.plan_codec.specs.Encode.{encode}
 use Rattle.semantics.specs.Facts.{met}
@@ -52,7 +51,7 @@ pub record Rebuilds (m : List ℕ) (u : ℕ) (r : List ℕ) (h : ℕ) : Type 0 w
 
 -- ---- a sort above changes no width and adds one node
 
-above_by : (P : Tree → Type 0) (ks : List Key) (f : Fetch) (t : Tree) → P t → ((p : Bool) (k : Key) (l : List Key) → P (over (sort_op p (k ∷ l) f) false t))
+above_by : (P : Tree → Type 0) (ks : List Key) (f : Option ℕ) (t : Tree) → P t → ((p : Bool) (k : Key) (l : List Key) → P (over (sort_op p (k ∷ l) f) false t))
     → P (add_sort_above_with_check ks f t)
 above_by P ks f t a b = go (met (fact t) ks)
   where
@@ -64,10 +63,10 @@ above_by P ks f t a b = go (met (fact t) ks)
     go true = a
     go false = sorted (ltb 1 (fact t).streams) (fresh_keys (fact t) [] ks)
 
-above_width : (ks : List Key) (f : Fetch) (t : Tree) → (fact (add_sort_above_with_check ks f t)).width ≡ (fact t).width
+above_width : (ks : List Key) (f : Option ℕ) (t : Tree) → (fact (add_sort_above_with_check ks f t)).width ≡ (fact t).width
 above_width ks f t = above_by (λ x. (fact x).width ≡ (fact t).width) ks f t refl (λ p k l. refl)
 
-above_size : (ks : List Key) (f : Fetch) (t : Tree) → size_t (add_sort_above_with_check ks f t) ≤ suc (size_t t)
+above_size : (ks : List Key) (f : Option ℕ) (t : Tree) → size_t (add_sort_above_with_check ks f t) ≤ suc (size_t t)
 above_size ks f t = above_by (λ x. size_t x ≤ suc (size_t t)) ks f t (omega arith) (λ p k l. omega arith)
 
 module _ (m : List ℕ) (u : ℕ) (r : List ℕ) (h : ℕ) (p : Rebuilds m u r h) where
@@ -148,7 +147,7 @@ module _ (m : List ℕ) (u : ℕ) (r : List ℕ) (h : ℕ) (p : Rebuilds m u r h
               (cover_grown m₂ z.used z.root merge_under (merge_op ks s.fetch) merge_ok x e m₃ b (z.used + 1) v) (omega arith)) (omega arith))
 
       -- the coalesce over it
-      module _ (c : Coalesced (decode r) (tree_of m h)) (f : Fetch) (hf : f ≡ (cuts (decode r)).fetch) (x : List ℕ) (e : x ≡ encode 1 (coalesce f)) where
+      module _ (c : Coalesced (decode r) (tree_of m h)) (f : Option ℕ) (hf : f ≡ (cuts (decode r)).fetch) (x : List ℕ) (e : x ≡ encode 1 (coalesce f)) where
         again_ok : node_ok (coalesce f) ((fact (tree_of m₁ a.root)).width ∷ []) ≡ true
         again_ok = coalesce_ok f ((fact (tree_of m₁ a.root)).width ∷ []) (ap fetch_ok hf ∙ node_fetch o ((fact T).width ∷ []) p.ok.0)
             (refl, narrow_t (tree_of m₁ a.root) (ok_of m₁ a.used a.root g.arena g.here))

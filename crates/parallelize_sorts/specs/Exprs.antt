@@ -1,5 +1,5 @@
 -- What a sort or a merge has, and when it is rebuilt.
-use Rattle.std.specs.Prelude.{◌≡◌, refl, Bool, true, false, cond, not, ◌&&◌, ◌||◌, List, [], ◌∷◌, ℕ, ◌≤◌, eqb, leb, ltb, length, get_or}
+use Rattle.std.specs.Prelude.{◌≡◌, refl, Bool, true, false, cond, not, ◌&&◌, ◌||◌, List, [], ◌∷◌, ℕ, ◌≤◌, eqb, leb, ltb, length, get_or, Option}
 use Rattle.std.proofs.Common.{sym, ap, ap₂, ◌∙◌, subst, arith, ltb-true, ltb-false, le-leb}
 use Rattle.std.proofs.lemmas.Bool.{lt-leb}
 use Rattle.row_order.specs.Iso.{Key}
@@ -8,7 +8,6 @@ use Rattle.plan.specs.Forest.{Forest, none}
 use Rattle.plan.specs.Op.{Op, source, filter, projection, union, repartition, coalesce, sort_op, merge_op, global_limit, local_limit, sort_merge_join, hash_join, output_requirement, partial_sort, aggregate}
 use Rattle.plan.specs.Numbers.{code, kind_of}
 use Rattle.plan.specs.WellFormed.{fetch_ok, keys_fit, node_ok}
-use Rattle.plan.specs.declared.Fetch.{Fetch}
 use Rattle.plan.specs.declared.Kind.{Kind}
 use Rattle.plan.specs.declared.Kind.TheVariants.{Source, Filter, Projection, Union, Repartition, Coalesce, Sort, Merge, GlobalLimit, LocalLimit, SortMergeJoin, HashJoin, OutputRequirement, PartialSort, Aggregate}
 use Rattle.plan_codec.specs.Decode.{decode, from_bytes, operator_of}
@@ -88,8 +87,8 @@ pub record Plain (o : Op) : Type 0 where
   pub coalesce : is_coalesce_partitions o ≡ false
   pub stays : (t : Tree) → parallel_by (shape o) t ≡ t
 
-by_kind : (P : Op → Type 0) → ((p : Bool) (ks : List Key) (f : Fetch) → P (sort_op p ks f)) → ((ks : List Key) (f : Fetch) → P (merge_op ks f))
-    → ((f : Fetch) → P (coalesce f)) → ((o : Op) → Plain o → P o) → (o : Op) → P o
+by_kind : (P : Op → Type 0) → ((p : Bool) (ks : List Key) (f : Option ℕ) → P (sort_op p ks f)) → ((ks : List Key) (f : Option ℕ) → P (merge_op ks f))
+    → ((f : Option ℕ) → P (coalesce f)) → ((o : Op) → Plain o → P o) → (o : Op) → P o
 by_kind P s m c q (source d) = q (source d) (record { sort = refl; merge = refl; coalesce = refl; stays = λ t. refl })
 by_kind P s m c q filter = q filter (record { sort = refl; merge = refl; coalesce = refl; stays = λ t. refl })
 by_kind P s m c q (projection cols) = q (projection cols) (record { sort = refl; merge = refl; coalesce = refl; stays = λ t. refl })
@@ -138,7 +137,7 @@ cascaded o s w t =
     o
 
 -- its keys, over a child of width w
-pub merge_keys : (w : ℕ) (ks : List Key) (f : Fetch) → node_ok (merge_op ks f) (w ∷ []) ≡ true → KeysFit w ks × (fetch_ok f ≡ true)
+pub merge_keys : (w : ℕ) (ks : List Key) (f : Option ℕ) → node_ok (merge_op ks f) (w ∷ []) ≡ true → KeysFit w ks × (fetch_ok f ≡ true)
 merge_keys w ks f e =
     let n : leb (length ks) 8 ≡ true = search (and_left, and_right) in
     let m : keys_fit w ks ≡ true = search (and_left, and_right) in

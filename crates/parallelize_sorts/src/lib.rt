@@ -17,7 +17,6 @@ use arena::At;
 use bottleneck_removal::marks::{first_connected, update_coalesce_ctx_children};
 use key_lists::Keys;
 use node_properties::is_coalesce_partitions;
-use plan::Fetch;
 use plan_context::handles::set_mark;
 use plan_updates::put_again;
 
@@ -25,7 +24,7 @@ use plan_updates::put_again;
 #[derive(Clone, Copy)]
 pub struct SortExprs {
     pub keys: Keys,
-    pub fetch: Fetch,
+    pub fetch: Option<u32>,
 }
 
 // The node with the record r over the children ks, with the mark b. Slot i holds it as it was.

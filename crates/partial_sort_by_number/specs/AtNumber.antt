@@ -1,5 +1,5 @@
 -- What stands at a number of a tree, what is answered of it, and among which child's nodes the number is.
-use Rattle.std.specs.Prelude.{◌≡◌, refl, cond, length, get_or, take, set}
+use Rattle.std.specs.Prelude.{◌≡◌, refl, cond, length, get_or, take, set, Option, Some, None}
 use Rattle.std.proofs.Math.Path.{sym, ap}
 use Rattle.std.proofs.Common.{ap₂, ◌∙◌, subst, add-one, lt-ltb, le-ltb}
 use mathlib.Core.List.{List, [], ◌∷◌}
@@ -15,8 +15,6 @@ use Rattle.walks.specs.PartialSort.{replace_with_partial_sort, from_node, set_no
 use Rattle.walks.specs.Counted.{Answer, answered, refused, partial_at, partially_sorted}
 use Rattle.plan_context.specs.View.{tree_of, forest, Arena, Same}
 use Rattle.plan_context.specs.Records.{plan_t}
-use Rattle.partial_sort_by_number.specs.declared.Sorted.{Sorted}
-use Rattle.partial_sort_by_number.specs.declared.Sorted.TheVariants.{NoSuchNode, Becomes}
 use Rattle.partial_sort_by_number.specs.declared.Place.{Place}
 use Rattle.walks.proofs.Theorems.Common.Trees.{strip-size}
 
@@ -56,12 +54,12 @@ pub record Became (m : List ℕ) (u : ℕ) (m' : List ℕ) (h n : ℕ) (a : At) 
   pub room : a.used ≤ u + size_t (tree_of m h)
 
 -- It is that of node number n of the tree at h
-abbrev pub AnswersPartial : List ℕ → ℕ → List ℕ → ℕ → ℕ → Sorted → Type 0
-AnswersPartial m u m' h n NoSuchNode = (partially_sorted n (plan_t (tree_of m h)) ≡ refused refusals.NoSuchNode)
+abbrev pub AnswersPartial : List ℕ → ℕ → List ℕ → ℕ → ℕ → Option At → Type 0
+AnswersPartial m u m' h n None = (partially_sorted n (plan_t (tree_of m h)) ≡ refused refusals.NoSuchNode)
     × (outcome (from_node n (plan_t (tree_of m h))) ≡ missing)
-AnswersPartial m u m' h n (Becomes a) = Became m u m' h n a
+AnswersPartial m u m' h n (Some a) = Became m u m' h n a
 
-pub answers_none : (m : List ℕ) (u : ℕ) (m' : List ℕ) (h n : ℕ) → outcome (from_node n (plan_t (tree_of m h))) ≡ missing → AnswersPartial m u m' h n NoSuchNode
+pub answers_none : (m : List ℕ) (u : ℕ) (m' : List ℕ) (h n : ℕ) → outcome (from_node n (plan_t (tree_of m h))) ≡ missing → AnswersPartial m u m' h n None
 answers_none m u m' h n e = (by_outcome n (plan_t (tree_of m h)) missing e, e)
 
 pub answered-is : (n : ℕ) (f g : Plan) (p : Op) → outcome (from_node n f) ≡ found p → g ≡ set_node n p f → partially_sorted n f ≡ answered g

@@ -1,5 +1,5 @@
 -- Partial sorting of a node by its number, in node order.
-use Rattle.std.specs.Prelude.{◌≡◌, refl, Bool, false, List, [], ◌∷◌, ◌++◌, ℕ, zero, suc, ◌+◌, ◌*◌, ◌-◌, ◌%◌, ◌≤◌, ◌<◌, length, get_or, take, set, replicate}
+use Rattle.std.specs.Prelude.{◌≡◌, refl, Bool, false, List, [], ◌∷◌, ◌++◌, ℕ, zero, suc, ◌+◌, ◌*◌, ◌-◌, ◌%◌, ◌≤◌, ◌<◌, length, get_or, take, set, replicate, Option, Some, None}
 use Rattle.std.proofs.Common.{sym, ap, ap₂, ◌∙◌, subst, arith, add-one, length-set, take-suc, take-suc-set, take_all}
 use Rattle.plan.specs.Forest.{none, tree, size}
 use Rattle.plan.specs.Op.{Op, sort_op, partial_sort, Plan}
@@ -12,7 +12,6 @@ use Rattle.plan_codec.proofs.OneRecord.{decode-encode}
 use Rattle.semantics.specs.Facts.{facts}
 use Rattle.key_lists.specs.Keys.{keys_of, Keyed}
 use Rattle.key_lists.specs.declared.Keys.{Keys}
-use Rattle.plan.specs.declared.Fetch.{Fetch}
 use Rattle.arena.specs.Arena.{slot_size, index, slot, Below}
 use Rattle.arena.specs.declared.At.{At}
 use Rattle.arena.specs.Laws.{below_at, below_more, below_set}
@@ -28,10 +27,6 @@ use Rattle.plan_context.specs.Records.{plan_t}
 use Rattle.plan_updates.specs.Covering.{ok_of}
 use Rattle.sort_connection.specs.Standing.{Standing, view, tree_is, own_over, own_proper, sort_op_lem, one_kid_lem}
 use Rattle.replace_with_partial_sort.specs.Replacing.{partial, becoming, Fitting}
-use Rattle.replace_with_partial_sort.specs.declared.Replaced.{Replaced as Told}
-use Rattle.replace_with_partial_sort.specs.declared.Replaced.TheVariants.{Same as Stays, Partial}
-use Rattle.partial_sort_by_number.specs.declared.Sorted.{Sorted}
-use Rattle.partial_sort_by_number.specs.declared.Sorted.TheVariants.{NoSuchNode, Becomes}
 use Rattle.partial_sort_by_number.specs.declared.Place.{Place}
 use Rattle.partial_sort_by_number.specs.AtNumber.{AnswersPartial, answered-is, answers_none, at_size, Became, found, Located, missing, out_at, out_past, out_root, outcome, set_at, set_root, take-size}
 
@@ -113,11 +108,11 @@ module _ (m : List ℕ) (u h : ℕ) (p : Sorting m u h) where
       }
 
   -- as the code has it
-  module _ (r : Told) (e : replace_with_partial_sort (op_t (tree_of m h)) (strip (tree_of m h).kids) ≡ becoming (op_t (tree_of m h)) r) where
-    pub same_node : r ≡ Stays → Became m u m h 0 (record { used = u; root = h })
+  module _ (r : Option ℕ) (e : replace_with_partial_sort (op_t (tree_of m h)) (strip (tree_of m h).kids) ≡ becoming (op_t (tree_of m h)) r) where
+    pub same_node : r ≡ None → Became m u m h 0 (record { used = u; root = h })
     same_node q = same_became (e ∙ ap (becoming (op_t t)) q)
 
-    pub partial-node : Fitting (op_t (tree_of m h)) r → (n : ℕ) → r ≡ Partial n
+    pub partial-node : Fitting (op_t (tree_of m h)) r → (n : ℕ) → r ≡ Some n
         → (replace_with_partial_sort (op_t (tree_of m h)) (strip (tree_of m h).kids) ≡ partial n (op_t (tree_of m h))) × (n ≤ 8)
         × (code (op_t (tree_of m h)) ≡ 7)
     partial-node f n q = let g = subst (Fitting (op_t t)) q f in (e ∙ ap (becoming (op_t t)) q, g.0, g.1)
@@ -152,7 +147,7 @@ module _ (m : List ℕ) (u h : ℕ) (p : Sorting m u h) where
     only-is (k ∷ l ∷ ks) z = absurd (omega arith)
 
     module _ (r : List ℕ) (hr : r ≡ (slot m (index h)).rec) (k : ℕ) (hk : k ≡ get_or (slot m (index h)).kids 0 0) (pr : Bool)
-        (hp : pr ≡ (from_bytes r).preserve) (ks : Keys) (hks : Keyed (from_bytes r).keys ks) (g : Fetch) (hg : g ≡ (from_bytes r).fetch)
+        (hp : pr ≡ (from_bytes r).preserve) (ks : Keys) (hks : Keyed (from_bytes r).keys ks) (g : Option ℕ) (hg : g ≡ (from_bytes r).fetch)
         (x : List ℕ) (hy : x ≡ encode 1 (partial_sort pr (keys_of ks) (n % 256) g)) where
       hx : x ≡ encode 1 (partial_sort pr (keys_of ks) n g)
       hx = let q : n % 256 ≡ n = omega arith in hy ∙ ap (λ i. encode 1 (partial_sort pr (keys_of ks) i g)) q
@@ -248,7 +243,7 @@ module _ (m : List ℕ) (u h : ℕ) (p : Sorting m u h) (n : ℕ) (q : Place) (w
         ∙ ap (λ i. outcome (from_node i (strip (forest m hs)))) w.is ∙ out_at m hs q.child q.left l (w.inside l)
         ∙ ap (λ i. outcome (from_node q.left (plan_t (tree_of m i)))) (sym hk)
 
-    pub none_below : (m' : List ℕ) → AnswersPartial m u m' k q.left NoSuchNode → AnswersPartial m u m' h (suc n) NoSuchNode
+    pub none_below : (m' : List ℕ) → AnswersPartial m u m' k q.left None → AnswersPartial m u m' h (suc n) None
     none_below m' a = answers_none m u m' h (suc n) (found_below ∙ a.1)
 
     module _ (m' : List ℕ) (lm : length m' ≡ length m) (a : At) (b : Became m u m' k q.left a) where
@@ -362,8 +357,8 @@ module _ (m : List ℕ) (u h : ℕ) (p : Sorting m u h) (n : ℕ) (z : n ≡ 0 �
   count_is : c ≡ length (slot m (index h)).kids
   count_is = hc ∙ (view m u h (standing m u h p)).count
 
-  pub step_past : q.child ≡ c → (m' : List ℕ) → AnswersPartial m u m' h n NoSuchNode
-  step_past e m' = subst (λ i. AnswersPartial m u m' h i NoSuchNode) back (answers_none m u m' h (suc (n - 1)) (past_none m u h p (n - 1) q w (e ∙ count_is)))
+  pub step_past : q.child ≡ c → (m' : List ℕ) → AnswersPartial m u m' h n None
+  step_past e m' = subst (λ i. AnswersPartial m u m' h i None) back (answers_none m u m' h (suc (n - 1)) (past_none m u h p (n - 1) q w (e ∙ count_is)))
 
   module _ (e : q.child ≡ c → ⊥) where
     pub step_low : q.child < length (slot m (index h)).kids
@@ -373,12 +368,12 @@ module _ (m : List ℕ) (u h : ℕ) (p : Sorting m u h) (n : ℕ) (z : n ≡ 0 �
       pub step_asks : (size_t (tree_of m k) < size_t (tree_of m h)) × Sorting m u k
       step_asks = below_sorting m u h p (n - 1) q w step_low k hk
 
-      module _ (m' : List ℕ) (r : Sorted) (g : AnswersPartial m u m' k q.left r) where
-        pub step_missing : r ≡ NoSuchNode → AnswersPartial m u m' h n NoSuchNode
-        step_missing x = subst (λ i. AnswersPartial m u m' h i NoSuchNode) back
+      module _ (m' : List ℕ) (r : Option At) (g : AnswersPartial m u m' k q.left r) where
+        pub step_missing : r ≡ None → AnswersPartial m u m' h n None
+        step_missing x = subst (λ i. AnswersPartial m u m' h i None) back
             (none_below m u h p (n - 1) q w step_low k hk m' (subst (AnswersPartial m u m' k q.left) x g))
 
-        module _ (lm : length m' ≡ length m) (a : At) (x : r ≡ Becomes a) where
+        module _ (lm : length m' ≡ length m) (a : At) (x : r ≡ Some a) where
           below_became : Became m u m' k q.left a
           below_became = subst (AnswersPartial m u m' k q.left) x g
 
@@ -397,8 +392,8 @@ module _ (m : List ℕ) (u h : ℕ) (p : Sorting m u h) (n : ℕ) (z : n ≡ 0 �
 
           pub step_became : (m'' : List ℕ) (b : At)
               → Grown m' a.used m'' b (node (decode (slot m' (index h)).rec) false (forest m' (set (slot m' (index h)).kids q.child a.root)))
-              (a.used + 1) → AnswersPartial m u m'' h n (Becomes b)
+              (a.used + 1) → AnswersPartial m u m'' h n (Some b)
           step_became m'' b t =
-              subst (λ i. AnswersPartial m u m'' h i (Becomes b)) back
+              subst (λ i. AnswersPartial m u m'' h i (Some b)) back
               (child_became m u h p (n - 1) q w step_low k hk m' lm a below_became (slot m (index h)).rec refl m'' b
               (subst (λ y. Grown m' a.used m'' b (node (decode y.rec) false (forest m' (set y.kids q.child a.root))) (a.used + 1)) slots t))

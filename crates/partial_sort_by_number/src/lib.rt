@@ -18,14 +18,7 @@ use new_records::partial_sort_record;
 use node_properties::{fetch_field, keys, preserve_mark};
 use plan_context::kept::nodes;
 use plan_updates::{put_again, put_over};
-use replace_with_partial_sort::{Replaced, replace_with_partial_sort};
-
-// Refusal 20, or the tree that it becomes.
-#[derive(Clone, Copy)]
-pub enum Sorted {
-    NoSuchNode,
-    Becomes(At),
-}
+use replace_with_partial_sort::replace_with_partial_sort;
 
 // A child of a node, and a number within its tree; behind the last child, how far.
 #[derive(Clone, Copy)]
@@ -42,8 +35,7 @@ fn locate(m: &[u8], u: usize, h: usize, n: usize) -> Place
     let i = h / 2;
     let c = child_count(m, i);
     let mut left = n;
-    let mut j = 0;
-    while j < c {
+    for j in 0..c {
         let s = nodes(m, child(m, i, j));
         if left < s {
             return Place {
@@ -52,7 +44,6 @@ fn locate(m: &[u8], u: usize, h: usize, n: usize) -> Place
             };
         }
         left -= s;
-        j += 1;
     }
     Place {
         child: c,
@@ -68,10 +59,8 @@ fn with_child(m: &[u8], u: usize, h: usize, j: usize, k: usize) -> [usize; 8]
     let i = h / 2;
     let c = child_count(m, i);
     let mut out = [0usize; 8];
-    let mut l = 0;
-    while l < c {
+    for l in 0..c {
         out[l] = child(m, i, l);
-        l += 1;
     }
     out[j] = k;
     out
@@ -95,16 +84,16 @@ fn put_partial(m: &mut [u8], u: usize, h: usize, n: usize) -> At
 }
 
 // The node at h itself.
-fn replace_node(m: &mut [u8], u: usize, h: usize) -> Sorted
+fn replace_node(m: &mut [u8], u: usize, h: usize) -> Option<At>
     requires { Sorting m.old u h }
     ensures { AnswersPartial m.old u m.new h 0 result }
 {
     let found = replace_with_partial_sort(m, u, h);
     match found {
-        Replaced::Same => Sorted::Becomes(At { used: u, root: h }),
-        Replaced::Partial(n) => {
+        None => Some(At { used: u, root: h }),
+        Some(n) => {
             let a = put_partial(m, u, h, n);
-            Sorted::Becomes(a)
+            Some(a)
         }
     }
 }
@@ -123,8 +112,8 @@ fn put_child(m: &mut [u8], u: usize, h: usize, j: usize, k: usize) -> At
     put_again(m, u, &r, &kids[..c], i)
 }
 
-// Node number n of the tree at h, partially sorted; nothing above it is rebuilt.
-pub fn partially_sorted(m: &mut [u8], u: usize, h: usize, n: usize) -> Sorted
+// Node number n of the tree at h, partially sorted; nothing above it is rebuilt. None is refusal 20, there is no such node.
+pub fn partially_sorted(m: &mut [u8], u: usize, h: usize, n: usize) -> Option<At>
     requires { Sorting m.old u h }
     ensures { AnswersPartial m.old u m.new h n result }
 {
@@ -134,15 +123,10 @@ pub fn partially_sorted(m: &mut [u8], u: usize, h: usize, n: usize) -> Sorted
     let p = locate(m, u, h, n - 1);
     let j = p.child;
     if j == child_count(m, h / 2) {
-        return Sorted::NoSuchNode;
+        return None;
     }
     let k = child(m, h / 2, j);
-    let below = partially_sorted(m, u, k, p.left);
-    match below {
-        Sorted::NoSuchNode => Sorted::NoSuchNode,
-        Sorted::Becomes(a) => {
-            let top = put_child(m, a.used, h, j, a.root);
-            Sorted::Becomes(top)
-        }
-    }
+    let below = partially_sorted(m, u, k, p.left)?;
+    let top = put_child(m, below.used, h, j, below.root);
+    Some(top)
 }

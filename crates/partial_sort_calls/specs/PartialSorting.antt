@@ -1,9 +1,8 @@
 -- From the arena to the answer of partial sorting.
-use Rattle.std.specs.Prelude.{◌≡◌, refl, Bool, true, false, cond, List, ℕ, zero, suc, ◌+◌, ◌-◌, ◌/◌, ◌≤◌, ◌<◌, ltb, length}
+use Rattle.std.specs.Prelude.{◌≡◌, refl, Bool, true, false, cond, List, ℕ, zero, suc, ◌+◌, ◌-◌, ◌/◌, ◌≤◌, ◌<◌, Err, ltb, length}
 use Rattle.std.proofs.Common.{sym, ap, ◌∙◌, subst, arith}
 use Rattle.plan.specs.Forest.{none, size, tree}
 use Rattle.plan.specs.Op.{Op, Plan}
-use Rattle.plan.specs.Numbers.{number_of}
 use Rattle.plan.specs.declared.Refusal.{Refusal}
 use Rattle.walks.specs.Marks.{size_t}
 use Rattle.walks.specs.PartialSort.{set_node}
@@ -14,10 +13,9 @@ use Rattle.plan_context.specs.Records.{plan_t, tree-held}
 use Rattle.partial_sort_by_number.specs.AtNumber.{Became}
 use Rattle.partial_sort_by_number.specs.ByNumber.{Sorting}
 use Rattle.arena.specs.declared.At.{At}
-use Rattle.call_parts.specs.declared.Called.{Called}
-use Rattle.call_parts.specs.declared.Called.TheVariants.{Done, NoRoom}
+use Rattle.call_parts.specs.declared.Stop.TheVariants.{Refused, NoRoom}
 use Rattle.call_answers.specs.Answers.{gives, rewritten}
-use Rattle.call_parts.specs.Calls.{CalledAs, short_of, Formed}
+use Rattle.call_parts.specs.Calls.{Called, CalledAs, short_of, Formed}
 use Rattle.call_parts.specs.PartialSorts.{plan_size}
 
 set_size : (n : ℕ) (p : Op) (f : Plan) → size (set_node n p f) ≡ size f
@@ -36,7 +34,7 @@ module _ (m : List ℕ) (u h : ℕ) (p : Formed m u h) (few : u ≤ 126) (m' : L
   same_tree = tree-held m m' h k
 
   -- too little room: then the arena is not a full one
-  pub partial_no_room : (n : ℕ) (out : List ℕ) → length m' / slot_size < u + i → CalledAs NoRoom (rewritten (partially_sorted n (plan_t (tree_of m h)))) out out
+  pub partial_no_room : (n : ℕ) (out : List ℕ) → length m' / slot_size < u + i → CalledAs (Err NoRoom) (rewritten (partially_sorted n (plan_t (tree_of m h)))) out out
       (short_of m)
   partial_no_room n out g = let s = p.size in let q = ap size_t same_tree in (refl, omega arith)
 
@@ -44,11 +42,11 @@ module _ (m : List ℕ) (u h : ℕ) (p : Formed m u h) (few : u ≤ 126) (m' : L
   partial_asks g = let s = p.size in let q = ap size_t same_tree in record { arena = a; here = p.here; room = omega arith; small = omega arith }
 
   module _ (n : ℕ) (out : List ℕ) where
-    pub partial_refuses : (x : Refusal) → partially_sorted n (plan_t (tree_of m' h)) ≡ refused x → (j : ℕ) → j ≡ number_of x
-        → CalledAs (Done j false) (rewritten (partially_sorted n (plan_t (tree_of m h)))) out out (short_of m)
-    partial_refuses x e j q =
-        subst (λ R. CalledAs (Done j false) R out out (short_of m)) (sym (ap rewritten (ap (λ t. partially_sorted n (plan_t t)) (sym same_tree) ∙ e)))
-        (q, refl, refl)
+    pub partial_refuses : (x : Refusal) → partially_sorted n (plan_t (tree_of m' h)) ≡ refused x
+        → CalledAs (Err (Refused x)) (rewritten (partially_sorted n (plan_t (tree_of m h)))) out out (short_of m)
+    partial_refuses x e =
+        subst (λ R. CalledAs (Err (Refused x)) R out out (short_of m)) (sym (ap rewritten (ap (λ t. partially_sorted n (plan_t t)) (sym same_tree) ∙ e)))
+        (refl, refl, refl)
 
     module _ (m'' : List ℕ) (b : At) (d : Became m' u m'' h n b) where
       -- as many nodes as before

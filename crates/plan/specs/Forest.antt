@@ -1,5 +1,5 @@
 -- Trees of any nodes, as forests: first child, next sibling. These are definitions.
-use Rattle.std.specs.Prelude.{Bool, true, false, List, [], ◌∷◌, ◌++◌, ℕ, zero, suc, ◌+◌}
+use Rattle.std.specs.Prelude.{List, [], ◌∷◌, ◌++◌, ℕ, suc, ◌+◌}
 
 -- Nothing; or a node, the forest of its children, and the trees to its right. A plan is a forest of one root
 pub data Forest (A : Type 0) : Type 0 where

@@ -1,5 +1,5 @@
 -- Document 01's numbers for kinds, join types, distributions, no fetch and refusals. These are definitions.
-use Rattle.std.specs.Prelude.{List, [], ◌∷◌, ℕ, zero, suc, get_or}
+use Rattle.std.specs.Prelude.{List, [], ◌∷◌, ℕ, get_or, ⊤, Result, Ok, Err}
 use Rattle.plan.specs.Op.{Op, kind}
 use Rattle.plan.specs.declared.Kind.{Kind}
 use Rattle.plan.specs.declared.Kind.TheVariants.{Source, Filter, Projection, Union, Repartition, Coalesce, Sort, Merge, GlobalLimit, LocalLimit, SortMergeJoin, HashJoin, OutputRequirement, PartialSort, Aggregate}
@@ -8,7 +8,7 @@ use Rattle.plan.specs.declared.JoinType.TheVariants.{Inner, Left, Right, Full, L
 use Rattle.plan.specs.declared.Distribution.{Distribution}
 use Rattle.plan.specs.declared.Distribution.TheVariants.{Unspecified, Single, Keyed}
 use Rattle.plan.specs.declared.Refusal.{Refusal}
-use Rattle.plan.specs.declared.Refusal.TheVariants.{Accepted, Length, BlockSum, Header, KindOrChildren, RecordCount, Field, Column, Width, NoSuchNode, HasPartialSort, TooManyNodes, OutputTooShort, ConstantSort}
+use Rattle.plan.specs.declared.Refusal.TheVariants.{Length, BlockSum, Header, KindOrChildren, RecordCount, Field, Column, Width, NoSuchNode, HasPartialSort, TooManyNodes, OutputTooShort, ConstantSort}
 
 -- 01, 'Kinds': 1 source, .. 14 partial sort; 02, P1: 15 aggregate
 abbrev pub kind_number : Kind → ℕ
@@ -67,19 +67,30 @@ distribution_number Unspecified = 0
 distribution_number Single = 1
 distribution_number (Keyed s) = 2
 
+-- What a call that only passes or refuses answers
+abbrev pub Verdict : Type 0
+Verdict = Result ⊤ Refusal
+
+abbrev pub Accepted : Verdict
+Accepted = Ok tt
+
 -- 01, 'From the input' and 'From the state'; 22 isn't given any more (02, P2)
-abbrev pub number_of : Refusal → ℕ
-number_of Accepted = 0
-number_of Length = 1
-number_of BlockSum = 2
-number_of Header = 3
-number_of KindOrChildren = 4
-number_of RecordCount = 5
-number_of Field = 6
-number_of Column = 7
-number_of Width = 8
-number_of NoSuchNode = 20
-number_of HasPartialSort = 21
-number_of TooManyNodes = 23
-number_of OutputTooShort = 24
-number_of ConstantSort = 25
+abbrev pub refusal_number : Refusal → ℕ
+refusal_number Length = 1
+refusal_number BlockSum = 2
+refusal_number Header = 3
+refusal_number KindOrChildren = 4
+refusal_number RecordCount = 5
+refusal_number Field = 6
+refusal_number Column = 7
+refusal_number Width = 8
+refusal_number NoSuchNode = 20
+refusal_number HasPartialSort = 21
+refusal_number TooManyNodes = 23
+refusal_number OutputTooShort = 24
+refusal_number ConstantSort = 25
+
+-- The number of an answer: 0 for an accepted call, else the refusal's
+abbrev pub number_of : Verdict → ℕ
+number_of (Ok x) = 0
+number_of (Err r) = refusal_number r

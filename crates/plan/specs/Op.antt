@@ -1,12 +1,11 @@
 -- One node of a plan: its kind with the fields that document 01 gives that kind, and 02 an aggregate. These are definitions.
-use Rattle.std.specs.Prelude.{Bool, true, false, cond, List, [], ◌∷◌, ℕ, zero, suc}
+use Rattle.std.specs.Prelude.{Bool, true, false, cond, List, [], ◌∷◌, ℕ, zero, suc, Option}
 use Rattle.row_order.specs.Iso.{Key}
 use Rattle.plan.specs.Forest.{Forest}
 use Rattle.plan.specs.declared.Kind.{Kind}
 use Rattle.plan.specs.declared.Kind.TheVariants.{Source, Filter, Projection, Union, Repartition, Coalesce, Sort, Merge, GlobalLimit, LocalLimit, SortMergeJoin, HashJoin, OutputRequirement, PartialSort, Aggregate}
 use Rattle.plan.specs.declared.JoinType.{JoinType}
 use Rattle.plan.specs.declared.Distribution.{Distribution}
-use Rattle.plan.specs.declared.Fetch.{Fetch}
 
 -- A join key: the left column with its options, and the right column
 pub record On : Type 0 where
@@ -30,20 +29,22 @@ pub data Op : Type 0 where
   union : Op
   -- preserve, streams, hash (else round robin), hash keys
   repartition : Bool → ℕ → Bool → List Key → Op
-  coalesce : Fetch → Op
+  -- fetch
+  coalesce : Option ℕ → Op
   -- preserve, keys, fetch
-  sort_op : Bool → List Key → Fetch → Op
-  merge_op : List Key → Fetch → Op
+  sort_op : Bool → List Key → Option ℕ → Op
+  -- keys, fetch
+  merge_op : List Key → Option ℕ → Op
   -- skip, fetch, order note
-  global_limit : ℕ → Fetch → List Key → Op
+  global_limit : ℕ → Option ℕ → List Key → Op
   -- fetch, order note
-  local_limit : Fetch → List Key → Op
+  local_limit : Option ℕ → List Key → Op
   sort_merge_join : JoinType → List On → Op
   hash_join : JoinType → List On → Op
   -- keys, distribution, fetch
-  output_requirement : List Key → Distribution → Fetch → Op
+  output_requirement : List Key → Distribution → Option ℕ → Op
   -- preserve, keys, met prefix, fetch
-  partial_sort : Bool → List Key → ℕ → Fetch → Op
+  partial_sort : Bool → List Key → ℕ → Option ℕ → Op
   -- 02, P1: group columns, as keys with options 0; how many aggregate columns stand behind them
   aggregate : List Key → ℕ → Op
 

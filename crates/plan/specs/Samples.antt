@@ -1,5 +1,5 @@
 -- The keys and sources that small plans in examples are made of. These are definitions.
-use Rattle.std.specs.Prelude.{Bool, true, false, List, [], ◌∷◌, ℕ}
+use Rattle.std.specs.Prelude.{Bool, false, List, [], ◌∷◌, ℕ}
 use Rattle.row_order.specs.Iso.{Key}
 use Rattle.plan.specs.Op.{Op, source}
 

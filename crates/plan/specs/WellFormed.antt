@@ -1,16 +1,14 @@
 -- What makes a tree a plan: document 01's rules on fields, child counts, widths and columns, said of trees. These are definitions.
-use Rattle.std.specs.Prelude.{Bool, true, false, cond, not, ◌&&◌, ◌||◌, List, [], ◌∷◌, map, ℕ, zero, suc, ◌+◌, ◌/◌, ◌^◌, leb, ltb, eqb, length, get_or}
+use Rattle.std.specs.Prelude.{Bool, true, false, cond, not, ◌&&◌, ◌||◌, List, [], ◌∷◌, map, ℕ, zero, suc, ◌+◌, ◌/◌, ◌^◌, leb, ltb, eqb, length, get_or, Option, Some, None, is_some}
 use Rattle.std.specs.Int.Count.{ones}
 use Rattle.row_order.specs.Iso.{Key}
-use Rattle.plan.specs.Forest.{Forest, none, tree, roots, size}
+use Rattle.plan.specs.Forest.{none, tree, roots, size}
 use Rattle.plan.specs.Op.{On, Op, source, filter, projection, union, repartition, coalesce, sort_op, merge_op, global_limit, local_limit, sort_merge_join, hash_join, output_requirement, partial_sort, aggregate, Plan}
 use Rattle.plan.specs.Numbers.{no_fetch}
 use Rattle.plan.specs.declared.JoinType.{JoinType}
 use Rattle.plan.specs.declared.JoinType.TheVariants.{Inner, Left, Right, Full, LeftSemi, LeftAnti, RightSemi, RightAnti}
 use Rattle.plan.specs.declared.Distribution.{Distribution}
 use Rattle.plan.specs.declared.Distribution.TheVariants.{Unspecified, Single, Keyed}
-use Rattle.plan.specs.declared.Fetch.{Fetch}
-use Rattle.plan.specs.declared.Fetch.TheVariants.{Unlimited, AtMost}
 
 abbrev pub every : {A : Type 0} → (A → Bool) → List A → Bool
 every p [] = true
@@ -22,13 +20,9 @@ between low high n = leb low n && leb n high
 -- ---- 6: another field outside its rule
 
 -- A fetch is four bytes, and the largest number stands for none
-abbrev pub fetch_ok : Fetch → Bool
-fetch_ok Unlimited = true
-fetch_ok (AtMost n) = ltb n no_fetch
-
-abbrev pub some_fetch : Fetch → Bool
-some_fetch Unlimited = false
-some_fetch (AtMost n) = true
+abbrev pub fetch_ok : Option ℕ → Bool
+fetch_ok None = true
+fetch_ok (Some n) = ltb n no_fetch
 
 -- Key count 0-8; some kinds need a key
 abbrev pub few : {A : Type 0} → List A → Bool
@@ -57,7 +51,7 @@ fields_ok (coalesce f) = fetch_ok f
 fields_ok (sort_op p ks f) = some ks && fetch_ok f
 fields_ok (merge_op ks f) = some ks && fetch_ok f
 fields_ok (global_limit s f note) = ltb s (2 ^ 32) && (few note && fetch_ok f)
-fields_ok (local_limit f note) = some_fetch f && (few note && fetch_ok f)
+fields_ok (local_limit f note) = is_some f && (few note && fetch_ok f)
 fields_ok (sort_merge_join t on) = some on
 fields_ok (hash_join t on) = some on && every (λ k. plain k.key) on
 fields_ok (output_requirement ks d f) = few ks && (distribution_ok d && fetch_ok f)

@@ -1,8 +1,8 @@
-// The vocabulary of document 01: kinds, join types, distributions, fetches, and the refusals with their numbers.
+// The vocabulary of document 01: kinds, join types, distributions, and the refusals with their numbers.
 #![tactic(auto)]
 
 ghost use Rattle.std.specs.Prelude.{◌≡◌};
-ghost use Rattle.plan.specs.Numbers.{number_of};
+ghost use Rattle.plan.specs.Numbers.{number_of, refusal_number};
 
 #[derive(Clone, Copy)]
 pub enum Kind {
@@ -43,20 +43,13 @@ pub enum Distribution {
     Keyed(u32),
 }
 
-// How many rows each output stream of a node has at most: 'Fetch and skip cut each output stream'.
-#[derive(Clone, Copy)]
-pub enum Fetch {
-    Unlimited,
-    AtMost(u32),
-}
-
-// The number that stands for no fetch (Numbers, no_fetch).
+// A fetch, how many rows each output stream of a node has at most ('Fetch and skip cut each output stream'), is an Option of a number.
+// This is the number that stands for no fetch (Numbers, no_fetch).
 pub const NO_FETCH: u32 = 4294967295;
 
-// Why a call is refused, or that it is not.
+// Why a call is refused.
 #[derive(Clone, Copy)]
 pub enum Refusal {
-    Accepted,
     Length,
     BlockSum,
     Header,
@@ -72,12 +65,21 @@ pub enum Refusal {
     ConstantSort,
 }
 
-// The number that document 01 gives a refusal; 0 for an accepted call.
+// The number that document 01 gives a call: 0 for an accepted one.
+pub fn number_of(x: Result<(), Refusal>) -> u32
+    ensures { result ≡ number_of x }
+{
+    match x {
+        Ok(()) => 0,
+        Err(r) => number(r),
+    }
+}
+
+// The number that document 01 gives a refusal.
 pub fn number(r: Refusal) -> u32
-    ensures { result ≡ number_of r }
+    ensures { result ≡ refusal_number r }
 {
     match r {
-        Refusal::Accepted => 0,
         Refusal::Length => 1,
         Refusal::BlockSum => 2,
         Refusal::Header => 3,

@@ -17,9 +17,7 @@ fn fill(s: &[u8], c: usize, m: &mut [u8]) -> At
     let mut w = [0usize; 126];
     let mut t = 126;
     let mut u = 0;
-    let mut i = c;
-    while 0 < i {
-        let j = i - 1;
+    for j in (0..c).rev() {
         let at = plan_format::record_start(j);
         let e = at + RECORD;
         let f = t + s[at + 1] as usize;
@@ -27,7 +25,6 @@ fn fill(s: &[u8], c: usize, m: &mut [u8]) -> At
         t = f - 1;
         w[t] = 2 * u;
         u += 1;
-        i = j;
     }
     let root = w[t];
     At {
@@ -36,33 +33,14 @@ fn fill(s: &[u8], c: usize, m: &mut [u8]) -> At
     }
 }
 
-// What reading answers: the refusal, or how many slots are used and the handle of the file's tree.
-#[derive(Clone, Copy)]
-pub struct PlanRead {
-    pub refusal: Refusal,
-    pub used: usize,
-    pub root: usize,
-}
-
-// The plan file s into the memory m, which has room for a node of each record that its blocks can hold.
-pub fn read(s: &[u8], m: &mut [u8]) -> PlanRead
+// The plan file s into the memory m, which has room for a node of each record that its blocks can hold: how many slots are used, and the handle of the file's
+// tree.
+pub fn read(s: &[u8], m: &mut [u8]) -> Result<At, Refusal>
     requires { block_slots * block_count s.now ≤ length m.old }
     ensures { ReadAs s.now m.old m.new result }
 {
-    let x = plan_reader::refusal_of(s);
-    if plan::number(x) != 0 {
-        return PlanRead {
-            refusal: x,
-            used: 0,
-            root: 0,
-        };
-    }
+    plan_reader::refusal_of(s)?;
     let n = s.len() / 512;
     let c = block_passes::record_count(s, n);
-    let r = fill(s, c, m);
-    PlanRead {
-        refusal: x,
-        used: r.used,
-        root: r.root,
-    }
+    Ok(fill(s, c, m))
 }

@@ -1,11 +1,11 @@
 -- From the file to the arena, and from the arena to the answer of a call.
-use Rattle.std.specs.Prelude.{◌≡◌, refl, false, List, ℕ, ◌*◌, ◌≤◌, length}
-use Rattle.std.proofs.Common.{sym, ap, ◌∙◌, subst, arith, ne_eqb}
+use Rattle.std.specs.Prelude.{◌≡◌, refl, List, ℕ, ◌*◌, ◌≤◌, Err, length}
+use Rattle.std.proofs.Common.{sym, ap, ◌∙◌, subst, arith}
 use Rattle.plan.specs.Forest.{Forest, none, tree, size, map_f}
-use Rattle.plan.specs.Numbers.{number_of}
+use Rattle.plan.specs.Numbers.{Accepted}
 use Rattle.plan.specs.Op.{Plan}
 use Rattle.plan.specs.WellFormed.{well_formed}
-use Rattle.plan.specs.declared.Refusal.TheVariants.{Accepted}
+use Rattle.plan.specs.declared.Refusal.{Refusal}
 use Rattle.plan_format.specs.Blocks.{block_count}
 use Rattle.plan_format.specs.Reading.{refusal_of}
 use Rattle.plan_format.specs.Tree as file
@@ -22,17 +22,16 @@ use Rattle.step_ends.specs.Tidying.{full_slots}
 use Rattle.plan_context.specs.View.{tree_of}
 use Rattle.plan_context.specs.Records.{plan_t}
 use Rattle.settling.specs.Reading.{is_plan, loaded_all, plan_is}
-use Rattle.call_parts.specs.declared.Called.{Called}
-use Rattle.call_parts.specs.declared.Called.TheVariants.{Done}
+use Rattle.call_parts.specs.declared.Stop.TheVariants.{Refused}
 use Rattle.call_answers.specs.Answers.{Result, after_reading}
 use Rattle.call_parts.specs.PartialSorts.{plan_size}
-use Rattle.call_parts.specs.Calls.{CalledAs, Formed, Loads}
+use Rattle.call_parts.specs.Calls.{Called, CalledAs, Formed, Loads}
 
 -- a refused file, whatever was to be done with its plan
-pub file_refused : (g : Plan → Result) (s out : List ℕ) (n : ℕ) → n ≡ number_of (refusal_of s) → (n ≡ 0 → ⊥) → (short : ℕ)
-    → CalledAs (Done n false) (after_reading g (reading s)) out out short
+pub file_refused : (g : Plan → Result) (s out : List ℕ) (x : Refusal) → refusal_of s ≡ Err x → (short : ℕ)
+    → CalledAs (Err (Refused x)) (after_reading g (reading s)) out out short
 unfolding reading
-file_refused g s out n e z short = rw (ne_eqb (number_of (refusal_of s)) 0 (λ q. z (e ∙ q))) (e, refl, refl)
+file_refused g s out x e short = rw e (refl, refl, refl)
 
 -- an accepted one
 module _ (s m : List ℕ) (p : block_slots * block_count s ≤ length m) (by : AllBytes s) (e : refusal_of s ≡ Accepted) (m' : List ℕ)

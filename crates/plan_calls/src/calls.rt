@@ -11,13 +11,20 @@ ghost use Rattle.call_parts.specs.Calls.{CalledAs, short_of, push_short, Loads, 
 ghost use Rattle.plan_calls.specs.Results.{result_of};
 
 use crate::Call;
-use call_parts::{Called, check_in, write_out};
+use call_parts::{Stop, check_in, write_out};
 use partial_sort_calls::sort_partially;
 use push_calls::push_in;
 use walk_calls::walk_in;
 
 // The call on the plan that was read, the tree at h.
-fn perform(k: Call, m: &mut [u8], u: usize, h: usize, out: &mut [u8], c: &mut [u8]) -> Called
+fn perform(
+    k: Call,
+    m: &mut [u8],
+    u: usize,
+    h: usize,
+    out: &mut [u8],
+    c: &mut [u8],
+) -> Result<bool, Stop>
     requires { Loads m.old u h c.old }
     ensures { CalledAs result (result_of k (plan_t (tree_of m.old h))) out.old out.new (short_of m.old) }
 {
@@ -30,29 +37,25 @@ fn perform(k: Call, m: &mut [u8], u: usize, h: usize, out: &mut [u8], c: &mut [u
 }
 
 // The call on the plan file, in the arena m with the scratch c.
-pub fn call_in(k: Call, plan: &[u8], out: &mut [u8], m: &mut [u8], c: &mut [u8]) -> Called
+pub fn call_in(
+    k: Call,
+    plan: &[u8],
+    out: &mut [u8],
+    m: &mut [u8],
+    c: &mut [u8],
+) -> Result<bool, Stop>
     requires { Memory plan.now m.old c.old }
     ensures { CalledAs result (after_reading (result_of k) (reading plan.now)) out.old out.new (short_of m.old) }
 {
-    let a = plan_arena::read(plan, m);
-    let x = a.refusal;
-    let n = plan::number(x);
-    if n != 0 {
-        return Called::Done(n, false);
-    }
+    let a = plan_arena::read(plan, m)?;
     perform(k, m, a.used, a.root, out, c)
 }
 
 // Pushing on the plan file, in the arena m; the plan that it makes stands in the arena b.
-pub fn push_plan(plan: &[u8], out: &mut [u8], m: &mut [u8], b: &mut [u8]) -> Called
+pub fn push_plan(plan: &[u8], out: &mut [u8], m: &mut [u8], b: &mut [u8]) -> Result<bool, Stop>
     requires { block_slots * block_count plan.now ≤ length m.old }
     ensures { CalledAs result (rewrites pushed plan.now) out.old out.new (push_short b.old) }
 {
-    let a = plan_arena::read(plan, m);
-    let x = a.refusal;
-    let number = plan::number(x);
-    if number != 0 {
-        return Called::Done(number, false);
-    }
-    push_in(m, a.used, a.root, out, b)
+    let read = plan_arena::read(plan, m)?;
+    push_in(m, read.used, read.root, out, b)
 }

@@ -1,5 +1,5 @@
 -- Bits and bytes of single fields, there and back.
-use Rattle.std.specs.Prelude.{◌≡◌, refl, Bool, true, false, cond, ◌&&◌, ℕ, zero, suc, ◌+◌, ◌*◌, ◌<◌, leb, ltb, eqb}
+use Rattle.std.specs.Prelude.{◌≡◌, refl, Bool, true, false, cond, ◌&&◌, ℕ, zero, suc, ◌+◌, ◌*◌, ◌<◌, leb, ltb, eqb, Option, Some, None}
 use Rattle.std.proofs.Common.{sym, ap, ap₂, arith, eqb-true, ltb-true, leb-true, lt-ltb, ne_eqb}
 use Rattle.std.proofs.lemmas.Bool.{eqb-false}
 use Rattle.row_order.specs.Packed.{bit}
@@ -11,8 +11,6 @@ use Rattle.plan.specs.declared.Kind.{Kind}
 use Rattle.plan.specs.declared.Kind.TheVariants.{Source, Filter, Projection, Union, Repartition, Coalesce, Sort, Merge, GlobalLimit, LocalLimit, SortMergeJoin, HashJoin, OutputRequirement, PartialSort, Aggregate}
 use Rattle.plan.specs.declared.JoinType.{JoinType}
 use Rattle.plan.specs.declared.JoinType.TheVariants.{Inner, Left, Right, Full, LeftSemi, LeftAnti, RightSemi, RightAnti}
-use Rattle.plan.specs.declared.Fetch.{Fetch}
-use Rattle.plan.specs.declared.Fetch.TheVariants.{Unlimited, AtMost}
 use Rattle.plan_codec.specs.Decode.{fetch_of, key_of_bytes}
 use Rattle.plan_codec.specs.Encode.{marks_byte, fetch_number, options_byte}
 
@@ -129,21 +127,21 @@ bits_options c o h = row (λ o. one_if (bit o 0) + 2 * one_if (bit o 1)) (λ o. 
 pub fetch_back : (n : ℕ) → fetch_number (fetch_of n) ≡ n
 fetch_back n = go (eqb n no_fetch) refl
   where
-    go : (b : Bool) → eqb n no_fetch ≡ b → fetch_number (cond b Unlimited (AtMost n)) ≡ n
+    go : (b : Bool) → eqb n no_fetch ≡ b → fetch_number (cond b None (Some n)) ≡ n
     go true e = sym (eqb-true n no_fetch e)
     go false e = refl
 
-pub fetch_fits : (f : Fetch) → fetch_ok f ≡ true → fetch_number f < 4294967296
-fetch_fits Unlimited e = omega arith
-fetch_fits (AtMost n) e = omega (arith, ltb-true n no_fetch e)
+pub fetch_fits : (f : Option ℕ) → fetch_ok f ≡ true → fetch_number f < 4294967296
+fetch_fits None e = omega arith
+fetch_fits (Some n) e = omega (arith, ltb-true n no_fetch e)
 
-pub fetch_number_lem : (f : Fetch) → fetch_ok f ≡ true → fetch_of (fetch_number f) ≡ f
-fetch_number_lem Unlimited e = refl
-fetch_number_lem (AtMost n) e = let z : eqb n no_fetch ≡ false = ne_eqb n no_fetch (λ q. absurd (omega (arith, ltb-true n no_fetch e))) in rw z
+pub fetch_number_lem : (f : Option ℕ) → fetch_ok f ≡ true → fetch_of (fetch_number f) ≡ f
+fetch_number_lem None e = refl
+fetch_number_lem (Some n) e = let z : eqb n no_fetch ≡ false = ne_eqb n no_fetch (λ q. absurd (omega (arith, ltb-true n no_fetch e))) in rw z
 
 pub fetch_ok_lem : (n : ℕ) → n < 4294967296 → fetch_ok (fetch_of n) ≡ true
 fetch_ok_lem n h = go (eqb n no_fetch) refl
   where
-    go : (b : Bool) → eqb n no_fetch ≡ b → fetch_ok (cond b Unlimited (AtMost n)) ≡ true
+    go : (b : Bool) → eqb n no_fetch ≡ b → fetch_ok (cond b None (Some n)) ≡ true
     go true e = refl
     go false e = lt-ltb n no_fetch (let f = eqb-false n no_fetch e in omega arith)

@@ -1,5 +1,5 @@
 -- A record that obeys the rules of its kind is the record of its operator, and that operator's fields are fine.
-use Rattle.std.specs.Prelude.{◌≡◌, Bool, cond, not, ◌&&◌, ◌||◌, ltb, eqb, get_or, take}
+use Rattle.std.specs.Prelude.{◌≡◌, Bool, cond, not, ◌&&◌, ◌||◌, ltb, eqb, get_or, take, Option, Some, None, is_some}
 use Rattle.std.proofs.Math.Path.{refl}
 use Rattle.std.proofs.Common.{sym, ap, ap₂, ◌∙◌, length-take-le}
 use Rattle.std.proofs.Math.Bool.{true, false}
@@ -15,11 +15,9 @@ use Rattle.scan.specs.Below.{and_left, and_right, or_false}
 use Rattle.scan.specs.Bytes.{le32}
 use Rattle.plan.specs.Op.{kind}
 use Rattle.plan.specs.Numbers.{kind_number, join_number, join_type_of, distribution_number, no_fetch}
-use Rattle.plan.specs.WellFormed.{between, every, plain, few, some, some_fetch, distribution_ok, fetch_ok, fields_ok}
+use Rattle.plan.specs.WellFormed.{between, every, plain, few, some, distribution_ok, fetch_ok, fields_ok}
 use Rattle.plan.specs.declared.Kind.{Kind}
 use Rattle.plan.specs.declared.Kind.TheVariants.{Source, Filter, Projection, Union, Repartition, Coalesce, Sort, Merge, GlobalLimit, LocalLimit, SortMergeJoin, HashJoin, OutputRequirement, PartialSort, Aggregate}
-use Rattle.plan.specs.declared.Fetch.{Fetch}
-use Rattle.plan.specs.declared.Fetch.TheVariants.{Unlimited, AtMost}
 use Rattle.plan_format.specs.declared.Fields.{Fields}
 use Rattle.plan_format.specs.Blocks.{span}
 use Rattle.plan_format.specs.Fields.{fields_of}
@@ -46,7 +44,7 @@ clean f k x =
       preserve = f.preserve && x.preserve;
       hash = f.hash && x.hash;
       unbounded = f.unbounded && x.unbounded;
-      fetch = cond f.fetch x.fetch (AtMost 0);
+      fetch = cond f.fetch x.fetch (Some 0);
       skip = cond f.skip x.skip 0;
       keys = cond (f.needs_key || (f.hash || f.noted)) x.keys [];
       width = cond f.width x.width 0;
@@ -67,10 +65,10 @@ bit_used true m e = refl
 bit_used false true e = no_false e
 bit_used false false e = refl
 
-fetch_used : (b t : Bool) (φ : Fetch) → either b t (eqb (fetch_number φ) 0) ≡ true → cond b φ (AtMost 0) ≡ φ
+fetch_used : (b t : Bool) (φ : Option ℕ) → either b t (eqb (fetch_number φ) 0) ≡ true → cond b φ (Some 0) ≡ φ
 fetch_used true t φ e = refl
-fetch_used false t Unlimited e = no_false e
-fetch_used false t (AtMost n) e = ap AtMost (sym (eqb-true n 0 e))
+fetch_used false t None e = no_false e
+fetch_used false t (Some n) e = ap Some (sym (eqb-true n 0 e))
 
 no_keys : (ks : List Key) → eqb (length ks) 0 ≡ true → [] ≡ ks
 no_keys [] e = refl
@@ -162,9 +160,9 @@ few_are ks b e = both (leb 0 (length ks)) (leb (length ks) 8) (leb-zero (length 
 some_are : (n : ℕ) → leb n 8 && (leb 1 n || false) ≡ true → between 1 8 n ≡ true
 some_are n e = both (leb 1 n) (leb n 8) (used (leb 1 n) (and_right (leb n 8) (leb 1 n || false) e)) (and_left (leb n 8) (leb 1 n || false) e)
 
-limited : (φ : Fetch) → (not (eqb (fetch_number φ) no_fetch) || false) ≡ true → some_fetch φ ≡ true
-limited Unlimited e = no_false e
-limited (AtMost n) e = refl
+limited : (φ : Option ℕ) → (not (eqb (fetch_number φ) no_fetch) || false) ≡ true → is_some φ ≡ true
+limited None e = no_false e
+limited (Some n) e = refl
 
 -- a repartition's keys: those of a hash, none of a round robin
 hash_keys : (h : Bool) (ks : List Key) → leb (length ks) 8 && either h (leb 1 (length ks)) (eqb (length ks) 0) ≡ true → (h ≡ true → every plain ks ≡ true)

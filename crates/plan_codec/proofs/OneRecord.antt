@@ -1,14 +1,14 @@
 -- One record and one operator: each is read and written as the other, by the same rules.
-use Rattle.std.specs.Prelude.{◌≡◌, true, List, [], ◌∷◌, ℕ, zero, suc, ◌+◌, ◌≤◌, ◌<◌, leb, length, get_or, drop}
+use Rattle.std.specs.Prelude.{◌≡◌, true, List, [], ◌∷◌, ℕ, zero, suc, ◌+◌, ◌≤◌, ◌<◌, leb, length, get_or, drop, Err}
 use Rattle.std.proofs.Math.Path.{refl, sym, ap, ap₂}
 use Rattle.std.proofs.Common.{◌∙◌, arith, length-drop, get_or-drop, eqb-true, leb-true, ltb-true}
 use Rattle.std.proofs.Math.Bool.{cond}
 use Rattle.scan.specs.Below.{and_left, and_right}
 use Rattle.scan.specs.Bytes.{le32}
 use Rattle.plan.specs.Op.{Op, source, filter, projection, union, repartition, coalesce, sort_op, merge_op, global_limit, local_limit, sort_merge_join, hash_join, output_requirement, partial_sort, aggregate, kind}
-use Rattle.plan.specs.Numbers.{kind_number, kind_of}
+use Rattle.plan.specs.Numbers.{kind_number, kind_of, Accepted}
 use Rattle.plan.specs.WellFormed.{between, every, fields_ok, children_ok, width, union_ok, columns_ok}
-use Rattle.plan.specs.declared.Refusal.TheVariants.{Accepted, Field, Column, Width}
+use Rattle.plan.specs.declared.Refusal.TheVariants.{Field, Column, Width}
 use Rattle.plan_format.specs.Fields.{fields_of}
 use Rattle.plan_format.specs.Record.{kind_byte, children, fields, kind_ok, record_ok}
 use Rattle.plan_format.specs.Record.{children_ok as count_ok}
@@ -83,9 +83,9 @@ module _ (k : ℕ) (o : Op) (e : fields_ok o ≡ true) where
 
   -- the last pass at this record, over children of widths ws
   pub node_same : (ws : List ℕ) → node_refusal (encode k o) ws ≡ cond (union_ok o ws)
-      (cond (columns_ok o ws) (cond (leb (width o ws) 32) Accepted Width) Column) Field
+      (cond (columns_ok o ws) (cond (leb (width o ws) 32) Accepted (Err Width)) (Err Column)) (Err Field)
   unfolding node_refusal
-  node_same ws = λ i. cond (union_same k o ws i) (cond (columns_same k o ws e i) (cond (leb (width_same k o ws i) 32) Accepted Width) Column) Field
+  node_same ws = λ i. cond (union_same k o ws i) (cond (columns_same k o ws e i) (cond (leb (width_same k o ws i) 32) Accepted (Err Width)) (Err Column)) (Err Field)
 
 -- ---- record, operator, record
 

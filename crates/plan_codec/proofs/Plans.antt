@@ -1,5 +1,5 @@
 -- The records of a well-formed plan are fine, and a fine tree of records is that of a well-formed plan.
-use Rattle.std.specs.Prelude.{◌≡◌, refl, Bool, true, false, cond, ◌&&◌, leb, eqb, get_or}
+use Rattle.std.specs.Prelude.{◌≡◌, refl, Bool, true, false, cond, ◌&&◌, leb, eqb, get_or, Err}
 use Rattle.std.proofs.Common.{sym, ◌∙◌, arith}
 use Rattle.std.proofs.Math.Path.{ap, ap₂}
 use mathlib.Core.List.{List, [], ◌∷◌, ◌++◌, append-nil, map}
@@ -9,9 +9,9 @@ use borrow.Author.Tests.{eqb-true, eq-eqb, leb-true}
 use Rattle.scan.specs.Below.{and_left, and_right}
 use Rattle.plan.specs.Forest.{Forest, none, tree, roots, size, nodes, map_f}
 use Rattle.plan.specs.Op.{Op, Plan}
-use Rattle.plan.specs.Numbers.{number_of}
+use Rattle.plan.specs.Numbers.{Accepted, number_of}
 use Rattle.plan.specs.WellFormed.{every, fields_ok, children_ok, union_ok, columns_ok, width, widths, node_ok, nodes_ok, well_formed}
-use Rattle.plan.specs.declared.Refusal.TheVariants.{Accepted, Field, Column, Width}
+use Rattle.plan.specs.declared.Refusal.TheVariants.{Field, Column, Width}
 use Rattle.plan_format.specs.Record.{children, fields, kind_ok, record_ok}
 use Rattle.plan_format.specs.LastPass.{width_of, node_refusal}
 use Rattle.plan_format.specs.Reading.{finished, enough}
@@ -54,10 +54,10 @@ fine_node : (o : Op) (ws : List ℕ) → NodeFine o ws → node_ok o ws ≡ true
 fine_node o ws v = ap₂ ◌&&◌ (ap₂ ◌&&◌ v.fields v.counts) (ap₂ ◌&&◌ v.union (ap₂ ◌&&◌ v.columns v.narrow))
 
 -- the first refusal of three tests is none exactly where they all hold
-three : (a b c : Bool) → a ≡ true → b ≡ true → c ≡ true → number_of (cond a (cond b (cond c Accepted Width) Column) Field) ≡ 0
+three : (a b c : Bool) → a ≡ true → b ≡ true → c ≡ true → number_of (cond a (cond b (cond c Accepted (Err Width)) (Err Column)) (Err Field)) ≡ 0
 three a b c p q r = rw (p, q, r)
 
-three_hold : (a b c : Bool) → number_of (cond a (cond b (cond c Accepted Width) Column) Field) ≡ 0 → (a ≡ true) × (b ≡ true) × (c ≡ true)
+three_hold : (a b c : Bool) → number_of (cond a (cond b (cond c Accepted (Err Width)) (Err Column)) (Err Field)) ≡ 0 → (a ≡ true) × (b ≡ true) × (c ≡ true)
 three_hold true true true e = (refl, refl, refl)
 three_hold true true false e = absurd (omega arith)
 three_hold true false c e = absurd (omega arith)
@@ -229,7 +229,7 @@ module _ (a : List ℕ) (c r : Forest (List ℕ)) (v : Fit (tree a c r)) where
       let ws : List ℕ = widths (map_f decode c) in
       let z : number_of (node_refusal a (widths_f c)) ≡ 0 = eqb-true (number_of (node_refusal a (widths_f c))) 0
       (and_left pass (passes c && passes r) v.last) in
-      let q : number_of (cond (union_ok o ws) (cond (columns_ok o ws) (cond (leb (width o ws) 32) Accepted Width) Column) Field) ≡ 0 =
+      let q : number_of (cond (union_ok o ws) (cond (columns_ok o ws) (cond (leb (width o ws) 32) Accepted (Err Width)) (Err Column)) (Err Field)) ≡ 0 =
       ap number_of (sym (node_same k o fields-here ws) ∙ ap₂ node_refusal record_here (sym w)) ∙ z in
       let t = three_hold (union_ok o ws) (columns_ok o ws) (leb (width o ws) 32) q in
       record {

@@ -1,21 +1,20 @@
 -- Reading and writing are each other's inverse, and what is accepted is exactly what is well formed.
-use Rattle.std.specs.Prelude.{◌≡◌, refl, Bool, true, false, cond, ◌&&◌, List, ℕ, leb, eqb, length}
-use Rattle.std.proofs.Common.{sym, ap, ◌∙◌, arith, eqb-true, eq-eqb, le-leb}
+use Rattle.std.specs.Prelude.{◌≡◌, refl, Bool, true, false, ◌&&◌, List, ℕ, leb, eqb, length, Ok, Err}
+use Rattle.std.proofs.Common.{sym, ap, ◌∙◌, arith, eq-eqb, le-leb}
 use Rattle.scan.specs.Below.{and_right}
 use Rattle.plan.specs.Forest.{none, roots, size, nodes, map_f}
 use Rattle.plan.specs.Op.{Plan}
-use Rattle.plan.specs.Numbers.{number_of}
+use Rattle.plan.specs.Numbers.{Verdict, Accepted}
 use Rattle.plan.specs.WellFormed.{nodes_ok, well_formed}
-use Rattle.plan.specs.declared.Refusal.TheVariants.{Accepted}
 use Rattle.plan_format.specs.Blocks.{records}
 use Rattle.plan_format.specs.Reading.{refusal_of}
 use Rattle.plan_format.specs.Writing.{file_of}
 use Rattle.plan_format.specs.Tree.{tree_of, file_of_tree}
 use Rattle.scan.specs.Bytes.{AllBytes}
-use Rattle.plan_format.specs.Passed.{accepted, passed_last}
+use Rattle.plan_format.specs.Passed.{passed_last}
 use Rattle.plan_roundtrip.proofs.Plans.{FineTree, tree_accepted, tree_back, accepted_tree, file_back}
 use Rattle.plan_codec.specs.Decode.{decode}
-use Rattle.plan_codec.specs.Reading.{PlanOrRefusal, refused, plan, plan_of, reading}
+use Rattle.plan_codec.specs.Reading.{PlanOrRefusal, refused, plan, plan_of, unless_refused, reading}
 use Rattle.plan_codec.specs.Writing.{file_of_plan}
 use Rattle.plan_codec.proofs.Bits.{both, no_false}
 use Rattle.plan_codec.proofs.Trees.{recorded, nodes-recorded, length_records, roots-map, last_tree}
@@ -37,11 +36,11 @@ record Read (s : List ℕ) (f : Plan) : Type 0 where
 
 read : (s : List ℕ) (f : Plan) → reading s ≡ plan f → Read s f
 unfolding reading is_plan plan_in_lem
-read s f e = go (eqb (number_of (refusal_of s)) 0) refl e
+read s f e = go (refusal_of s) refl e
   where
-    go : (b : Bool) → eqb (number_of (refusal_of s)) 0 ≡ b → cond b (plan (plan_of s)) (refused (refusal_of s)) ≡ plan f → Read s f
-    go true q e = record { fine = accepted (refusal_of s) (eqb-true (number_of (refusal_of s)) 0 q); same = ap plan_in_lem e }
-    go false q e = no_false (ap is_plan e)
+    go : (x : Verdict) → refusal_of s ≡ x → unless_refused x (plan_of s) ≡ plan f → Read s f
+    go (Ok x) q e = record { fine = q; same = ap plan_in_lem e }
+    go (Err r) q e = no_false (ap is_plan e)
 
 -- ---- the file of a plan
 

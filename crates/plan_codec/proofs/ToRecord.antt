@@ -1,5 +1,5 @@
 -- The record of an operator obeys the rules of its kind, and holds that operator.
-use Rattle.std.specs.Prelude.{◌≡◌, refl, Bool, true, false, cond, not, ◌&&◌, ◌||◌, List, [], ◌∷◌, map, ℕ, ◌+◌, ◌^◌, ◌≤◌, ◌<◌, leb, ltb, eqb, length, drop}
+use Rattle.std.specs.Prelude.{◌≡◌, refl, Bool, true, false, cond, not, ◌&&◌, ◌||◌, List, [], ◌∷◌, map, ℕ, ◌+◌, ◌^◌, ◌≤◌, ◌<◌, leb, ltb, eqb, length, drop, Option, Some, None, is_some}
 use Rattle.std.proofs.Common.{ap, ap₂, ◌∙◌, arith, eqb-true, leb-true, ltb-true, le-leb, ne_eqb}
 use Rattle.std.specs.Int.Count.{ones}
 use Rattle.std.proofs.lemmas.List.{length-map}
@@ -8,11 +8,9 @@ use Rattle.scan.specs.Below.{and_left, and_right, or_false}
 use Rattle.scan.specs.Bytes.{zeros, le32}
 use Rattle.plan.specs.Op.{On, Op, source, filter, projection, union, repartition, coalesce, sort_op, merge_op, global_limit, local_limit, sort_merge_join, hash_join, output_requirement, partial_sort, aggregate, kind}
 use Rattle.plan.specs.Numbers.{kind_number, join_number, distribution_number, no_fetch}
-use Rattle.plan.specs.WellFormed.{between, every, plain, few, some, some_fetch, distribution_ok, fetch_ok, fields_ok}
+use Rattle.plan.specs.WellFormed.{between, every, plain, few, some, distribution_ok, fetch_ok, fields_ok}
 use Rattle.plan.specs.declared.Distribution.{Distribution}
 use Rattle.plan.specs.declared.Distribution.TheVariants.{Unspecified, Single, Keyed}
-use Rattle.plan.specs.declared.Fetch.{Fetch}
-use Rattle.plan.specs.declared.Fetch.TheVariants.{Unlimited, AtMost}
 use Rattle.plan_format.specs.declared.Fields.{Fields}
 use Rattle.plan_format.specs.Fields.{fields_of}
 use Rattle.plan_format.specs.Record.{either}
@@ -49,9 +47,9 @@ hashed_plain : (h : Bool) (ks : List Key) → cond h (some ks && every plain ks)
 hashed_plain true ks e q = and_right (some ks) (every plain ks) e
 hashed_plain false ks e q = no_false q
 
-limited : (φ : Fetch) → some_fetch φ ≡ true → fetch_ok φ ≡ true → (not (eqb (fetch_number φ) no_fetch) || false) ≡ true
-limited Unlimited e h = no_false e
-limited (AtMost n) e h = let z : eqb n no_fetch ≡ false = ne_eqb n no_fetch (λ q. absurd (let l = ltb-true n no_fetch h in omega arith)) in rw z
+limited : (φ : Option ℕ) → is_some φ ≡ true → fetch_ok φ ≡ true → (not (eqb (fetch_number φ) no_fetch) || false) ≡ true
+limited None e h = no_false e
+limited (Some n) e h = let z : eqb n no_fetch ≡ false = ne_eqb n no_fetch (λ q. absurd (let l = ltb-true n no_fetch h in omega arith)) in rw z
 
 -- ---- kind 13: byte 14 and the set
 
@@ -223,13 +221,13 @@ rules_of k (global_limit s f note) e = record {
   rest = refl;
 }
 rules_of k (local_limit f note) e =
-    let b = and_right (some_fetch f) (few note && fetch_ok f) e in
+    let b = and_right (is_some f) (few note && fetch_ok f) e in
     record {
       streams = refl;
       preserve = refl;
       hash = refl;
       unbounded = refl;
-      fetch = limited f (and_left (some_fetch f) (few note && fetch_ok f) e)
+      fetch = limited f (and_left (is_some f) (few note && fetch_ok f) e)
           (and_right (few note) (fetch_ok f) b);
       skip = refl;
       count = free note (and_left (few note) (fetch_ok f) b);
@@ -405,7 +403,7 @@ fits_of k (global_limit s f note) e = record {
   tail = refl;
 }
 fits_of k (local_limit f note) e = record {
-  fetch = and_right (few note) (fetch_ok f) (and_right (some_fetch f) (few note && fetch_ok f) e);
+  fetch = and_right (few note) (fetch_ok f) (and_right (is_some f) (few note && fetch_ok f) e);
   skip = omega arith;
   tail = refl;
 }

@@ -1,14 +1,11 @@
 -- Trees of records and trees of operators: the same shape, the same widths, the same rules.
-use Rattle.std.specs.Prelude.{◌≡◌, refl, Bool, true, false, cond, ◌&&◌, List, [], ◌∷◌, ◌++◌, map, ℕ, zero, suc, ◌≤◌, leb, eqb, length, take}
+use Rattle.std.specs.Prelude.{◌≡◌, refl, Bool, true, ◌&&◌, List, [], ◌∷◌, ◌++◌, map, ℕ, zero, suc, ◌≤◌, leb, eqb, length, take, Ok, Err, is_ok}
 use Rattle.std.proofs.Common.{sym, ap, ap₂, ◌∙◌, append_assoc, arith, length-append, eqb-true, eq-eqb, le-leb}
-use Rattle.std.proofs.lemmas.Bool.{eqb-false}
 use Rattle.scan.specs.Below.{and_left, and_right}
 use Rattle.plan.specs.Forest.{Forest, none, tree, roots, size, nodes, map_f}
 use Rattle.plan.specs.Op.{Plan}
-use Rattle.plan.specs.Numbers.{number_of}
+use Rattle.plan.specs.Numbers.{Verdict, Accepted, number_of}
 use Rattle.plan.specs.WellFormed.{widths}
-use Rattle.plan.specs.declared.Refusal.{Refusal}
-use Rattle.plan.specs.declared.Refusal.TheVariants.{Accepted}
 use Rattle.plan_format.specs.Record.{children}
 use Rattle.plan_format.specs.LastPass.{node_refusal, and_then, last_pass}
 use Rattle.plan_format.specs.LastPass.{widths as stack}
@@ -18,7 +15,7 @@ use Rattle.plan_format.specs.Passed.{accepted}
 use Rattle.plan_roundtrip.proofs.Tree.{◌⊕◌, arity, widths_f, widths-take, build-nodes, roots-build, widths-build}
 use Rattle.plan_codec.specs.Encode.{encode}
 use Rattle.plan_codec.specs.Writing.{records_of}
-use Rattle.plan_codec.proofs.Bits.{both}
+use Rattle.plan_codec.proofs.Bits.{both, no_false}
 use Rattle.plan_codec.proofs.OneRecord.{encode-children}
 
 -- The tree of a plan's records
@@ -109,12 +106,9 @@ passes_join (suc n) (tree a c r) h k =
 found : (x : List ℕ) (l : List (List ℕ)) → take (children x) (stack l) ≡ widths_f (take_f (children x) (build l))
 found x l = ap (take (children x)) (widths-build l) ∙ sym (widths-take (children x) (build l))
 
-both-accepted : (a b : Refusal) → and_then a b ≡ Accepted → (a ≡ Accepted) × (b ≡ Accepted)
-both-accepted a b e = go (eqb (number_of a) 0) refl e
-  where
-    go : (t : Bool) → eqb (number_of a) 0 ≡ t → cond t b a ≡ Accepted → (a ≡ Accepted) × (b ≡ Accepted)
-    go true q e = (accepted a (eqb-true (number_of a) 0 q), e)
-    go false q e = absurd (eqb-false (number_of a) 0 q (ap number_of e))
+both-accepted : (a b : Verdict) → and_then a b ≡ Accepted → (a ≡ Accepted) × (b ≡ Accepted)
+both-accepted (Ok x) b e = (refl, e)
+both-accepted (Err r) b e = no_false (ap is_ok e)
 
 pub last_tree : (l : List (List ℕ)) → last_pass l ≡ Accepted → passes (build l) ≡ true
 last_tree [] e = refl

@@ -1,5 +1,5 @@
 -- From the 64 bytes of a record to an operator. These are definitions.
-use Rattle.std.specs.Prelude.{cond, List, [], ◌∷◌, ℕ, zero, suc, ◌-◌, eqb, length, get_or, take, drop}
+use Rattle.std.specs.Prelude.{cond, List, [], ◌∷◌, ℕ, zero, suc, ◌-◌, eqb, length, get_or, take, drop, Option, Some, None}
 use Rattle.row_order.specs.Iso.{Key}
 use Rattle.row_order.specs.Packed.{bit}
 use Rattle.scan.specs.Bytes.{part, le32}
@@ -9,13 +9,11 @@ use Rattle.plan.specs.declared.Kind.{Kind}
 use Rattle.plan.specs.declared.Kind.TheVariants.{Source, Filter, Projection, Union, Repartition, Coalesce, Sort, Merge, GlobalLimit, LocalLimit, SortMergeJoin, HashJoin, OutputRequirement, PartialSort, Aggregate}
 use Rattle.plan.specs.declared.Distribution.{Distribution}
 use Rattle.plan.specs.declared.Distribution.TheVariants.{Unspecified, Single, Keyed}
-use Rattle.plan.specs.declared.Fetch.{Fetch}
-use Rattle.plan.specs.declared.Fetch.TheVariants.{Unlimited, AtMost}
 use Rattle.plan_codec.specs.NodeRecord.{NodeRecord}
 
 -- "4-7 fetch, 4294967295 for none"
-abbrev pub fetch_of : ℕ → Fetch
-fetch_of n = cond (eqb n no_fetch) Unlimited (AtMost n)
+abbrev pub fetch_of : ℕ → Option ℕ
+fetch_of n = cond (eqb n no_fetch) None (Some n)
 
 -- "keys of two bytes, column and options (bit 0 descending, bit 1 nulls first)"
 abbrev pub key_of_bytes : ℕ → ℕ → Key

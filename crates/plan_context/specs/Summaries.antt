@@ -1,8 +1,7 @@
 -- The summary of a node's tree, from those of its children.
-use Rattle.std.specs.Prelude.{◌≡◌, refl, Bool, true, false, cond, not, ◌&&◌, ◌||◌, List, [], ◌∷◌, ℕ, zero, suc, ◌+◌, ◌-◌, ◌≤◌, ◌<◌, eqb, length, get_or, drop}
+use Rattle.std.specs.Prelude.{◌≡◌, refl, Bool, true, false, cond, not, ◌&&◌, ◌||◌, List, [], ◌∷◌, ℕ, zero, suc, ◌+◌, ◌-◌, ◌≤◌, ◌<◌, eqb, length, get_or, drop, None}
 use Rattle.std.proofs.Common.{sym, ap, ap₂, ◌∙◌, subst, arith, drop_of_length-le, drop-cons}
 use Rattle.plan.specs.Forest.{Forest, none, size}
-use Rattle.plan.specs.declared.Fetch.TheVariants.{Unlimited}
 use Rattle.plan.specs.Numbers.{no_fetch}
 use Rattle.plan_codec.specs.Decode.{decode, fetch_of}
 use Rattle.plan_codec.specs.Encode.{encode}
@@ -24,7 +23,7 @@ pub record SumsEach (c : Forest Marked) (s : Summary) : Type 0 where
   pub passes : s.passes ≡ check (strip c)
   pub endless : s.endless ≡ any_of (endlessEach (strip c))
   pub nodes : s.nodes ≡ size c
-  pub fetch : fetch_of s.fetch ≡ get_or (fetches (strip c)) 0 Unlimited
+  pub fetch : fetch_of s.fetch ≡ get_or (fetches (strip c)) 0 None
 
 -- Over no children
 abbrev pub of_none : Summary
@@ -95,10 +94,10 @@ own-sums r n w s c e q p =
       passes = ap₂ ◌&&◌ q p.passes;
       endless = ap₂ (λ x y. not x && y) (limit_is r n e) (ap₂ ◌||◌ (endless_is r n e) p.endless);
       nodes = omega arith;
-      fetch = pick (eqb (get_or r 0 0) 3) ∙ ap₂ (λ b f. cond b (get_or (fetches (strip c)) 0 Unlimited) f) (ap (λ k. eqb k 3) (code_byte r n e))
+      fetch = pick (eqb (get_or r 0 0) 3) ∙ ap₂ (λ b f. cond b (get_or (fetches (strip c)) 0 None) f) (ap (λ k. eqb k 3) (code_byte r n e))
           (fetch_is r n e);
     }
   where
-    pick : (b : Bool) → fetch_of (cond b s.fetch (fetch_in r)) ≡ cond b (get_or (fetches (strip c)) 0 Unlimited) (fetch_of (fetch_in r))
+    pick : (b : Bool) → fetch_of (cond b s.fetch (fetch_in r)) ≡ cond b (get_or (fetches (strip c)) 0 None) (fetch_of (fetch_in r))
     pick true = p.fetch
     pick false = refl

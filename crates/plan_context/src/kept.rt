@@ -8,7 +8,6 @@ ghost use Rattle.semantics.specs.Check.{check};
 ghost use Rattle.plan_context.specs.Records.{plan_t};
 ghost use Rattle.plan_context.specs.Storing.{summary_bytes};
 
-use plan::Fetch;
 use record_fields::fetch_from;
 use tree_summary::Summary;
 
@@ -59,7 +58,7 @@ pub fn summary(m: &[u8], h: usize) -> Summary
 }
 
 // Its fetch: for a projection its input's.
-pub fn fetch_at(m: &[u8], h: usize) -> Fetch
+pub fn fetch_at(m: &[u8], h: usize) -> Option<u32>
     requires { Here m.now h }
     ensures { result ≡ fetch_t (tree_of m.now h) }
 {

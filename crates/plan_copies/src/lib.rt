@@ -18,13 +18,11 @@ pub fn copy(a: &[u8], ua: usize, b: &mut [u8], v: usize, h: usize) -> At
     let n = child_count(a, i);
     let mut kids = [0usize; 8];
     let mut w = v;
-    let mut j = 0;
-    while j < n {
+    for j in 0..n {
         let k = child(a, i, j);
         let r = copy(a, ua, b, w, k);
         w = r.used;
         kids[j] = r.root;
-        j += 1;
     }
     put_known(b, w, record_at(a, i), &kids[..n], kept_at(a, i));
     At {

@@ -1,9 +1,8 @@
 -- The last pass over the records, from the last node to the first: unequal union, 7, 8 (document 01's order; reading 15). These are definitions.
-use Rattle.std.specs.Prelude.{Bool, cond, ◌&&◌, ◌||◌, not, List, [], ◌∷◌, ℕ, ◌+◌, ◌/◌, ◌^◌, leb, ltb, eqb, length, get_or, take, drop}
+use Rattle.std.specs.Prelude.{Bool, cond, ◌&&◌, ◌||◌, not, List, [], ◌∷◌, ℕ, ◌+◌, ◌/◌, ◌^◌, leb, ltb, eqb, length, get_or, take, drop, Ok, Err}
 use Rattle.scan.specs.Bytes.{all_below, part, le32}
-use Rattle.plan.specs.Numbers.{number_of}
-use Rattle.plan.specs.declared.Refusal.{Refusal}
-use Rattle.plan.specs.declared.Refusal.TheVariants.{Accepted, Field, Column, Width}
+use Rattle.plan.specs.Numbers.{Verdict, Accepted}
+use Rattle.plan.specs.declared.Refusal.TheVariants.{Field, Column, Width}
 use Rattle.plan_format.specs.declared.Fields.{Fields}
 use Rattle.plan_format.specs.Record.{kind_byte, children, fields}
 
@@ -63,13 +62,13 @@ columns_rule f r limit limit1 =
 
 -- ---- one node, over children of widths ws; 8: 'a node wider than 32 columns'
 
-unfoldable pub node_refusal : List ℕ → List ℕ → Refusal
+unfoldable pub node_refusal : List ℕ → List ℕ → Verdict
 node_refusal r ws =
     cond (union_ok r ws)
     (cond (columns_rule (fields r) r (column_limit (fields r) r ws) (get_or ws 1 0))
-    (cond (leb (width_of (fields r) r ws) 32) Accepted Width)
-    Column)
-    Field
+    (cond (leb (width_of (fields r) r ws) 32) Accepted (Err Width))
+    (Err Column))
+    (Err Field)
 
 -- ---- all nodes
 
@@ -79,9 +78,10 @@ widths [] = []
 widths (r ∷ l) = width_of (fields r) r (take (children r) (widths l)) ∷ drop (children r) (widths l)
 
 -- What is refused first: a, or b where a accepts
-abbrev pub and_then : Refusal → Refusal → Refusal
-and_then a b = cond (eqb (number_of a) 0) b a
+abbrev pub and_then : Verdict → Verdict → Verdict
+and_then (Ok x) b = b
+and_then (Err r) b = Err r
 
-abbrev pub last_pass : List (List ℕ) → Refusal
+abbrev pub last_pass : List (List ℕ) → Verdict
 last_pass [] = Accepted
 last_pass (r ∷ l) = and_then (last_pass l) (node_refusal r (take (children r) (widths l)))

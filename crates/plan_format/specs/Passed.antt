@@ -1,36 +1,38 @@
 -- What an accepted file has passed. The tests stand in Reading; here is what follows from them. Assumes nothing.
-use Rattle.std.specs.Prelude.{◌≡◌, refl, Bool, true, cond, ◌&&◌, not, List, ℕ, ◌+◌, ◌*◌, ◌-◌, ◌/◌, ◌%◌, ◌≤◌, leb, length, get_or}
+use Rattle.std.specs.Prelude.{◌≡◌, refl, Bool, true, cond, ◌&&◌, not, List, ℕ, ◌+◌, ◌*◌, ◌-◌, ◌/◌, ◌%◌, ◌≤◌, leb, length, get_or, Ok, Err}
 use Rattle.std.proofs.Common.{sym, ◌∙◌, arith}
 use Rattle.std.proofs.Math.Path.{ap}
 use Rattle.std.proofs.Math.Bool.{false}
-use Rattle.std.proofs.Math.Decide.{ℕ_discrete}
 use Rattle.std.proofs.Math.Dec.{eqb}
-use borrow.Author.Tests.{ne_eqb, leb-true, eqb-true, not-false}
+use borrow.Author.Tests.{leb-true, eqb-true, not-false}
 use Rattle.scan.specs.Below.{all_at, and_left, and_right, or_false}
 use Rattle.scan.specs.Bytes.{le16}
-use Rattle.plan.specs.Numbers.{number_of}
+use Rattle.plan.specs.Numbers.{Verdict, Accepted, refusal_number, number_of}
 use Rattle.plan.specs.declared.Refusal.{Refusal}
-use Rattle.plan.specs.declared.Refusal.TheVariants.{Accepted, Length, BlockSum, Header, KindOrChildren, RecordCount, Field, Column, Width}
+use Rattle.plan.specs.declared.Refusal.TheVariants.{Length, BlockSum, Header, KindOrChildren, RecordCount, Field, Column, Width}
 use Rattle.plan.specs.declared.Refusal.TheVariants.{NoSuchNode, HasPartialSort, TooManyNodes, OutputTooShort, ConstantSort}
 use Rattle.plan_format.specs.Blocks.{length_ok, records, block, block_count, record_count, count_ok, padding_ok, header_ok}
-use Rattle.plan_format.specs.LastPass.{last_pass}
+use Rattle.plan_format.specs.LastPass.{and_then, last_pass}
 use Rattle.plan_format.specs.Reading.{sums_ok, headers_ok, kinds_ok, tree_ok, records_ok, early_refusal, refusal_of}
 
-pub accepted : (x : Refusal) → number_of x ≡ 0 → x ≡ Accepted
-accepted Accepted e = refl
-accepted Length e = absurd (omega arith)
-accepted BlockSum e = absurd (omega arith)
-accepted Header e = absurd (omega arith)
-accepted KindOrChildren e = absurd (omega arith)
-accepted RecordCount e = absurd (omega arith)
-accepted Field e = absurd (omega arith)
-accepted Column e = absurd (omega arith)
-accepted Width e = absurd (omega arith)
-accepted NoSuchNode e = absurd (omega arith)
-accepted HasPartialSort e = absurd (omega arith)
-accepted TooManyNodes e = absurd (omega arith)
-accepted OutputTooShort e = absurd (omega arith)
-accepted ConstantSort e = absurd (omega arith)
+pub accepted : (x : Verdict) → number_of x ≡ 0 → x ≡ Accepted
+accepted (Ok x) e = refl
+accepted (Err Length) e = absurd (omega arith)
+accepted (Err BlockSum) e = absurd (omega arith)
+accepted (Err Header) e = absurd (omega arith)
+accepted (Err KindOrChildren) e = absurd (omega arith)
+accepted (Err RecordCount) e = absurd (omega arith)
+accepted (Err Field) e = absurd (omega arith)
+accepted (Err Column) e = absurd (omega arith)
+accepted (Err Width) e = absurd (omega arith)
+accepted (Err NoSuchNode) e = absurd (omega arith)
+accepted (Err HasPartialSort) e = absurd (omega arith)
+accepted (Err TooManyNodes) e = absurd (omega arith)
+accepted (Err OutputTooShort) e = absurd (omega arith)
+accepted (Err ConstantSort) e = absurd (omega arith)
+
+pub refused_some : (x : Refusal) → refusal_number x ≡ 0 → ⊥
+refused_some x z = let e : Err x ≡ Accepted = accepted (Err x) z in let y : ◌≡◌ {A = ℕ} 0 1 = cc in omega arith
 
 pub record Passed (s : List ℕ) : Type 0 where
   pub len : length_ok (length s) ≡ true
@@ -46,7 +48,7 @@ unfolding early_refusal
 passed-early s e = go (length_ok (length s)) (sums_ok s) (headers_ok s) (kinds_ok s) (tree_ok s) (records_ok s) refl refl refl refl refl refl e
   where
     go : (a b c d f g : Bool) → length_ok (length s) ≡ a → sums_ok s ≡ b → headers_ok s ≡ c → kinds_ok s ≡ d → tree_ok s ≡ f → records_ok s ≡ g
-        → number_of (cond a (cond b (cond c (cond d (cond f (cond g Accepted Field) RecordCount) KindOrChildren) Header) BlockSum) Length) ≡ 0 → Passed s
+        → number_of (cond a (cond b (cond c (cond d (cond f (cond g Accepted (Err Field)) (Err RecordCount)) (Err KindOrChildren)) (Err Header)) (Err BlockSum)) (Err Length)) ≡ 0 → Passed s
     go true true true true true true p q r t u v e = record { len = p; sums = q; heads = r; kinds = t; shape = u; fields = v }
     go true true true true true false p q r t u v e = absurd (omega arith)
     go true true true true false g p q r t u v e = absurd (omega arith)
@@ -56,16 +58,16 @@ passed-early s e = go (length_ok (length s)) (sums_ok s) (headers_ok s) (kinds_o
     go false b c d f g p q r t u v e = absurd (omega arith)
 
 module _ (s : List ℕ) (e : refusal_of s ≡ Accepted) where
-  early : number_of (early_refusal s) ≡ 0
+  early : early_refusal s ≡ Accepted
   unfolding refusal_of
-  early = go (ℕ_discrete (number_of (early_refusal s)) 0)
+  early = go (early_refusal s) refl e
     where
-      go : Dec (number_of (early_refusal s) ≡ 0) → number_of (early_refusal s) ≡ 0
-      go (yes h) = h
-      go (no f) = let z : eqb (number_of (early_refusal s)) 0 ≡ false = ne_eqb (number_of (early_refusal s)) 0 f in ap number_of (rw z at e)
+      go : (x : Verdict) → early_refusal s ≡ x → and_then x (last_pass (records s)) ≡ Accepted → early_refusal s ≡ Accepted
+      go (Ok x) q e = q
+      go (Err r) q e = q ∙ e
 
   pub passed : Passed s
-  passed = passed-early s early
+  passed = passed-early s (ap number_of early)
 
   pub passed_last : last_pass (records s) ≡ Accepted
   unfolding refusal_of

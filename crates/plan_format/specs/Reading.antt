@@ -1,9 +1,9 @@
 -- What is refused of a file, in document 01's order: '1; 2 over all blocks; 3 over all; then 4, 5, and 6's single-record rules, each over all records;
 -- then from the last node to the first: unequal union, 7, 8'. These are definitions.
-use Rattle.std.specs.Prelude.{Bool, true, cond, ◌&&◌, List, [], ◌∷◌, ℕ, ◌+◌, ◌-◌, leb, eqb, length}
+use Rattle.std.specs.Prelude.{Bool, true, cond, ◌&&◌, List, [], ◌∷◌, ℕ, ◌+◌, ◌-◌, leb, eqb, length, Err}
 use Rattle.scan.specs.Bytes.{all_below}
-use Rattle.plan.specs.declared.Refusal.{Refusal}
-use Rattle.plan.specs.declared.Refusal.TheVariants.{Accepted, Length, BlockSum, Header, KindOrChildren, RecordCount, Field}
+use Rattle.plan.specs.Numbers.{Verdict, Accepted}
+use Rattle.plan.specs.declared.Refusal.TheVariants.{Length, BlockSum, Header, KindOrChildren, RecordCount, Field}
 use Rattle.plan_format.specs.Record.{children, kind_ok, record_ok}
 use Rattle.plan_format.specs.Blocks.{length_ok, block_count, block, sum_ok, header_ok, record_count, record_at, span, records}
 use Rattle.plan_format.specs.LastPass.{and_then, last_pass}
@@ -43,20 +43,20 @@ unfoldable pub records_ok : List ℕ → Bool
 records_ok s = all_below (λ i. record_ok (record_at s i)) (record_count s)
 
 -- The passes before the last one
-unfoldable pub early_refusal : List ℕ → Refusal
+unfoldable pub early_refusal : List ℕ → Verdict
 early_refusal s =
     cond (length_ok (length s))
     (cond (sums_ok s)
     (cond (headers_ok s)
     (cond (kinds_ok s)
     (cond (tree_ok s)
-    (cond (records_ok s) Accepted Field)
-    RecordCount)
-    KindOrChildren)
-    Header)
-    BlockSum)
-    Length
+    (cond (records_ok s) Accepted (Err Field))
+    (Err RecordCount))
+    (Err KindOrChildren))
+    (Err Header))
+    (Err BlockSum))
+    (Err Length)
 
 -- Refusals 1 to 8, or that the file is accepted
-unfoldable pub refusal_of : List ℕ → Refusal
+unfoldable pub refusal_of : List ℕ → Verdict
 refusal_of s = and_then (early_refusal s) (last_pass (records s))

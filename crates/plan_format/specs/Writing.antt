@@ -1,8 +1,8 @@
 -- The file of a list of records, and what the writer leaves in the lent output. These are definitions; the sentences are document 01's.
-use Rattle.std.specs.Prelude.{Bool, cond, List, [], ◌∷◌, ◌++◌, ℕ, zero, suc, ◌+◌, ◌*◌, ◌-◌, ◌/◌, ◌%◌, ltb, length, drop, replicate}
+use Rattle.std.specs.Prelude.{Bool, cond, List, [], ◌∷◌, ◌++◌, ℕ, zero, suc, ◌+◌, ◌*◌, ◌-◌, ◌/◌, ◌%◌, ltb, length, drop, replicate, Err}
 use Rattle.scan.specs.Bytes.{total, part}
-use Rattle.plan.specs.declared.Refusal.{Refusal}
-use Rattle.plan.specs.declared.Refusal.TheVariants.{Accepted, OutputTooShort}
+use Rattle.plan.specs.Numbers.{Verdict, Accepted}
+use Rattle.plan.specs.declared.Refusal.TheVariants.{OutputTooShort}
 
 -- 'multi-byte fields little-endian': a number in four bytes
 abbrev pub four_bytes : ℕ → List ℕ
@@ -48,8 +48,8 @@ file_of l = file_of_bytes (joined l)
 abbrev pub too_short : List ℕ → List ℕ → Bool
 too_short rs out = ltb (length out) (blocks_for (length rs) * 512)
 
-abbrev pub write_refusal : List ℕ → List ℕ → Refusal
-write_refusal rs out = cond (too_short rs out) OutputTooShort Accepted
+abbrev pub write_refusal : List ℕ → List ℕ → Verdict
+write_refusal rs out = cond (too_short rs out) (Err OutputTooShort) Accepted
 
 -- The output after a call: the file over its start, and 'bytes past the file stay'; all of it stays where the file does not fit
 unfoldable pub written : List ℕ → List ℕ → List ℕ

@@ -34,7 +34,7 @@ pub struct Fields {
     pub columns: bool,
 }
 
-// The fields of a record whose kind has the number k.
+// The fields of a record whose kind has the number k. By the number, as the definition is: a record is read before refusal 4 has said that it has a kind.
 pub fn fields_of(k: u8) -> Fields
     ensures { result ≡ fields_of k }
 {

@@ -4,8 +4,7 @@ use Rattle.std.proofs.Common.{sym, ap, ap₂, ◌∙◌, append_assoc, append-ni
 use Rattle.scan.specs.Bytes.{part}
 use Rattle.scan.specs.ByteLaws.{cut}
 use Rattle.scan.specs.Parts.{at_part}
-use Rattle.plan.specs.Numbers.{number_of}
-use Rattle.plan.specs.declared.Refusal.TheVariants.{Accepted}
+use Rattle.plan.specs.Numbers.{Accepted, number_of}
 use Rattle.plan_format.specs.Record.{children}
 use Rattle.plan_format.specs.Blocks.{record_count}
 use Rattle.plan_format.specs.Reading.{refusal_of}

@@ -19,16 +19,11 @@ fn risen(left: &[u8], depth: usize) -> usize
     ensures { (result ≤ depth) × (pending left.now result ≡ up (pending left.now depth)) }
 {
     let mut d = depth;
+    // A while, since how far it climbs no count says before.
     while 0 < d && left[d] == 0 {
         d -= 1;
     }
     d
-}
-
-fn one_less(n: u8) -> u8
-    ensures { result ≡ n - 1 }
-{
-    if 0 < n { n - 1 } else { 0 }
 }
 
 // The depth of the node that comes after one with so many children; `left` has how many are to come at each depth.
@@ -36,7 +31,7 @@ fn next_depth(left: &mut [u8], depth: usize, children: u8) -> usize
     requires { depth + 1 < length left.old }
     ensures { (result ≤ depth + 1) × (pending left.new result ≡ after (pending left.old depth) children) }
 {
-    left[depth] = one_less(left[depth]);
+    left[depth] = left[depth].saturating_sub(1);
     if 0 < children {
         left[depth + 1] = children;
         return depth + 1;
@@ -52,13 +47,11 @@ fn put_lines(out: &mut [u8], at: usize, m: &[u8], u: usize) -> usize
     let mut left = [0u8; 128];
     let mut depth = 0;
     let mut e = at;
-    let mut i = 0;
-    while i < u {
+    for i in 0..u {
         let a = (u - 1 - i) * SLOT;
         let z = a + SLOT;
         e = put_line(out, e, &m[a..z], i, depth);
         depth = next_depth(&mut left, depth, m[a + 1]);
-        i += 1;
     }
     e
 }
@@ -86,15 +79,13 @@ fn show_in(plan: &[u8], m: &mut [u8], out: &mut [u8]) -> usize
     requires { (block_slots * block_count plan.now ≤ length m.old) × (36197 ≤ length out.old) }
     ensures { Put 36197 (shown plan.now m.new) 0 out.old result out.new }
 {
-    let a = plan_arena::read(plan, m);
-    let x = a.refusal;
-    let n = plan::number(x);
-    if n == 0 {
-        let u = a.used;
-        settle_all(m, u);
-        list(out, m, u)
-    } else {
-        refuse(out, n)
+    match plan_arena::read(plan, m) {
+        Ok(a) => {
+            let u = a.used;
+            settle_all(m, u);
+            list(out, m, u)
+        }
+        Err(x) => refuse(out, plan::number(x)),
     }
 }
 

@@ -18,16 +18,6 @@ pub struct Records {
     pub rules: bool,
 }
 
-// a - b, or 0 where b is more.
-fn minus(a: usize, b: usize) -> usize
-    ensures { result ≡ a - b }
-{
-    if a < b {
-        return 0;
-    }
-    a - b
-}
-
 // From the last record to the first: each takes its children from the finished trees and leaves one. No answer ends the pass, so that one loop gives all
 // three.
 fn records_of(s: &[u8], m: usize) -> Records
@@ -38,17 +28,14 @@ fn records_of(s: &[u8], m: usize) -> Records
     let mut enough = true;
     let mut rules = true;
     let mut have = 0;
-    let mut i = m;
-    while 0 < i {
-        let j = i - 1;
+    for j in (0..m).rev() {
         let at = plan_format::record_start(j);
         let e = at + 64;
         let k = s[at + 1] as usize;
         kinds = kinds & plan_rules::kind_ok(&s[at..e]);
         rules = rules & plan_rules::record_ok(&s[at..e]);
         enough = (k <= have) & enough;
-        have = minus(have, k) + 1;
-        i = j;
+        have = have.saturating_sub(k) + 1;
     }
     Records {
         kinds: kinds,
@@ -58,18 +45,18 @@ fn records_of(s: &[u8], m: usize) -> Records
 }
 
 // The first refusal of these passes, in document 01's order.
-pub fn early_refusal(s: &[u8]) -> Refusal
+pub fn early_refusal(s: &[u8]) -> Result<(), Refusal>
     ensures { result ≡ early_refusal s.now }
 {
     if !length_ok(s.len()) {
-        return Refusal::Length;
+        return Err(Refusal::Length);
     }
     let n = s.len() / 512;
     if !sums_ok(s, n) {
-        return Refusal::BlockSum;
+        return Err(Refusal::BlockSum);
     }
     if !headers_ok(s, n) {
-        return Refusal::Header;
+        return Err(Refusal::Header);
     }
     let m = record_count(s, n);
     let x = records_of(s, m);
@@ -77,13 +64,13 @@ pub fn early_refusal(s: &[u8]) -> Refusal
     let tree = x.tree;
     let rules = x.rules;
     if !kinds {
-        return Refusal::KindOrChildren;
+        return Err(Refusal::KindOrChildren);
     }
     if !tree {
-        return Refusal::RecordCount;
+        return Err(Refusal::RecordCount);
     }
     if !rules {
-        return Refusal::Field;
+        return Err(Refusal::Field);
     }
-    Refusal::Accepted
+    Ok(())
 }

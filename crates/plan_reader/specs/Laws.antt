@@ -1,16 +1,15 @@
 -- What the last pass and the whole reader use of the definitions. The widths of the finished trees stand on a stack.
-use Rattle.std.specs.Prelude.{◌≡◌, refl, Bool, true, false, cond, ◌&&◌, ◌||◌, List, ◌∷◌, ℕ, zero, suc, ◌+◌, ◌-◌, ◌≤◌, ◌<◌, leb, eqb, length, get_or, take, drop, set}
-use Rattle.std.proofs.Common.{sym, ap, ap₂, ◌∙◌, arith, leb-true, eqb-true, ne_eqb}
+use Rattle.std.specs.Prelude.{◌≡◌, refl, Bool, true, false, cond, ◌&&◌, ◌||◌, List, ◌∷◌, ℕ, zero, suc, ◌+◌, ◌-◌, ◌≤◌, ◌<◌, leb, eqb, length, get_or, take, drop, set, Err}
+use Rattle.std.proofs.Common.{sym, ap, ap₂, ◌∙◌, arith, leb-true, eqb-true}
 use Rattle.std.proofs.Math.Seq.{drop-length}
 use Rattle.scan.specs.Below.{all_at, and_left, and_right, or_false}
 use Rattle.scan.specs.ByteLaws.{cut}
-use Rattle.plan.specs.Numbers.{number_of}
+use Rattle.plan.specs.Numbers.{Verdict, Accepted, number_of}
 use Rattle.plan.specs.declared.Refusal.{Refusal}
-use Rattle.plan.specs.declared.Refusal.TheVariants.{Accepted, Field, Column, Width}
+use Rattle.plan.specs.declared.Refusal.TheVariants.{Field, Column, Width}
 use Rattle.plan_format.specs.declared.Fields.{Fields}
 use Rattle.plan_format.specs.Blocks.{span, record_at, record_count, record_start, records}
 use Rattle.plan_format.specs.LastPass.{union_ok, columns_rule, column_limit, width_of, node_refusal, widths, and_then, last_pass}
-use Rattle.plan_format.specs.Passed.{accepted}
 use Rattle.plan_format.specs.Reading.{children_at, tree_ok, records_ok, early_refusal, refusal_of}
 use Rattle.plan_format.specs.Record.{rules_ok, record_ok, head_ok, body_ok, key_slots_ok, tail_ok, key_count_ok, width_ok, byte14_ok, hashed, either, fields}
 use Rattle.plan_passes.specs.Stack.{child_byte, record_lent, child_byte_lem, rest, rest_back, Stack, stack_start, pushed, stack_more}
@@ -28,7 +27,7 @@ late_start s m w h l =
     let z : m - m ≡ 0 = omega arith in
     record { stack = stack_start s m w h l; are = ap (λ (n : ℕ). drop n w) (sym l) ∙ drop-length w ∙ rw z; fine = rw z }
 
-after_none : (x y : Refusal) → x ≡ Accepted → and_then x y ≡ y
+after_none : (x y : Verdict) → x ≡ Accepted → and_then x y ≡ y
 after_none x y e = rw e
 
 module _ (s : List ℕ) (m i t k : ℕ) (w : List ℕ) (z : 0 < i) (p : Late s m i t w) (q : k ≡ children_at s (i - 1)) where
@@ -50,19 +49,14 @@ module _ (s : List ℕ) (m i t k : ℕ) (w : List ℕ) (z : 0 < i) (p : Late s m
         fine = late_is ∙ n;
       }
 
-  pub late_fail : (number_of (node_refusal (record_at s (i - 1)) (take k (drop t w))) ≡ 0 → ⊥) → node_refusal (record_at s (i - 1)) (take k (drop t w))
-      ≡ last_pass (rest s m 0)
-  late_fail f = sym late_is ∙ down (i - 1) (let a = p.stack.low in omega arith) (λ g. f (sym (ap number_of late_is) ∙ g))
+  pub late_fail : (r : Refusal) → node_refusal (record_at s (i - 1)) (take k (drop t w)) ≡ Err r → Err r ≡ last_pass (rest s m 0)
+  late_fail r f = down (i - 1) (let a = p.stack.low in omega arith) (late_is ∙ f)
     where
-      after_some : (x y : Refusal) → (number_of x ≡ 0 → ⊥) → x ≡ and_then x y
-      after_some x y n = let e : eqb (number_of x) 0 ≡ false = ne_eqb (number_of x) 0 n in rw e
-
-      down : (j : ℕ) → j ≤ m → (number_of (last_pass (rest s m j)) ≡ 0 → ⊥) → last_pass (rest s m j) ≡ last_pass (rest s m 0)
-      down zero h n = refl
+      down : (j : ℕ) → j ≤ m → last_pass (rest s m j) ≡ Err r → Err r ≡ last_pass (rest s m 0)
+      down zero h n = sym n
       down (suc j) h n =
           let e : rest s m j ≡ record_at s j ∷ rest s m (suc j) = (let g : suc j - 1 ≡ j = omega arith in rw g at (rest_back s m (suc j) (omega arith) h)) in
-          let c : last_pass (rest s m (suc j)) ≡ last_pass (rest s m j) = after_some _ _ n ∙ sym (ap last_pass e) in
-          c ∙ down j (omega arith) (λ g. n (ap number_of c ∙ g))
+          down j (omega arith) (ap last_pass e ∙ rw n)
 
 pub late_end : (s : List ℕ) (m i t : ℕ) (w : List ℕ) → Late s m i t w → i ≤ 0 → Accepted ≡ last_pass (rest s m 0)
 late_end s m i t w p h = let e : i ≡ 0 = omega arith in sym (rw e at p.fine)
@@ -72,7 +66,7 @@ pub node_width : (r ws : List ℕ) → number_of (node_refusal r ws) ≡ 0 → w
 unfolding node_refusal
 node_width r ws e = go (union_ok r ws) (columns_rule (fields r) r (column_limit (fields r) r ws) (get_or ws 1 0)) (leb (width_of (fields r) r ws) 32) refl e
   where
-    go : (a b c : Bool) → leb (width_of (fields r) r ws) 32 ≡ c → number_of (cond a (cond b (cond c Accepted Width) Column) Field) ≡ 0
+    go : (a b c : Bool) → leb (width_of (fields r) r ws) 32 ≡ c → number_of (cond a (cond b (cond c Accepted (Err Width)) (Err Column)) (Err Field)) ≡ 0
         → width_of (fields r) r ws ≤ 32
     go true true true q e = leb-true (width_of (fields r) r ws) 32 q
     go true true false q e = absurd (omega arith)
@@ -110,27 +104,27 @@ module _ (s : List ℕ) (m i t : ℕ) (w : List ℕ) (x : Seen) (e : m ≡ recor
   seen : Saw (record_at s (i - 1)) (take (child_byte s a) (drop t w)) x
   seen = rw (record_lent s (i - 1) a g, cut w t (child_byte s a)) at h
 
-  pub visit_fail : (number_of x.refusal ≡ 0 → ⊥) → x.refusal ≡ last_pass (span (record_at s) 0 (record_count s))
-  visit_fail f =
+  pub visit_fail : (r : Refusal) → x.refusal ≡ Err r → Err r ≡ last_pass (span (record_at s) 0 (record_count s))
+  visit_fail r f =
       let c : m - 0 ≡ record_count s = omega arith in
-      seen.is ∙ late_fail s m i t (child_byte s a) w z p (child_byte_lem s (i - 1) a g) (λ y. f (ap number_of seen.is ∙ y))
+      late_fail s m i t (child_byte s a) w z p (child_byte_lem s (i - 1) a g) r (sym seen.is ∙ f)
       ∙ ap (λ (n : ℕ). last_pass (span (record_at s) 0 n)) c
 
-  pub visit_narrow : number_of x.refusal ≡ 0 → x.width ≤ 32
-  visit_narrow n = let w = h.wide in let l = node_width _ _ (sym (ap number_of h.is) ∙ n) in omega arith
+  pub visit_narrow : x.refusal ≡ Accepted → x.width ≤ 32
+  visit_narrow n = let w = h.wide in let l = node_width _ _ (ap number_of (sym h.is ∙ n)) in omega arith
 
-  pub visit_more : tree_ok s ≡ true → number_of x.refusal ≡ 0 → Late s m (i - 1) (t + child_byte s a - 1) (set w (t + child_byte s a - 1) x.width)
-  visit_more o n = late_more s m i t (child_byte s a) w z p (child_byte_lem s (i - 1) a g) x.width e o (sym seen.is ∙ accepted x.refusal n) seen.wide
+  pub visit_more : tree_ok s ≡ true → x.refusal ≡ Accepted → Late s m (i - 1) (t + child_byte s a - 1) (set w (t + child_byte s a - 1) x.width)
+  visit_more o n = late_more s m i t (child_byte s a) w z p (child_byte_lem s (i - 1) a g) x.width e o (sym seen.is ∙ n) seen.wide
 
 pub visit_end : (s : List ℕ) (m i t : ℕ) (w : List ℕ) → m ≡ record_count s → Late s m i t w → i ≤ 0
     → Accepted ≡ last_pass (span (record_at s) 0 (record_count s))
 visit_end s m i t w e p h = let c : m - 0 ≡ record_count s = omega arith in late_end s m i t w p h ∙ ap (λ (n : ℕ). last_pass (span (record_at s) 0 n)) c
 
 -- the whole reader: the early passes, then the last one
-pub first_stop : (s : List ℕ) (x : Refusal) → x ≡ early_refusal s → (number_of x ≡ 0 → ⊥) → x ≡ refusal_of s
+pub first_stop : (s : List ℕ) (r : Refusal) → early_refusal s ≡ Err r → Err r ≡ refusal_of s
 unfolding refusal_of
-first_stop s x e f = let z : eqb (number_of (early_refusal s)) 0 ≡ false = ne_eqb (number_of (early_refusal s)) 0 (λ g. f (ap number_of e ∙ g)) in rw z e
+first_stop s r e = rw e
 
-pub first_on : (s : List ℕ) (x : Refusal) → number_of (early_refusal s) ≡ 0 → x ≡ last_pass (records s) → x ≡ refusal_of s
+pub first_on : (s : List ℕ) (x : Verdict) → early_refusal s ≡ Accepted → x ≡ last_pass (records s) → x ≡ refusal_of s
 unfolding refusal_of
 first_on s x f e = rw f e

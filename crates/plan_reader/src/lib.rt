@@ -16,12 +16,10 @@ fn same_widths(ws: &[u8]) -> bool
     ensures { result ≡ same_widths ws.now }
 {
     let x = at_or_zero(ws, 0);
-    let mut i = 0;
-    while i < ws.len() {
-        if ws[i] != x {
+    for w in ws {
+        if *w != x {
             return false;
         }
-        i += 1;
     }
     true
 }
@@ -55,6 +53,7 @@ fn width_of(f: Fields, r: &[u8], ws: &[u8]) -> usize
     a as usize
 }
 
+// By the number, as the definition is: it speaks of any record.
 fn union_ok(r: &[u8], ws: &[u8]) -> bool
     requires { length r.now ≡ 64 }
     ensures { result ≡ union_ok r.now ws.now }
@@ -66,28 +65,28 @@ fn union_ok(r: &[u8], ws: &[u8]) -> bool
 // What the last pass finds at a node: its refusal and its width. The width stands there for a refused node too, and may then be more than 32.
 #[derive(Clone, Copy)]
 pub struct Seen {
-    pub refusal: Refusal,
+    pub refusal: Result<(), Refusal>,
     pub width: usize,
 }
 
 // f: the fields of the kind of r; width: its own.
-fn node_refusal(f: Fields, width: usize, r: &[u8], ws: &[u8]) -> Refusal
+fn node_refusal(f: Fields, width: usize, r: &[u8], ws: &[u8]) -> Result<(), Refusal>
     requires { ((length r.now ≡ 64) × (get_or r.now 12 0 ≤ 8) × (get_or r.now 13 0 ≤ 32)) × (f ≡ fields r.now)
         × (width ≡ width_of f r.now ws.now) }
     ensures { result ≡ node_refusal r.now ws.now }
 {
     if !union_ok(r, ws) {
-        return Refusal::Field;
+        return Err(Refusal::Field);
     }
     let limit = column_limit(f, r, ws);
     let limit1 = at_or_zero(ws, 1);
     if !columns_rule(f, r, limit, limit1) {
-        return Refusal::Column;
+        return Err(Refusal::Column);
     }
     if 32 < width {
-        return Refusal::Width;
+        return Err(Refusal::Width);
     }
-    Refusal::Accepted
+    Ok(())
 }
 
 fn visit(r: &[u8], ws: &[u8]) -> Seen
@@ -105,38 +104,29 @@ fn visit(r: &[u8], ws: &[u8]) -> Seen
 }
 
 // The widths of the finished trees are a stack, its top at t: each record takes its children's and leaves its own.
-fn last_pass(s: &[u8], m: usize) -> Refusal
+fn last_pass(s: &[u8], m: usize) -> Result<(), Refusal>
     requires { ((m ≡ record_count s.now) × (m ≤ 7 * block_count s.now) × (m ≤ 126)) × (tree_ok s.now ≡ true) × (records_ok s.now ≡ true) }
     ensures { result ≡ last_pass (records s.now) }
 {
     let mut widths = [0u8; 126];
     let mut t = 126;
-    let mut i = m;
-    while 0 < i {
-        let j = i - 1;
+    for j in (0..m).rev() {
         let at = plan_format::record_start(j);
         let e = at + 64;
         let u = t + s[at + 1] as usize;
         let y = visit(&s[at..e], &widths[t..u]);
-        let x = y.refusal;
-        if plan::number(x) != 0 {
-            return x;
-        }
+        y.refusal?;
         t = u - 1;
         widths[t] = y.width as u8;
-        i = j;
     }
-    Refusal::Accepted
+    Ok(())
 }
 
 // The first refusal of a file, 1 to 8, in document 01's order.
-pub fn refusal_of(s: &[u8]) -> Refusal
+pub fn refusal_of(s: &[u8]) -> Result<(), Refusal>
     ensures { result ≡ refusal_of s.now }
 {
-    let x = plan_passes::early_refusal(s);
-    if plan::number(x) != 0 {
-        return x;
-    }
+    plan_passes::early_refusal(s)?;
     let n = s.len() / 512;
     let m = block_passes::record_count(s, n);
     last_pass(s, m)

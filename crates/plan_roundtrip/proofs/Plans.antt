@@ -3,7 +3,7 @@ use Rattle.std.specs.Prelude.{◌≡◌, refl, true, List, [], map, ℕ, eqb, le
 use Rattle.std.proofs.Common.{sym, ap, ◌∙◌, append-nil, eqb-true}
 use Rattle.scan.specs.Below.{and_left, and_right}
 use Rattle.plan.specs.Forest.{Forest, none, tree, roots, nodes}
-use Rattle.plan.specs.declared.Refusal.TheVariants.{Accepted}
+use Rattle.plan.specs.Numbers.{Accepted}
 use Rattle.plan_format.specs.Record.{children}
 use Rattle.plan_format.specs.Blocks.{records}
 use Rattle.plan_format.specs.Reading.{finished, enough, refusal_of}

@@ -1,5 +1,5 @@
 -- The accepted files are exactly the files of fine lists of records, and each such list has one file.
-use Rattle.std.specs.Prelude.{◌≡◌, Bool, true, cond, ltb, eqb, length, get_or, take, drop}
+use Rattle.std.specs.Prelude.{◌≡◌, Bool, true, cond, ltb, eqb, length, get_or, take, drop, Err}
 use Rattle.std.proofs.Math.Path.{refl, sym, ap, ap₂}
 use Rattle.std.proofs.Common.{◌∙◌, length-append, length-take, length-drop, take-add, take_at, drop-drop, eqb-true, eq-eqb, ltb-true, lt-ltb}
 use Rattle.std.proofs.Math.Bool.{◌&&◌}
@@ -10,8 +10,8 @@ use Rattle.scan.specs.Bytes.{all_below, part, AllBytes}
 use Rattle.scan.specs.Below.{all_at, all_intro, and_left, and_right}
 use Rattle.scan.specs.ByteLaws.{length_part}
 use Rattle.plan.specs.WellFormed.{every}
-use Rattle.plan.specs.declared.Refusal.{Refusal}
-use Rattle.plan.specs.declared.Refusal.TheVariants.{Accepted, Length, BlockSum, Header, KindOrChildren, RecordCount, Field}
+use Rattle.plan.specs.Numbers.{Verdict, Accepted}
+use Rattle.plan.specs.declared.Refusal.TheVariants.{Length, BlockSum, Header, KindOrChildren, RecordCount, Field}
 use Rattle.plan_format.specs.Passed.{length_facts, passed, passed_last}
 use Rattle.scan.specs.Parts.{at_part, part-part, part_right}
 use Rattle.plan_format.specs.Record.{children, kind_ok, record_ok}
@@ -203,8 +203,8 @@ module _ (s : List ℕ) (by : AllBytes s) (len : length_ok (length s) ≡ true) 
 
 -- ---- what is accepted
 
-tests : (a b c d f g : Bool) (x : Refusal) → a ≡ true → b ≡ true → c ≡ true → d ≡ true → f ≡ true → g ≡ true
-    → cond a (cond b (cond c (cond d (cond f (cond g x Field) RecordCount) KindOrChildren) Header) BlockSum) Length ≡ x
+tests : (a b c d f g : Bool) (x : Verdict) → a ≡ true → b ≡ true → c ≡ true → d ≡ true → f ≡ true → g ≡ true
+    → cond a (cond b (cond c (cond d (cond f (cond g x (Err Field)) (Err RecordCount)) (Err KindOrChildren)) (Err Header)) (Err BlockSum)) (Err Length) ≡ x
 tests a b c d f g x p q r t u v = rw (p, q, r, t, u, v)
 
 -- a fine list's file is accepted, and its records come back

@@ -9,6 +9,7 @@ ghost use Rattle.plan_format.specs.Record.{children_ok, kind_ok, rules_ok, recor
 use record_lists::{keys, tails};
 use record_parts::{bodies, heads};
 
+// By the number, as the definition is: k may be no kind's.
 fn children_ok(k: u8, n: u8) -> bool
     ensures { result ≡ children_ok k n }
 {

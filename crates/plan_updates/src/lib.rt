@@ -54,10 +54,8 @@ fn same_record(m: &[u8], i: usize, r: &[u8]) -> bool
     let a = read64(r);
     let b = read64(record_at(m, i));
     let mut all = true;
-    let mut j = 0;
-    while j < RECORD {
+    for j in 0..RECORD {
         all = all & (a[j] == b[j]);
-        j += 1;
     }
     all
 }
@@ -68,10 +66,8 @@ fn same_children(m: &[u8], i: usize, ks: &[usize]) -> bool
     ensures { result ≡ same ks.now (slot m.now i).kids }
 {
     let mut all = true;
-    let mut j = 0;
-    while j < ks.len() {
-        all = all & (ks[j] == child(m, i, j));
-        j += 1;
+    for (j, k) in ks.iter().enumerate() {
+        all = all & (*k == child(m, i, j));
     }
     all
 }

@@ -1,10 +1,9 @@
 -- From the arena to the answer of push.
-use Rattle.std.specs.Prelude.{◌≡◌, refl, Bool, true, false, cond, ◌&&◌, List, ℕ, ◌*◌, ◌/◌, ◌≤◌, ◌<◌, eqb, leb, length}
+use Rattle.std.specs.Prelude.{◌≡◌, refl, Bool, true, false, cond, ◌&&◌, List, ℕ, ◌*◌, ◌/◌, ◌≤◌, ◌<◌, eqb, leb, length, Ok, Err}
 use Rattle.std.proofs.Common.{sym, ap, ◌∙◌, subst, arith, leb-true}
 use Rattle.scan.specs.Below.{and_left, and_right}
 use Rattle.plan.specs.Forest.{Forest, none, roots, size}
 use Rattle.plan.specs.Op.{Plan}
-use Rattle.plan.specs.Numbers.{number_of}
 use Rattle.plan.specs.WellFormed.{nodes_ok, well_formed}
 use Rattle.plan.specs.declared.Refusal.{Refusal}
 use Rattle.plan.specs.declared.Refusal.TheVariants.{ConstantSort, HasPartialSort, TooManyNodes}
@@ -19,14 +18,12 @@ use Rattle.plan_context.specs.View.{tree_in, tree_of, Arena}
 use Rattle.plan_context.specs.Records.{plan_t, tree-held}
 use Rattle.sort_pushdown.specs.declared.Visit.{Visit}
 use Rattle.sort_pushdown.specs.Decisions.{visit_of}
-use Rattle.pushdown_sorts.specs.declared.Pushed.TheVariants as pushed
 use Rattle.pushdown_sorts.specs.declared.Walked.{Walked}
 use Rattle.pushdown_sorts.specs.Walk.{counted_t, decided, Ends, pushed_t, Pushes}
-use Rattle.call_parts.specs.declared.Called.{Called}
-use Rattle.call_parts.specs.declared.Called.TheVariants.{Done, NoRoom}
+use Rattle.call_parts.specs.declared.Stop.TheVariants.{Refused, NoRoom}
 use Rattle.call_answers.specs.Answers.{gives, refuses, rewritten}
 use Rattle.call_parts.specs.PartialSorts.{partial_t}
-use Rattle.call_parts.specs.Calls.{CalledAs, push_short, Formed, Pushable}
+use Rattle.call_parts.specs.Calls.{Called, CalledAs, push_short, Formed, Pushable}
 use Rattle.call_parts.specs.PartialSorts.{partial_plan, plan_size}
 
 -- ---- the walk of one tree is the walk of its plan
@@ -86,13 +83,13 @@ module _ (m : List ℕ) (u h n : ℕ) (p : Pushable m u h n) where
       }
 
   module _ (out : List ℕ) (v : Visit) (e : visit_of v ≡ at_root) (b b' : List ℕ) where
-    pub push_refused : (x : Refusal) → Ends (visit_of v) n (tree_in m (index h)) b 0 b' (pushed.Refused x) → (k : ℕ) → k ≡ number_of x → (short : ℕ)
-        → CalledAs (Done k false) (rewritten (pushed (plan_t (tree_of m h)))) out out short
-    push_refused x d k q short =
-        subst (λ R. CalledAs (Done k false) R out out short)
-        (sym (ap rewritten (push_stops (tree_of m h) p.whole n p.count x (ap (λ w. counted_t w n (tree_of m h)) (sym e) ∙ d)))) (q, refl, refl)
+    pub push_refused : (x : Refusal) → Ends (visit_of v) n (tree_in m (index h)) b 0 b' (Err x) → (short : ℕ)
+        → CalledAs (Err (Refused x)) (rewritten (pushed (plan_t (tree_of m h)))) out out short
+    push_refused x d short =
+        subst (λ R. CalledAs (Err (Refused x)) R out out short)
+        (sym (ap rewritten (push_stops (tree_of m h) p.whole n p.count x (ap (λ w. counted_t w n (tree_of m h)) (sym e) ∙ d)))) (refl, refl, refl)
 
-    module _ (x : Walked) (d : Ends (visit_of v) n (tree_in m (index h)) b 0 b' (pushed.Done x)) where
+    module _ (x : Walked) (d : Ends (visit_of v) n (tree_in m (index h)) b 0 b' (Ok x)) where
       answers : pushed (plan_t (tree_of m h)) ≡ answered (plan_t (tree_of b' x.root))
       answers =
           push_answers (tree_of m h) p.whole n p.count (pushed_t (visit_of v) (tree_in m (index h))) x.count
@@ -120,15 +117,15 @@ module _ (m : List ℕ) (u h : ℕ) (p : Formed m u h) (m' : List ℕ) (a : Aren
   pushable b e z n c =
       record { arena = a; here = p.here; plan = ap (λ t. well_formed (plan_t t)) same_tree ∙ p.plan; count = c; few = few n c; whole = sym e ∙ z }
 
-  pub partial_refused : (b : Bool) → b ≡ partial_t (tree_in m' (index h)) → b ≡ true → (n : ℕ) → n ≡ number_of HasPartialSort → (out : List ℕ) (short : ℕ)
-      → CalledAs (Done n false) (rewritten (pushed (plan_t (tree_of m h)))) out out short
-  partial_refused b e z n q out short =
-      subst (λ R. CalledAs (Done n false) R out out short) (sym (push_partial (tree_of m' h) (sym e ∙ z)) ∙ ap (λ t. rewritten (pushed (plan_t t))) same_tree)
-      (q, refl, refl)
+  pub partial_refused : (b : Bool) → b ≡ partial_t (tree_in m' (index h)) → b ≡ true → (out : List ℕ) (short : ℕ)
+      → CalledAs (Err (Refused HasPartialSort)) (rewritten (pushed (plan_t (tree_of m h)))) out out short
+  partial_refused b e z out short =
+      subst (λ R. CalledAs (Err (Refused HasPartialSort)) R out out short) (sym (push_partial (tree_of m' h) (sym e ∙ z)) ∙ ap (λ t. rewritten (pushed (plan_t t))) same_tree)
+      (refl, refl, refl)
 
   -- an arena of fewer slots is not one of three for each of 126 nodes
   pub push_no_room : (n : ℕ) → n ≡ size_t (tree_of m' h) → (b : List ℕ) → length b / slot_size < 3 * n → (out : List ℕ)
-      → CalledAs NoRoom (rewritten (pushed (plan_t (tree_of m h)))) out out (push_short b)
+      → CalledAs (Err NoRoom) (rewritten (pushed (plan_t (tree_of m h)))) out out (push_short b)
   push_no_room n c b g out = let f = few n c in (refl, omega arith)
 
   pub as_read : (r : Called) (out out' : List ℕ) → ((short : ℕ) → CalledAs r (rewritten (pushed (plan_t (tree_of m' h)))) out out' short) → (short : ℕ)

@@ -10,37 +10,41 @@ ghost use Rattle.walks.specs.Counted.{pushed};
 ghost use Rattle.call_answers.specs.Answers.{rewritten};
 
 use arena::SLOT;
-use call_parts::{Called, has_partial_sort, write_out};
+use call_parts::{Stop, has_partial_sort, write_out};
 use plan::Refusal;
 use plan_context::kept;
-use pushdown_sorts::Pushed;
 use pushdown_sorts::walking::push_at;
 use settling::settle_all;
 use sort_pushdown::Visit;
 
 // The tree at h of the arena in m, pushed into the arena in b, and its answer to the output. It has n nodes.
-fn push_to(m: &[u8], u: usize, h: usize, n: usize, out: &mut [u8], b: &mut [u8]) -> Called
+fn push_to(
+    m: &[u8],
+    u: usize,
+    h: usize,
+    n: usize,
+    out: &mut [u8],
+    b: &mut [u8],
+) -> Result<bool, Stop>
     requires { Pushable m.now u h n × (3 * n * slot_size ≤ length b.old) }
     ensures { (short : ℕ) → CalledAs result (rewritten (pushed (plan_t (tree_of m.now h)))) out.old out.new short }
 {
-    match push_at(m, u, h, b, 0, Visit::at_root(), n) {
-        Pushed::Refused(e) => Called::Done(plan::number(e), false),
-        Pushed::Done(x) => write_out(b, x.used, x.root, kept::nodes(b, x.root), out),
-    }
+    let x = push_at(m, u, h, b, 0, Visit::at_root(), n)?;
+    write_out(b, x.used, x.root, kept::nodes(b, x.root), out)
 }
 
 // The same with the arena b, where it has three slots for each node.
-pub fn push_in(m: &mut [u8], u: usize, h: usize, out: &mut [u8], b: &mut [u8]) -> Called
+pub fn push_in(m: &mut [u8], u: usize, h: usize, out: &mut [u8], b: &mut [u8]) -> Result<bool, Stop>
     requires { Formed m.old u h }
     ensures { CalledAs result (rewritten (pushed (plan_t (tree_of m.old h)))) out.old out.new (push_short b.old) }
 {
     settle_all(m, u);
     if has_partial_sort(m, u, h / 2) {
-        return Called::Done(plan::number(Refusal::HasPartialSort), false);
+        return Err(Stop::Refused(Refusal::HasPartialSort));
     }
     let n = kept::nodes(m, h);
     if b.len() / SLOT < 3 * n {
-        return Called::NoRoom;
+        return Err(Stop::NoRoom);
     }
     push_to(m, u, h, n, out, b)
 }

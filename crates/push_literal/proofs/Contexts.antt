@@ -1,13 +1,11 @@
 -- The contexts that the Rust's walk meets (PushdownSortsLiteral): a node that holds what the structural walk visits it with, over a plan whose
 -- nodes hold the default, but for the root's children.
-use Rattle.std.specs.Prelude.{◌≡◌, refl, Bool, false, cond, List, ℕ, suc, ◌+◌, get_or}
+use Rattle.std.specs.Prelude.{◌≡◌, refl, Bool, false, cond, List, ℕ, suc, ◌+◌, get_or, Option, None}
 use Rattle.std.proofs.Common.{ap, ap₂, ◌∙◌}
 use Rattle.row_order.specs.Iso.{Key}
 use Rattle.plan.specs.Forest.{Forest, none, tree, size}
 use Rattle.plan.specs.Op.{Op, Plan}
 use Rattle.plan.specs.declared.Distribution.{Distribution}
-use Rattle.plan.specs.declared.Fetch.{Fetch}
-use Rattle.plan.specs.declared.Fetch.TheVariants.{Unlimited}
 use Rattle.semantics.specs.Facts.{facts, is_nil}
 use Rattle.semantics.specs.Properties.{dist_of, fetches, fetch_op, rebuilt, wanted}
 use Rattle.walks.specs.Marks.{marked, node, plant, strip}
@@ -70,8 +68,8 @@ pub each_holding : (h : ℕ → ParentRequirements → ParentRequirements) (g : 
 each_holding h g none = refl
 each_holding h g (tree o c r) = ap (tree (record { op = o; mark = h 0 (g 0) }) (resting c)) (each_holding (λ i. h (suc i)) (λ i. g (suc i)) r)
 
-abbrev initially : (ℕ → List Key) → (ℕ → Distribution) → List Fetch → ℕ → ParentRequirements
-initially ws ds fs i = record { order = ws i; fetch = get_or fs i Unlimited; dist = ds i }
+abbrev initially : (ℕ → List Key) → (ℕ → Distribution) → List (Option ℕ) → ℕ → ParentRequirements
+initially ws ds fs i = record { order = ws i; fetch = get_or fs i None; dist = ds i }
 
 initial-holding : (ws : ℕ → List Key) (ds : ℕ → Distribution) (g : ℕ → ParentRequirements) (c : Plan) →
     initial_from ws ds (holding g c) ≡ holding (initially ws ds (fetches c)) c

@@ -1,5 +1,5 @@
 -- What one call of the Rust's helper (PushdownSortsLiteral) does, an equation for each branch: at a sort, and at another node.
-use Rattle.std.specs.Prelude.{◌≡◌, refl, Bool, true, false, cond, not, ◌&&◌, ◌||◌, List, [], ◌∷◌, ◌++◌, ℕ, ltb}
+use Rattle.std.specs.Prelude.{◌≡◌, refl, Bool, true, false, cond, not, ◌&&◌, ◌||◌, List, [], ◌∷◌, ◌++◌, ℕ, ltb, Option}
 use Rattle.std.proofs.Common.{sym, ap, ap₂, ◌∙◌}
 use Rattle.row_order.specs.Iso.{Key}
 use Rattle.row_order.proofs.Order.{no_bool}
@@ -7,7 +7,6 @@ use Rattle.plan.specs.Forest.{Forest, none, tree}
 use Rattle.plan.specs.Op.{merge_op, Op, Plan, sort_op}
 use Rattle.plan.specs.declared.Distribution.{Distribution}
 use Rattle.plan.specs.declared.Distribution.TheVariants.{Unspecified}
-use Rattle.plan.specs.declared.Fetch.{Fetch}
 use Rattle.semantics.specs.Facts.{compatible, Facts, facts, facts_op, is_nil, met, nf}
 use Rattle.semantics.specs.Properties.{dist_of, fetches, fetch_op, fresh_keys, rebuilt, wanted}
 use Rattle.walks.specs.Marks.{cover_with, node, strip}
@@ -43,13 +42,13 @@ either false false e = no_bool e
 
 -- ---- the new nodes over facts F, for an order that leaves a key
 
-abbrev pub new_sort_over : Facts → List Key → Fetch → Op
+abbrev pub new_sort_over : Facts → List Key → Option ℕ → Op
 new_sort_over F ks f = sort_op (ltb 1 F.streams) (fresh_keys F [] ks) f
 
-abbrev pub new_merge_over : Facts → List Key → Fetch → Op
+abbrev pub new_merge_over : Facts → List Key → Option ℕ → Op
 new_merge_over F ks f = merge_op (fresh_keys F [] ks) f
 
-module _ (F : Facts) (ks : List Key) (f : Fetch) (s : is_nil (fresh_keys F [] ks) ≡ false) where
+module _ (F : Facts) (ks : List Key) (f : Option ℕ) (s : is_nil (fresh_keys F [] ks) ≡ false) where
   one_sort : sort_above F ks f ≡ new_sort_over F ks f ∷ []
   one_sort = go (fresh_keys F [] ks) s
     where
@@ -72,7 +71,7 @@ module _ (F : Facts) (ks : List Key) (f : Fetch) (s : is_nil (fresh_keys F [] ks
 
 -- ---- at a sort that holds d, over the context of o₁ with the children x; C: the facts of o₁'s plan, o₂: o₁ rebuilt
 
-module _ (p : Bool) (ks : List Key) (f : Fetch) (d : ParentRequirements) (o₁ : Op) (d₁ : ParentRequirements) (x : Forest Required) where
+module _ (p : Bool) (ks : List Key) (f : Option ℕ) (d : ParentRequirements) (o₁ : Op) (d₁ : ParentRequirements) (x : Forest Required) where
   abbrev pub sort_over : SortPushDown
   sort_over = node (sort_op p ks f) d (tree (record { op = o₁; mark = d₁ }) x none)
 
@@ -144,7 +143,7 @@ module _ (o : Op) (ns : is_sort o ≡ false) (d : ParentRequirements) (c : Plan)
   abbrev F : Facts
   F = facts_op o (facts c)
 
-  abbrev handed : (ℕ → List Key) → Fetch → ℕ → ParentRequirements
+  abbrev handed : (ℕ → List Key) → Option ℕ → ℕ → ParentRequirements
   handed ks f i = record { order = ks i; fetch = f; dist = stronger_distribution (effective_dist F d.dist) (dist_of o i) }
 
   on_plan : (g : ℕ → ParentRequirements) → helper (node o d (holding g c)) ≡ helper_on c (node o d (holding g c))

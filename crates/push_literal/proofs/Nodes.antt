@@ -1,13 +1,11 @@
 -- The Rust's walk (PushdownSortsLiteral) at a node that is no sort agrees with the structural walk's decision there.
-use Rattle.std.specs.Prelude.{◌≡◌, refl, Bool, true, false, cond, ◌&&◌, ◌||◌, List, [], ◌∷◌, ◌++◌, ℕ, suc, ◌+◌, ◌*◌, ◌≤◌, eqb, ltb}
+use Rattle.std.specs.Prelude.{◌≡◌, refl, Bool, true, false, cond, ◌&&◌, ◌||◌, List, [], ◌∷◌, ◌++◌, ℕ, suc, ◌+◌, ◌*◌, ◌≤◌, eqb, ltb, Option, Some, None}
 use Rattle.std.proofs.Common.{sym, ap, ap₂, ◌∙◌, subst, arith}
 use Rattle.row_order.specs.Iso.{Key}
 use Rattle.plan.specs.Forest.{Forest, none, tree, size}
 use Rattle.plan.specs.Op.{Op, Plan, sort_op}
 use Rattle.plan.specs.declared.Distribution.{Distribution}
 use Rattle.plan.specs.declared.Distribution.TheVariants.{Unspecified}
-use Rattle.plan.specs.declared.Fetch.{Fetch}
-use Rattle.plan.specs.declared.Fetch.TheVariants.{AtMost, Unlimited}
 use Rattle.plan.specs.declared.Refusal.TheVariants.{TooManyNodes}
 use Rattle.semantics.specs.Facts.{Facts, facts, facts_op, is_nil, met, nf, prefixb}
 use Rattle.semantics.specs.Properties.{dist_of, fetches, fetch_op, fresh_keys, rebuilt, sort_dist, wanted}
@@ -27,13 +25,13 @@ use Rattle.push_literal.proofs.Contexts.{BelowRoot, holding, kids_hold, plan_res
 use Rattle.push_literal.proofs.Agrees.{AgreesT, Below, by_bool, by_call, carried_at, decided_at, over-returned, returned, returned_full, twice}
 use Rattle.push_literal.proofs.HelperCalls.{above_merge, above_sort, cond_yes, new_merge_over, new_sort_over, node-goes, node_satisfies_lem, node_stops, node_unrequired_lem, one_merge, unnecessary_call}
 
-pub min_none : (f : Fetch) → min_fetch f Unlimited ≡ f
-min_none Unlimited = refl
-min_none (AtMost m) = refl
+pub min_none : (f : Option ℕ) → min_fetch f None ≡ f
+min_none None = refl
+min_none (Some m) = refl
 
-min_same : (f : Fetch) → min_fetch f f ≡ f
-min_same Unlimited = refl
-min_same (AtMost m) = ap AtMost (omega arith)
+min_same : (f : Option ℕ) → min_fetch f f ≡ f
+min_same None = refl
+min_same (Some m) = ap Some (omega arith)
 
 effective_none : (F : Facts) → effective_dist F Unspecified ≡ Unspecified
 effective_none F = go (eqb F.streams 1)
@@ -50,7 +48,7 @@ no_merge F = go (ltb 1 F.streams)
     go false = refl
 
 -- ---- the second call: the new sort, visited with its own order, goes, and the node under it is tried once more
-sort_goes : (p : Bool) (new : List Key) (f : Fetch) (o : Op) (d : ParentRequirements) (c : Plan) → is_nil new ≡ false →
+sort_goes : (p : Bool) (new : List Key) (f : Option ℕ) (o : Op) (d : ParentRequirements) (c : Plan) → is_nil new ≡ false →
     is_nil (nf (facts_op o (facts c)) [] new) ≡ false → Canon (facts_op o (facts c)) →
     helper (node (sort_op p new f) (record { order = new; fetch = f; dist = Unspecified }) (tree (record { op = o; mark = d }) (resting c) none))
     ≡ calls_itself (node (rebuilt o (facts c)) (record { order = nf (facts_op o (facts c)) [] new; fetch = f; dist = Unspecified }) (resting c))
@@ -58,7 +56,7 @@ sort_goes p new f o d c e s k =
     unnecessary_call p new f (record { order = new; fetch = f; dist = Unspecified }) o d (resting c) G (rebuilt o (facts c))
     (ap (λ (z : Plan). facts_op o (facts z)) (plan_resting c)) (ap (λ (z : Plan). rebuilt o (facts z)) (plan_resting c)) e s
     (ap (λ (b : Bool). b || prefixb (nf G [] own) own) (prefix_refl own))
-    ∙ ap₂ (λ (l : List Key) (h : Fetch). calls_itself (node (rebuilt o (facts c)) (record { order = l; fetch = h; dist = Unspecified }) (resting c)))
+    ∙ ap₂ (λ (l : List Key) (h : Option ℕ). calls_itself (node (rebuilt o (facts c)) (record { order = l; fetch = h; dist = Unspecified }) (resting c)))
     (cond_yes (prefixb own (nf G [] own)) own new (ap (λ (l : List Key). prefixb own l) (nf_twice G k new) ∙ prefix_refl own)) (min_same f)
   where
     G : Facts
@@ -133,7 +131,7 @@ module _ (full : ℕ → Bool) (mono : (m n : ℕ) → m ≤ n → full n ≡ fa
     abbrev Target : Decision → Type 0
     Target D = AgreesT k asking (carried_at full c D (suc (size c) + k) false)
 
-    abbrev handed : (ℕ → List Key) → Fetch → ℕ → ParentRequirements
+    abbrev handed : (ℕ → List Key) → Option ℕ → ℕ → ParentRequirements
     handed ks f i = record { order = ks i; fetch = f; dist = stronger_distribution (effective_dist F v.req.dist) (dist_of o i) }
 
     canonical : Canon F
@@ -144,8 +142,8 @@ module _ (full : ℕ → Bool) (mono : (m n : ℕ) → m ≤ n → full n ≡ fa
 
     satisfied_step : met F Q ≡ true → Target (satisfied v o c)
     satisfied_step m =
-        subst (λ (f : Fetch). Target (stays o (λ i. asked (handed (wanted o) f i)))) (min_none v.req.fetch)
-        (stays_step (suc (suc (suc n))) k (omega arith) start o v.req (handed (wanted o) (min_fetch v.req.fetch Unlimited))
+        subst (λ (f : Option ℕ). Target (stays o (λ i. asked (handed (wanted o) f i)))) (min_none v.req.fetch)
+        (stays_step (suc (suc (suc n))) k (omega arith) start o v.req (handed (wanted o) (min_fetch v.req.fetch None))
         (node_satisfies_lem o ns v.req c e m (λ i. default_requirements)))
 
     goes_step : met F Q ≡ false → (ks : ℕ → List Key) → push_down Q v o c ≡ goes ks → Target (after_try (goes ks) v o c)

@@ -1,11 +1,10 @@
 -- The Rust's walk (PushdownSortsLiteral) at a sort agrees with the structural walk's decision there.
-use Rattle.std.specs.Prelude.{◌≡◌, refl, Bool, true, false, cond, ◌||◌, List, [], ◌∷◌, ◌++◌, ℕ, suc, ◌+◌, ◌*◌, ◌≤◌, ltb}
+use Rattle.std.specs.Prelude.{◌≡◌, refl, Bool, true, false, cond, ◌||◌, List, [], ◌∷◌, ◌++◌, ℕ, suc, ◌+◌, ◌*◌, ◌≤◌, ltb, Option}
 use Rattle.std.proofs.Common.{sym, ap, ap₂, ◌∙◌, subst, arith}
 use Rattle.row_order.specs.Iso.{Key}
 use Rattle.plan.specs.Forest.{Forest, none, tree, size}
 use Rattle.plan.specs.Op.{Op, Plan, sort_op}
 use Rattle.plan.specs.declared.Distribution.TheVariants.{Unspecified}
-use Rattle.plan.specs.declared.Fetch.{Fetch}
 use Rattle.semantics.specs.Facts.{compatible, Facts, facts, facts_op, is_nil, met, nf, prefixb}
 use Rattle.semantics.specs.Properties.{fresh_keys, rebuilt, sort_dist}
 use Rattle.semantics.proofs.Theorems.Common.Bools.{or_false}
@@ -72,7 +71,7 @@ module _ (full : ℕ → Bool) (o' : Op) (c' : Plan) (ih : Below full (tree o' c
       (bind (count_by full (λ i. below_sort r) (size c + suc k) c) (λ d i. counted (kid0 (node S false d) d) i)) e
       (ap full (omega (arith, size-resting c')) ∙ q) (child_step (λ d. node S false d) r m (suc k) l)))
 
-  module _ (p : Bool) (ks : List Key) (f : Fetch) (v : Visit) (n k : ℕ) (l : 4 * size c ≤ n) where
+  module _ (p : Bool) (ks : List Key) (f : Option ℕ) (v : Visit) (n k : ℕ) (l : 4 * size c ≤ n) where
     abbrev S : Op
     S = sort_op p ks f
 

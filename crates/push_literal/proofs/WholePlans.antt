@@ -1,5 +1,5 @@
 -- The walk in the Rust's form and the structural one agree on a whole plan, whatever bound there is on nodes. Assumes nothing.
-use Rattle.std.specs.Prelude.{◌≡◌, refl, Bool, true, false, cond, ◌&&◌, List, [], ◌∷◌, ℕ, suc, ◌+◌, ◌*◌, ◌-◌, ◌≤◌, leb}
+use Rattle.std.specs.Prelude.{◌≡◌, refl, Bool, true, false, cond, ◌&&◌, List, [], ◌∷◌, ℕ, suc, ◌+◌, ◌*◌, ◌-◌, ◌≤◌, leb, Option}
 use Rattle.std.proofs.Common.{sym, ap, ap₂, ◌∙◌, subst, arith, eqb-true}
 use Rattle.row_order.specs.Iso.{Key}
 use Rattle.row_order.proofs.Order.{no_bool}
@@ -7,7 +7,6 @@ use Rattle.plan.specs.Forest.{Forest, none, tree, size}
 use Rattle.plan.specs.Op.{coalesce, merge_op, Op, Plan, repartition, sort_op}
 use Rattle.plan.specs.Numbers.{code}
 use Rattle.plan.specs.WellFormed.{every}
-use Rattle.plan.specs.declared.Fetch.{Fetch}
 use Rattle.plan.specs.declared.Refusal.TheVariants.{ConstantSort}
 use Rattle.semantics.specs.Facts.{facts}
 use Rattle.semantics.specs.Properties.{rebuilt}
@@ -55,7 +54,7 @@ module _ (full : ℕ → Bool) (mono : (m n : ℕ) → m ≤ n → full n ≡ fa
       still true = remark-same is_sort _ (λ p q i h ks. refl) o ∙ ns
       still false = ns
 
-  sort_at : (v : Visit) (c : Plan) → Below full c → (n k : ℕ) → 4 * size c ≤ n → (p : Bool) (ks : List Key) (f : Fetch) → count c ≡ 1 →
+  sort_at : (v : Visit) (c : Plan) → Below full c → (n k : ℕ) → 4 * size c ≤ n → (p : Bool) (ks : List Key) (f : Option ℕ) → count c ≡ 1 →
       Steps v c n k (sort_op p ks f)
   sort_at v none ih n k l p ks f e = absurd (omega arith)
   sort_at v (tree o' c' none) ih n k l p ks f e = go v.touch

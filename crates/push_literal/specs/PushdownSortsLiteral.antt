@@ -4,13 +4,12 @@
 -- This is what a reader has to believe of push. `accepted_is_literal` (SameAnswers) proves that `pushed`, by the structural recursion of
 -- PushdownSorts and Counted, answers the same for every plan, 23 and 25 included; and that the number that bounds the recursion here, the
 -- fuel, is enough, and no index passes the end.
-use Rattle.std.specs.Prelude.{◌≡◌, Bool, true, false, cond, not, ◌&&◌, List, [], ℕ, zero, suc, ◌+◌}
+use Rattle.std.specs.Prelude.{◌≡◌, Bool, true, false, cond, not, ◌&&◌, List, [], ℕ, zero, suc, ◌+◌, Option}
 use Rattle.row_order.specs.Iso.{Key}
 use Rattle.plan.specs.Forest.{Forest, none, tree, size}
 use Rattle.plan.specs.Op.{Op, Plan}
 use Rattle.plan.specs.declared.Distribution.{Distribution}
 use Rattle.plan.specs.declared.Distribution.TheVariants.{Unspecified}
-use Rattle.plan.specs.declared.Fetch.{Fetch}
 use Rattle.plan.specs.declared.Refusal.{Refusal}
 use Rattle.plan.specs.declared.Refusal.TheVariants.{ConstantSort, HasPartialSort, TooManyNodes}
 use Rattle.semantics.specs.Facts.{compatible, Facts, facts, facts_op, is_nil, known_order, met}
@@ -81,7 +80,7 @@ first_child_data d t = of_first_child d (op_t t) (required t) t.kids
 abbrev pub sort_unrequired : Plan → SortPushDown → Call
 sort_unrequired c t =
     let ordering : List Key = known_order (facts_op (op_t t) (facts c)) in
-    let fetch : Fetch = min_fetch (fetch_op (op_t t) (fetches c)) (required t).fetch in
+    let fetch : Option ℕ = min_fetch (fetch_op (op_t t) (fetches c)) (required t).fetch in
     cond (is_nil ordering) internal_error
     (swap_remove t.kids (λ u. calls_itself (set_mark (record { order = ordering; fetch = fetch; dist = (required u).dist }) (update_plan_from_children u))))
 
@@ -91,13 +90,13 @@ node_unrequired t =
     returns (node (op_t t) (required t) (each_child (λ i r. record { order = r.order; fetch = r.fetch; dist = dist_of (op_t t) i }) t.kids))
 
 -- "The sort was imposing a different ordering than the one being pushed down." u is its child, children[0] what add_sort_above put there
-abbrev pub different_sort : List Key → Fetch → ParentRequirements → SortPushDown → Call
+abbrev pub different_sort : List Key → Option ℕ → ParentRequirements → SortPushDown → Call
 different_sort ordering fetch parent u =
     first_child_data (record { order = ordering; fetch = fetch; dist = Unspecified })
     (add_sort_above_with_distribution default_requirements parent.order parent.fetch parent.dist (update_plan_from_children u))
 
 -- "Sort was unnecessary, just propagate the stricter fetch and ordering requirements. Reset distribution to Unspecified"; F: the sort's facts
-abbrev pub unnecessary_sort : Facts → List Key → Fetch → ParentRequirements → SortPushDown → Call
+abbrev pub unnecessary_sort : Facts → List Key → Option ℕ → ParentRequirements → SortPushDown → Call
 unnecessary_sort F ordering fetch parent u =
     let stricter : List Key = cond (compatible F ordering parent.order) ordering parent.order in
     calls_itself (set_mark (record { order = stricter; fetch = min_fetch fetch parent.fetch; dist = Unspecified }) (update_plan_from_children u))
@@ -107,7 +106,7 @@ sort_required c t =
     let F : Facts = facts_op (op_t t) (facts c) in
     let parent : ParentRequirements = required t in
     let ordering : List Key = known_order F in
-    let fetch : Fetch = fetch_op (op_t t) (fetches c) in
+    let fetch : Option ℕ = fetch_op (op_t t) (fetches c) in
     let satisfy_parent : Bool = met F parent.order in
     let parent_is_stricter : Bool = compatible F parent.order ordering in
     cond (is_nil ordering) internal_error (swap_remove t.kids
@@ -127,7 +126,7 @@ abbrev pub node_pushes : Pushed → Plan → SortPushDown → Call
 node_pushes (goes adjusted) c t =
     let o : Op = op_t t in
     let parent : ParentRequirements = required t in
-    let fetch : Fetch = min_fetch (fetch_op o (fetches c)) parent.fetch in
+    let fetch : Option ℕ = min_fetch (fetch_op o (fetches c)) parent.fetch in
     let effective : Distribution = effective_dist (facts_op o (facts c)) parent.dist in
     let dist : ℕ → Distribution = λ i. stronger_distribution effective (dist_of o i) in
     returns (node o (record { order = []; fetch = parent.fetch; dist = parent.dist })

@@ -1,5 +1,5 @@
 -- How an order goes past a join, step by step. Assumes nothing.
-use Rattle.std.specs.Prelude.{◌≡◌, refl, Bool, true, false, cond, List, [], ◌∷◌, ℕ, zero, suc, ◌-◌, ◌<◌, ◌≤◌}
+use Rattle.std.specs.Prelude.{◌≡◌, refl, Bool, true, false, cond, List, [], ◌∷◌, ℕ, zero, suc, ◌-◌, ◌<◌, ◌≤◌, Option, Some, None}
 use Rattle.std.proofs.Common.{sym, ap, ap₂, ◌∙◌, subst, arith}
 use Rattle.std.proofs.Math.Path.{subst⁻¹}
 use Rattle.row_order.specs.Iso.{Key}
@@ -13,7 +13,6 @@ use Rattle.plan_codec.specs.Decode.{decode}
 use Rattle.semantics.specs.Facts.{Facts, met, compatible, ordered, drop_repeats, join_order, smj_kept, hash_kept, known_order}
 use Rattle.semantics.specs.Properties.{kept_side, wanted}
 use Rattle.key_lists.specs.declared.Keys.{Keys}
-use Rattle.key_lists.specs.declared.Order.{Order}
 use Rattle.key_lists.specs.Keys.{keys_of, keys_in, Keyed, Ordered}
 use Rattle.asked_facts.specs.Asked.{told}
 use Rattle.join_orders.specs.declared.KeptSide.{KeptSide}
@@ -24,8 +23,7 @@ use Rattle.join_sides.specs.declared.JoinSide.TheVariants as side
 use Rattle.join_sides.specs.Sides.{SideIs}
 use Rattle.join_sides.proofs.Room.{Room, side_room, right_wide}
 use Rattle.walks.specs.SortPushdown as walk
-use Rattle.push_requirements.specs.declared.Pushed.{Pushed}
-use Rattle.push_requirements.specs.declared.Pushed.TheVariants.{Stop, Goes}
+use Rattle.push_requirements.specs.declared.ChildOrders.{ChildOrders}
 use Rattle.push_requirements.specs.Pushing.{HandsOn, JoinRows}
 use Rattle.push_requirements.specs.Answers.{go_stop, go_on, and_no, and_so, to_left, to_right}
 use Rattle.scan.specs.Below.{and_false}
@@ -88,37 +86,37 @@ module _ (t : JoinType) (r own a b : List ℕ) (j : JoinRows t r own a b) (paren
 
   -- the side does not meet what the join wants of it
   module _ (ws : List Key) (x : Bool) where
-    pub left_unmet : ws ≡ wanted (decode r) 0 → x ≡ compatible (told a) (keys_of keys) ws → x ≡ false → HandsOn 2 (tries 0) Stop
+    pub left_unmet : ws ≡ wanted (decode r) 0 → x ≡ compatible (told a) (keys_of keys) ws → x ≡ false → HandsOn 2 (tries 0) None
     left_unmet e h f = go_stop 2 _ _ (and_no (compatible (told a) ks (wanted (decode r) 0)) _ (sym (h ∙ ap (compatible (told a) ks) e) ∙ f))
 
-    pub right_unmet : ws ≡ wanted (decode r) 1 → x ≡ compatible (told b) (keys_of keys) ws → x ≡ false → HandsOn 2 (tries 1) Stop
+    pub right_unmet : ws ≡ wanted (decode r) 1 → x ≡ compatible (told b) (keys_of keys) ws → x ≡ false → HandsOn 2 (tries 1) None
     right_unmet e h f = go_stop 2 _ _ (and_no (compatible (told b) ks (wanted (decode r) 1)) _ (sym (h ∙ ap (compatible (told b) ks) e) ∙ f))
 
     -- it does; y: the join then meets what is required of it
     module _ (n : Keys) (y : Bool) (hy : y ≡ met (walk.reorder_to (told own) (keys_of n)) (keys_of parent)) where
-      pub left_lost : keys_of n ≡ walk.new_output_ordering t (told a) (told b) (keys_of keys) 0 → y ≡ false → HandsOn 2 (tries 0) Stop
+      pub left_lost : keys_of n ≡ walk.new_output_ordering t (told a) (told b) (keys_of keys) 0 → y ≡ false → HandsOn 2 (tries 0) None
       left_lost e f = go_stop 2 _ _
           (and_false (compatible (told a) ks (wanted (decode r) 0)) _ (sym (hy ∙ ap (λ l. met (walk.reorder_to (told own) l) (keys_of parent)) e) ∙ f))
 
-      pub right_lost : keys_of n ≡ walk.new_output_ordering t (told a) (told b) (keys_of keys) 1 → y ≡ false → HandsOn 2 (tries 1) Stop
+      pub right_lost : keys_of n ≡ walk.new_output_ordering t (told a) (told b) (keys_of keys) 1 → y ≡ false → HandsOn 2 (tries 1) None
       right_lost e f = go_stop 2 _ _
           (and_false (compatible (told b) ks (wanted (decode r) 1)) _ (sym (hy ∙ ap (λ l. met (walk.reorder_to (told own) l) (keys_of parent)) e) ∙ f))
 
-      module _ (d : Keys) (kd : Keyed (drop_repeats [] (keys_of keys)) d) (p q : Order) where
+      module _ (d : Keys) (kd : Keyed (drop_repeats [] (keys_of keys)) d) (p q : Option Keys) where
         pub left_goes : ws ≡ wanted (decode r) 0 → x ≡ compatible (told a) (keys_of keys) ws → x ≡ true → keys_of n ≡ walk.new_output_ordering t (told a)
             (told b) (keys_of keys) 0 → y ≡ true
-            → Ordered (keys_of d) p → Ordered (wanted (decode r) 1) q → HandsOn 2 (tries 0) (Goes p q)
+            → Ordered (keys_of d) p → Ordered (wanted (decode r) 1) q → HandsOn 2 (tries 0) (Some (record { first = p; rest = q }))
         left_goes e h f i g op oq =
-            go_on 2 _ _ (Goes p q)
+            go_on 2 _ _ (Some (record { first = p; rest = q }))
             (and_so (compatible (told a) ks (wanted (decode r) 0)) _ (sym (h ∙ ap (compatible (told a) ks) e) ∙ f)
             ∙ sym (hy ∙ ap (λ l. met (walk.reorder_to (told own) l) (keys_of parent)) i) ∙ g)
             (to_left (drop_repeats [] ks) (wanted (decode r)) p q (subst (λ l. Ordered l p) kd.is op) oq)
 
         pub right_goes : ws ≡ wanted (decode r) 1 → x ≡ compatible (told b) (keys_of keys) ws → x ≡ true → keys_of n ≡ walk.new_output_ordering t (told a)
             (told b) (keys_of keys) 1 → y ≡ true
-            → Ordered (wanted (decode r) 0) p → Ordered (keys_of d) q → HandsOn 2 (tries 1) (Goes p q)
+            → Ordered (wanted (decode r) 0) p → Ordered (keys_of d) q → HandsOn 2 (tries 1) (Some (record { first = p; rest = q }))
         right_goes e h f i g op oq =
-            go_on 2 _ _ (Goes p q)
+            go_on 2 _ _ (Some (record { first = p; rest = q }))
             (and_so (compatible (told b) ks (wanted (decode r) 1)) _ (sym (h ∙ ap (compatible (told b) ks) e) ∙ f)
             ∙ sym (hy ∙ ap (λ l. met (walk.reorder_to (told own) l) (keys_of parent)) i) ∙ g)
             (to_right (drop_repeats [] ks) (wanted (decode r)) p q op (subst (λ l. Ordered l q) kd.is oq))
@@ -168,7 +166,7 @@ module _ (t : JoinType) (r own a b : List ℕ) (j : JoinRows t r own a b) (paren
     pub left_keys : s ≡ side.Left k → (k.len ≤ 8) × All (λ k. k.col < (told a).width) (keys_of k)
     left_keys e = let x = subst (SideIs S) e at_side in (left_few S k x, subst⁻¹ (Room (told a).width off (told b).width) (left_is S k x) room)
 
-    pub pushed_left : s ≡ side.Left k → (p : Pushed)
+    pub pushed_left : s ≡ side.Left k → (p : Option ChildOrders)
         → HandsOn 2 (walk.try_pushdown_requirements_to_join (decode r) t (told own) (told a) (told b) (keys_of parent) (keys_of k) 0) p
         → HandsOn 2 (walk.push_to_side (decode r) t (told own) (told a) (told b) (keys_of parent) S) p
     pushed_left e p g = subst (λ x. HandsOn 2 (walk.push_to_side (decode r) t (told own) (told a) (told b) (keys_of parent) x) p)
@@ -193,7 +191,7 @@ module _ (t : JoinType) (r own a b : List ℕ) (j : JoinRows t r own a b) (paren
         pub right_inside : (q.len ≤ 8) × All (λ k. k.col < (told b).width) (keys_of q)
         right_inside = (kq.few, subst⁻¹ (All (λ k. k.col < (told b).width)) back_is (all_over (walk.at_column (λ c. c - off)) (λ k p. p.1) (right_all e)))
 
-        pub pushed_right : (p : Pushed) → HandsOn 2 (walk.try_pushdown_requirements_to_join (decode r) t (told own) (told a) (told b) (keys_of parent)
+        pub pushed_right : (p : Option ChildOrders) → HandsOn 2 (walk.try_pushdown_requirements_to_join (decode r) t (told own) (told a) (told b) (keys_of parent)
             (keys_of q) 1) p
             → HandsOn 2 (walk.push_to_side (decode r) t (told own) (told a) (told b) (keys_of parent) S) p
         pushed_right p g =
@@ -201,8 +199,8 @@ module _ (t : JoinType) (r own a b : List ℕ) (j : JoinRows t r own a b) (paren
             (right_is S k (subst (SideIs S) e at_side))
             (subst (λ l. HandsOn 2 (walk.try_pushdown_requirements_to_join (decode r) t (told own) (told a) (told b) (keys_of parent) l 1) p) back_is g)
 
-  pub pushed_neither : s ≡ side.Neither → HandsOn 2 (walk.push_to_side (decode r) t (told own) (told a) (told b) (keys_of parent) S) Stop
-  pushed_neither e = subst (λ x. HandsOn 2 (walk.push_to_side (decode r) t (told own) (told a) (told b) (keys_of parent) x) Stop)
+  pub pushed_neither : s ≡ side.Neither → HandsOn 2 (walk.push_to_side (decode r) t (told own) (told a) (told b) (keys_of parent) S) None
+  pushed_neither e = subst (λ x. HandsOn 2 (walk.push_to_side (decode r) t (told own) (told a) (told b) (keys_of parent) x) None)
       (neither_is S (subst (SideIs S) e at_side)) tt
 
 -- where a hash join keeps its right side, its columns are the last

@@ -1,5 +1,5 @@
 -- What is required of a node, and what goes to its children, as the code answers. These are definitions.
-use Rattle.std.specs.Prelude.{◌≡◌, Bool, true, List, ℕ, zero, suc, ◌<◌, ◌≤◌, length}
+use Rattle.std.specs.Prelude.{◌≡◌, Bool, true, List, ℕ, zero, suc, ◌<◌, ◌≤◌, length, Option, Some, None}
 use Rattle.row_order.specs.Iso.{Key}
 use Rattle.row_order.specs.Lists.{All}
 use Rattle.plan.specs.Op.{Op, sort_merge_join, hash_join}
@@ -10,15 +10,13 @@ use Rattle.record_fields.specs.Proper.{pairs_of, Proper}
 use Rattle.semantics.specs.Facts.{Facts, at0, at1, facts_op}
 use Rattle.semantics.specs.Properties.{remark}
 use Rattle.key_lists.specs.declared.Keys.{Keys}
-use Rattle.key_lists.specs.declared.Order.{Order}
 use Rattle.key_lists.specs.Keys.{keys_of, order_of, Real}
 use Rattle.fact_slots.specs.Slots.{loaded}
 use Rattle.asked_facts.specs.Asked.{told, FactRow}
 use Rattle.join_facts.specs.Joining.{Sides}
 use Rattle.walks.specs.SortPushdown as walk
 use Rattle.push_requirements.specs.declared.ParentRequirements.{ParentRequirements}
-use Rattle.push_requirements.specs.declared.Pushed.{Pushed}
-use Rattle.push_requirements.specs.declared.Pushed.TheVariants.{Stop, Goes}
+use Rattle.push_requirements.specs.declared.ChildOrders.{ChildOrders}
 
 -- The requirements that the struct says
 abbrev pub required : ParentRequirements → walk.ParentRequirements
@@ -30,22 +28,22 @@ pub record Requires (P : walk.ParentRequirements) (r : ParentRequirements) : Typ
   pub real : Real r.order
 
 -- The order for child number i: the first, or the others
-abbrev pub order_by : Order → Order → ℕ → List Key
+abbrev pub order_by : Option Keys → Option Keys → ℕ → List Key
 order_by a b zero = order_of a
 order_by a b (suc i) = order_of b
 
 -- They are the orders g for m children
-pub record Handed (m : ℕ) (g : ℕ → List Key) (a b : Order) : Type 0 where
+pub record Handed (m : ℕ) (g : ℕ → List Key) (a b : Option Keys) : Type 0 where
   pub is : (i : ℕ) → i < m → order_by a b i ≡ g i
   pub first : Real a
   pub rest : Real b
 
 -- The answer says what goes to m children
-abbrev pub HandsOn : ℕ → walk.Pushed → Pushed → Type 0
-HandsOn m walk.stop Stop = Unit {0}
-HandsOn m walk.stop (Goes a b) = ⊥
-HandsOn m (walk.goes g) Stop = ⊥
-HandsOn m (walk.goes g) (Goes a b) = Handed m g a b
+abbrev pub HandsOn : ℕ → walk.Pushed → Option ChildOrders → Type 0
+HandsOn m walk.stop None = Unit {0}
+HandsOn m walk.stop (Some d) = ⊥
+HandsOn m (walk.goes g) None = ⊥
+HandsOn m (walk.goes g) (Some d) = Handed m g d.first d.rest
 
 -- A join of type t with the record r and the facts own, over a and b
 pub record JoinRows (t : JoinType) (r own a b : List ℕ) : Type 0 where

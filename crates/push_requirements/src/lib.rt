@@ -8,14 +8,14 @@ pub mod requirements;
 ghost use Rattle.walks.specs.SortPushdown.{default_requirements};
 ghost use Rattle.push_requirements.specs.Pushing.{Requires};
 
-use key_lists::Order;
-use plan::{Distribution, Fetch};
+use key_lists::Keys;
+use plan::Distribution;
 
 // What is required of a node by its parent.
 #[derive(Clone, Copy)]
 pub struct ParentRequirements {
-    pub order: Order,
-    pub fetch: Fetch,
+    pub order: Option<Keys>,
+    pub fetch: Option<u32>,
     pub distribution: Distribution,
 }
 
@@ -24,8 +24,8 @@ impl ParentRequirements {
     pub fn default() -> Self
         ensures { Requires default_requirements result }
     {
-        let order = Order::Unordered;
-        let fetch = Fetch::Unlimited;
+        let order = None;
+        let fetch = None;
         let distribution = Distribution::Unspecified;
         ParentRequirements {
             order: order,
@@ -35,9 +35,9 @@ impl ParentRequirements {
     }
 }
 
-// What goes to the children: nothing, for the requirement cannot be pushed down; or an order for the first child and one for the others.
+// What goes to the children where a requirement can be pushed down: an order for the first child and one for the others.
 #[derive(Clone, Copy)]
-pub enum Pushed {
-    Stop,
-    Goes(Order, Order),
+pub struct ChildOrders {
+    pub first: Option<Keys>,
+    pub rest: Option<Keys>,
 }

@@ -1,32 +1,24 @@
 // Fetches, distributions and orders of requirements.
-ghost use Rattle.std.specs.Prelude.{◌≡◌, min};
+ghost use Rattle.std.specs.Prelude.{◌≡◌};
 ghost use Rattle.key_lists.specs.Keys.{Keyed, order_of, Real};
 ghost use Rattle.asked_facts.specs.Asked.{told, FactRow};
 ghost use Rattle.walks.specs.SortPushdown.{min_fetch, stronger_distribution, effective_dist};
 ghost use Rattle.walks.specs.Utils.{needs_merge};
 
 use asked_facts::{one_stream, several_streams};
-use key_lists::{Keys, Order, no_keys};
-use plan::{Distribution, Fetch};
+use key_lists::{Keys, no_keys};
+use plan::Distribution;
 use wanted_inputs::is_single;
 
-fn lower(m: u32, n: u32) -> u32
-    ensures { result ≡ min m n }
-{
-    if m <= n { m } else { n }
-}
-
 // The stricter fetch.
-pub fn min_fetch(f: Fetch, g: Fetch) -> Fetch
+pub fn min_fetch(f: Option<u32>, g: Option<u32>) -> Option<u32>
     ensures { result ≡ min_fetch f g }
 {
-    let Fetch::AtMost(m) = f else {
-        return g;
-    };
-    let Fetch::AtMost(n) = g else {
-        return f;
-    };
-    Fetch::AtMost(lower(m, n))
+    match (f, g) {
+        (None, _) => g,
+        (_, None) => f,
+        (Some(m), Some(n)) => Some(m.min(n)),
+    }
 }
 
 // Single before keyed before none; of two keyed ones the first.
@@ -64,11 +56,11 @@ pub fn effective_distribution(own: &[u8], d: Distribution) -> Distribution
 }
 
 // The keys of an order: of none no keys.
-pub fn keys_in(o: Order) -> Keys
+pub fn keys_in(o: Option<Keys>) -> Keys
     requires { Real o }
     ensures { Keyed (order_of o) result }
 {
-    let Order::By(k) = o else {
+    let Some(k) = o else {
         return no_keys();
     };
     k

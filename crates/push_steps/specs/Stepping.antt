@@ -1,37 +1,33 @@
 -- The ways through a step, and the count of new nodes. Assumes nothing.
-use Rattle.std.specs.Prelude.{◌≡◌, refl, Bool, true, false, cond, not, ◌&&◌, List, [], ◌∷◌, ℕ, ◌+◌, ◌≤◌, eqb, length}
+use Rattle.std.specs.Prelude.{◌≡◌, refl, Bool, true, false, cond, not, ◌&&◌, List, [], ◌∷◌, ℕ, ◌+◌, ◌≤◌, eqb, length, Option, Some, Ok, Err}
 use Rattle.std.proofs.Common.{sym, ap, ap₂, ◌∙◌, arith, length-append}
 use Rattle.row_order.specs.Iso.{Key}
 use Rattle.row_order.proofs.Order.{no_bool}
 use Rattle.plan.specs.Op.{Op, source, filter, projection, union, repartition, coalesce, sort_op, merge_op, global_limit, local_limit, sort_merge_join, hash_join, output_requirement, partial_sort, aggregate}
 use Rattle.plan.specs.Numbers.{code}
-use Rattle.plan.specs.declared.Fetch.{Fetch}
 use Rattle.plan.specs.declared.Refusal.TheVariants.{TooManyNodes, ConstantSort}
 use Rattle.semantics.specs.Facts.{is_nil}
 use Rattle.key_lists.specs.declared.Keys.{Keys}
-use Rattle.key_lists.specs.declared.Order.{Order}
-use Rattle.key_lists.specs.declared.Order.TheVariants.{By}
 use Rattle.key_lists.specs.Keys.{order_of, Real}
 use Rattle.walks.specs.Utils.{new_merge, new_sort, is_sort}
 use Rattle.walks.specs.Counted.{one, too_many}
 use Rattle.sort_pushdown.specs.declared.NewNodes.{NewNodes}
-use Rattle.push_steps.specs.declared.Step.TheVariants.{Refused, On}
 use Rattle.sort_pushdown.specs.Decisions.{tops_of}
 use Rattle.push_steps.specs.Steps.{some, step_by}
 use Rattle.sort_pushdown.specs.Deciding.{requirement_some}
 
-pub one-some : (o : Order) (k : Keys) → Real o → o ≡ By k → 1 ≡ some (order_of o)
+pub one-some : (o : Option Keys) (k : Keys) → Real o → o ≡ Some k → 1 ≡ some (order_of o)
 one-some o k h e = go (order_of o) (requirement_some o k h e)
   where
     go : (ks : List Key) → is_nil ks ≡ false → 1 ≡ some ks
     go [] f = no_bool (sym f)
     go (x ∷ ks) f = refl
 
-merge_count : (ks : List Key) (f : Fetch) → length (new_merge ks f) ≡ some ks
+merge_count : (ks : List Key) (f : Option ℕ) → length (new_merge ks f) ≡ some ks
 merge_count [] f = refl
 merge_count (k ∷ ks) f = refl
 
-sort_count : (p : Bool) (ks : List Key) (f : Fetch) → length (new_sort p ks f) ≡ some ks
+sort_count : (p : Bool) (ks : List Key) (f : Option ℕ) → length (new_sort p ks f) ≡ some ks
 sort_count p [] f = refl
 sort_count p (k ∷ ks) f = refl
 
@@ -63,14 +59,14 @@ sort_code (aggregate ks n) = refl
 
 -- the ways through a step
 module _ (a q p : Bool) (n : ℕ) where
-  pub step_so : a ≡ true → Refused ConstantSort ≡ step_by a q p n
+  pub step_so : a ≡ true → Err ConstantSort ≡ step_by a q p n
   step_so e = sym (ap (λ x. step_by x q p n) e)
 
-  pub step_over : a ≡ false → not q && too_many (n + one p) ≡ true → Refused TooManyNodes ≡ step_by a q p n
-  step_over e d = sym (ap (λ x. step_by x q p n) e ∙ ap (λ x. cond x (Refused TooManyNodes) (On n)) d)
+  pub step_over : a ≡ false → not q && too_many (n + one p) ≡ true → Err TooManyNodes ≡ step_by a q p n
+  step_over e d = sym (ap (λ x. step_by x q p n) e ∙ ap (λ x. cond x (Err TooManyNodes) (Ok n)) d)
 
-  pub step_goes : a ≡ false → not q && too_many (n + one p) ≡ false → On n ≡ step_by a q p n
-  step_goes e d = sym (ap (λ x. step_by x q p n) e ∙ ap (λ x. cond x (Refused TooManyNodes) (On n)) d)
+  pub step_goes : a ≡ false → not q && too_many (n + one p) ≡ false → Ok n ≡ step_by a q p n
+  step_goes e d = sym (ap (λ x. step_by x q p n) e ∙ ap (λ x. cond x (Err TooManyNodes) (Ok n)) d)
 
 pub not-not : (b : Bool) → not (not b) ≡ b
 not-not true = refl

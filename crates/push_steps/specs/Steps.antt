@@ -1,11 +1,10 @@
 -- What a step answers. These are definitions.
-use Rattle.std.specs.Prelude.{Bool, cond, not, ◌&&◌, List, [], ◌∷◌, ℕ, ◌+◌, ◌-◌, length}
+use Rattle.std.specs.Prelude.{Bool, cond, not, ◌&&◌, List, [], ◌∷◌, ℕ, ◌+◌, ◌-◌, length, Result, Ok, Err}
 use Rattle.row_order.specs.Iso.{Key}
+use Rattle.plan.specs.declared.Refusal.{Refusal}
 use Rattle.plan.specs.declared.Refusal.TheVariants.{TooManyNodes, ConstantSort}
 use Rattle.walks.specs.Counted.{too_many, one}
 use Rattle.sort_pushdown.specs.declared.Decision.{Decision}
-use Rattle.push_steps.specs.declared.Step.{Step}
-use Rattle.push_steps.specs.declared.Step.TheVariants.{Refused, On}
 use Rattle.sort_pushdown.specs.Decisions.{tops_of}
 
 abbrev pub some : List Key → ℕ
@@ -17,5 +16,5 @@ abbrev pub after_by : Decision → ℕ → ℕ
 after_by d n = (n + length (tops_of d.tops)) - one d.gone
 
 -- c: a sort without an order; q: no step ends here; p: one node more is reached on the way; n: the nodes after it
-abbrev pub step_by : Bool → Bool → Bool → ℕ → Step
-step_by c q p n = cond c (Refused ConstantSort) (cond (not q && too_many (n + one p)) (Refused TooManyNodes) (On n))
+abbrev pub step_by : Bool → Bool → Bool → ℕ → Result ℕ Refusal
+step_by c q p n = cond c (Err ConstantSort) (cond (not q && too_many (n + one p)) (Err TooManyNodes) (Ok n))

@@ -13,24 +13,17 @@ ghost use Rattle.sort_pushdown.specs.Decisions.{tops_of};
 ghost use Rattle.push_steps.specs.Steps.{some, after_by, step_by};
 
 use asked_facts::is_ordered;
-use key_lists::Order;
+use key_lists::Keys;
 use node_properties::is_sort;
 use plan::Refusal;
 use sort_pushdown::{Decision, NewNodes};
 
-// What a step answers: a refusal, or how many nodes the plan has after it.
-#[derive(Clone, Copy)]
-pub enum Step {
-    Refused(Refusal),
-    On(usize),
-}
-
 // One node, unless there is no order.
-fn one_of(o: Order) -> usize
+fn one_of(o: Option<Keys>) -> usize
     requires { Real o }
     ensures { result ≡ some (order_of o) }
 {
-    let Order::By(_) = o else {
+    let Some(_) = o else {
         return 0;
     };
     1
@@ -73,18 +66,18 @@ fn one_if(b: bool) -> usize
     if b { 1 } else { 0 }
 }
 
-// 25 before 23.
-pub fn step_at(r: &[u8], own: &[u8], d: Decision, count: usize) -> Step
+// How many nodes the plan has after the step, or a refusal: 25 before 23.
+pub fn step_at(r: &[u8], own: &[u8], d: Decision, count: usize) -> Result<usize, Refusal>
     requires { Proper r.now × FactRow own.now × Real d.tops.merge × Real d.tops.sort × (1 ≤ count) × (count ≤ 1000) }
     ensures { result ≡ step_by (is_sort (decode r.now) && sem.is_nil (sem.known_order (told own.now))) d.quiet d.peak
         (after_by d count) }
 {
     if constant_sort(r, own) {
-        return Step::Refused(Refusal::ConstantSort);
+        return Err(Refusal::ConstantSort);
     }
     let after = nodes_after(d, count);
     if !d.quiet & (126 < after + one_if(d.peak)) {
-        return Step::Refused(Refusal::TooManyNodes);
+        return Err(Refusal::TooManyNodes);
     }
-    Step::On(after)
+    Ok(after)
 }

@@ -1,11 +1,11 @@
 -- A node in the arena, visited, and a decision carried out there: what the functions ask and leave. These are definitions.
-use Rattle.std.specs.Prelude.{◌≡◌, Bool, true, false, cond, List, ℕ, ◌+◌, ◌*◌, ◌≤◌, ◌<◌, length, get_or}
+use Rattle.std.specs.Prelude.{◌≡◌, Bool, true, false, cond, List, ℕ, ◌+◌, ◌*◌, ◌≤◌, ◌<◌, length, get_or, Option}
 use Rattle.plan.specs.Forest.{Forest, size}
 use Rattle.plan.specs.Op.{Op, Plan}
 use Rattle.plan_codec.specs.Decode.{decode}
 use Rattle.semantics.specs.Facts.{nothing}
 use Rattle.semantics.specs.Properties.{rebuilt}
-use Rattle.key_lists.specs.declared.Order.{Order}
+use Rattle.key_lists.specs.declared.Keys.{Keys}
 use Rattle.key_lists.specs.Keys.{Real}
 use Rattle.fact_slots.specs.Slots.{loaded}
 use Rattle.asked_facts.specs.Asked.{told, FactRow}
@@ -55,7 +55,7 @@ abbrev pub carried_by : List ℕ → ℕ → Decision → Forest Marked → Tree
 carried_by a i d f = cover (tops_of d.tops) (below_by a i d f)
 
 -- New nodes ts of an order over the tree at h
-pub record Topping (b : List ℕ) (u h : ℕ) (order : Order) (ts : List Op) : Type 0 where
+pub record Topping (b : List ℕ) (u h : ℕ) (order : Option Keys) (ts : List Op) : Type 0 where
   pub under : Under b u h 1
   pub real : Real order
   pub ok : OkT (cover ts (tree_of b h))

@@ -1,5 +1,5 @@
 -- A decision carried out in the arena. Assumes nothing.
-use Rattle.std.specs.Prelude.{◌≡◌, refl, Bool, true, false, cond, List, [], ◌∷◌, ◌++◌, map, ℕ, zero, suc, ◌+◌, ◌*◌, ◌≤◌, ◌<◌, length, get_or}
+use Rattle.std.specs.Prelude.{◌≡◌, refl, Bool, true, false, cond, List, [], ◌∷◌, ◌++◌, map, ℕ, zero, suc, ◌+◌, ◌*◌, ◌≤◌, ◌<◌, length, get_or, Option, Some, None}
 use Rattle.std.proofs.Common.{sym, ap, ap₂, ◌∙◌, subst, arith, eqb-true}
 use Rattle.std.proofs.Math.Path.{subst⁻¹}
 use Rattle.row_order.specs.Iso.{Key}
@@ -9,15 +9,12 @@ use Rattle.plan.specs.Numbers.{kind_of}
 use Rattle.plan.specs.WellFormed.{children_ok, node_ok}
 use Rattle.plan.specs.declared.Kind.{Kind}
 use Rattle.plan.specs.declared.Kind.TheVariants.{Source, Filter, Projection, Union, Repartition, Coalesce, Sort, Merge, GlobalLimit, LocalLimit, SortMergeJoin, HashJoin, OutputRequirement, PartialSort, Aggregate}
-use Rattle.plan.specs.declared.Fetch.{Fetch}
 use Rattle.plan_codec.specs.Decode.{decode, from_bytes, operator_of}
 use Rattle.plan_codec.specs.Encode.{encode}
 use Rattle.plan_codec.proofs.OneRecord.{decode-encode}
 use Rattle.semantics.specs.Facts.{Facts, at0, counts}
 use Rattle.semantics.specs.Properties.{remark, rebuilt}
 use Rattle.key_lists.specs.declared.Keys.{Keys}
-use Rattle.key_lists.specs.declared.Order.{Order}
-use Rattle.key_lists.specs.declared.Order.TheVariants.{Unordered, By}
 use Rattle.key_lists.specs.Keys.{keys_in, keys_of, order_of, Real}
 use Rattle.asked_facts.specs.Asked.{told}
 use Rattle.record_fields.specs.Kinds.{op_of}
@@ -57,23 +54,23 @@ keys_some k h ks e f = go k.len h (e ∙ f)
     go zero l z = absurd (omega arith)
     go (suc n) l z = let y = ap length z in absurd (omega arith)
 
-sort_one : (p : Bool) (ks : List Key) (f : Fetch) → (ks ≡ [] → ⊥) → new_sort p ks f ≡ sort_op p ks f ∷ []
+sort_one : (p : Bool) (ks : List Key) (f : Option ℕ) → (ks ≡ [] → ⊥) → new_sort p ks f ≡ sort_op p ks f ∷ []
 sort_one p [] f h = absurd (h refl)
 sort_one p (k ∷ ks) f h = refl
 
-merge_one : (ks : List Key) (f : Fetch) → (ks ≡ [] → ⊥) → new_merge ks f ≡ merge_op ks f ∷ []
+merge_one : (ks : List Key) (f : Option ℕ) → (ks ≡ [] → ⊥) → new_merge ks f ≡ merge_op ks f ∷ []
 merge_one [] f h = absurd (h refl)
 merge_one (k ∷ ks) f h = refl
 
 -- no order: no node
-pub top_none : (b : List ℕ) (u h : ℕ) (order : Order) (ts : List Op) (g : List Key → List Op) → Topping b u h order ts → order ≡ Unordered
+pub top_none : (b : List ℕ) (u h : ℕ) (order : Option Keys) (ts : List Op) (g : List Key → List Op) → Topping b u h order ts → order ≡ None
     → ts ≡ g (order_of order) → g [] ≡ [] → Grown b u b (record { used = u; root = h }) (cover ts (tree_of b h)) (u + 1)
 top_none b u h order ts g p e x y =
     subst⁻¹ (λ us. Grown b u b (record { used = u; root = h }) (cover us (tree_of b h)) (u + 1)) (x ∙ ap (λ o. g (order_of o)) e ∙ y)
     (grown_none b u h (u + 1) p.under.arena p.under.here (omega arith))
 
 -- one node o
-module _ (b : List ℕ) (u h : ℕ) (order : Order) (ts : List Op) (p : Topping b u h order ts) (o : Op) (e : ts ≡ o ∷ []) (r : List ℕ)
+module _ (b : List ℕ) (u h : ℕ) (order : Option Keys) (ts : List Op) (p : Topping b u h order ts) (o : Op) (e : ts ≡ o ∷ []) (r : List ℕ)
     (c : r ≡ encode 1 o) where
   rule : node_ok o ((fact (tree_of b h)).width ∷ []) ≡ true
   rule = (subst (λ us. OkT (cover us (tree_of b h))) e p.ok).0
@@ -85,17 +82,17 @@ module _ (b : List ℕ) (u h : ℕ) (order : Order) (ts : List Op) (p : Topping 
       (u + 1)
   top_grown b' x g = subst⁻¹ (λ us. Grown b u b' x (cover us (tree_of b h)) (u + 1)) e (cover_grown b u h p.under o rule r c b' x (u + 1) g)
 
-module _ (order : Order) (k : Keys) (h : Real order) (e : order ≡ By k) where
+module _ (order : Option Keys) (k : Keys) (h : Real order) (e : order ≡ Some k) where
   some : keys_of k ≡ [] → ⊥
   some z = keys_some k (subst Real e h).0 (keys_of k) refl z
 
   pub top_few : k.len ≤ 8
   top_few = (subst Real e h).1
 
-  pub sort_is : (p : Bool) (f : Fetch) → new_sort p (order_of order) f ≡ sort_op p (keys_of k) f ∷ []
+  pub sort_is : (p : Bool) (f : Option ℕ) → new_sort p (order_of order) f ≡ sort_op p (keys_of k) f ∷ []
   sort_is p f = ap (λ o. new_sort p (order_of o) f) e ∙ sort_one p (keys_of k) f some
 
-  pub merge_is : (f : Fetch) → new_merge (order_of order) f ≡ merge_op (keys_of k) f ∷ []
+  pub merge_is : (f : Option ℕ) → new_merge (order_of order) f ≡ merge_op (keys_of k) f ∷ []
   merge_is f = ap (λ o. new_merge (order_of o) f) e ∙ merge_one (keys_of k) f some
 
 -- ---- the node's record
@@ -244,7 +241,7 @@ module _ (a : List ℕ) (ua i : ℕ) (b : List ℕ) (w : ℕ) (d : Decision) (ki
 
   -- ---- the new nodes
 
-  sort_size : (q : Bool) (ks : List Key) (g : Fetch) (t : Tree) → size_t (cover (new_sort q ks g) t) ≤ suc (size_t t)
+  sort_size : (q : Bool) (ks : List Key) (g : Option ℕ) (t : Tree) → size_t (cover (new_sort q ks g) t) ≤ suc (size_t t)
   sort_size q [] g t = omega arith
   sort_size q (k ∷ ks) g t = let z = size_one t in omega arith
     where

@@ -1,12 +1,11 @@
 -- What a visit reads from the arena is what the decision asks. Assumes nothing.
-use Rattle.std.specs.Prelude.{◌≡◌, refl, true, List, [], ◌∷◌, ℕ, suc, ◌*◌, ◌/◌, ◌≤◌, ◌<◌, eqb, length, get_or}
+use Rattle.std.specs.Prelude.{◌≡◌, refl, true, List, [], ◌∷◌, ℕ, suc, ◌*◌, ◌/◌, ◌≤◌, ◌<◌, eqb, length, get_or, Option}
 use Rattle.std.proofs.Common.{sym, ap, ap₂, ◌∙◌, subst, arith, eqb-true}
 use Rattle.row_order.specs.Lists.{All}
 use Rattle.plan.specs.Forest.{none, tree, roots}
 use Rattle.plan.specs.Op.{Op, source, filter, projection, union, repartition, coalesce, sort_op, merge_op, global_limit, local_limit, sort_merge_join, hash_join, output_requirement, partial_sort, aggregate, Plan}
 use Rattle.plan.specs.WellFormed.{children_ok, width, join_width}
 use Rattle.plan.specs.declared.JoinType.{JoinType}
-use Rattle.plan.specs.declared.Fetch.{Fetch}
 use Rattle.plan_codec.specs.Decode.{decode}
 use Rattle.record_fields.specs.Proper.{Proper, pairs_of}
 use Rattle.record_fields.specs.Encoded.{proper}
@@ -173,6 +172,6 @@ module _ (a : List ℕ) (ua i : ℕ) (g : Arena a ua) (l : i < ua) where
         }
 
 -- the fetch, of the node in the slot
-pub fetch_in_lem : (a : List ℕ) (ua i : ℕ) (g : Arena a ua) (l : i < ua) (h : ℕ) → i ≡ index h → (f : Fetch) → f ≡ fetch_t (tree_of a h)
+pub fetch_in_lem : (a : List ℕ) (ua i : ℕ) (g : Arena a ua) (l : i < ua) (h : ℕ) → i ≡ index h → (f : Option ℕ) → f ≡ fetch_t (tree_of a h)
     → f ≡ fetch_op (decode (slot a i).rec) (fetches (strip (forest a (slot a i).kids)))
 fetch_in_lem a ua i g l h e f x = x ∙ ap (λ j. fetch_t (tree_in a j)) (sym e) ∙ ap fetch_t (shown a ua i g l).tree

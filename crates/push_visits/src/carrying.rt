@@ -11,19 +11,25 @@ ghost use Rattle.push_visits.specs.Carried.{op_by, below_by, carried_by, Topping
 use crate::visiting::child_row;
 use arena::{At, read64, record_at};
 use asked_facts::counts;
-use key_lists::Order;
+use key_lists::Keys;
 use new_records::{merge_record, sort_record, with_mark};
 use node_properties::preserve_mark;
-use plan::Fetch;
 use plan_updates::{put, put_over, rebuilt};
 use sort_pushdown::Decision;
 
 // A sort of the order over the tree at h; of no order, none.
-fn sort_over(b: &mut [u8], u: usize, h: usize, order: Order, fetch: Fetch, preserve: bool) -> At
+fn sort_over(
+    b: &mut [u8],
+    u: usize,
+    h: usize,
+    order: Option<Keys>,
+    fetch: Option<u32>,
+    preserve: bool,
+) -> At
     requires { Topping b.old u h order (new_sort preserve (order_of order) fetch) }
     ensures { Grown b.old u b.new result (cover (new_sort preserve (order_of order) fetch) (tree_of b.old h)) (u + 1) }
 {
-    let Order::By(k) = order else {
+    let Some(k) = order else {
         return At { used: u, root: h };
     };
     let r = sort_record(preserve, k, fetch);
@@ -31,11 +37,11 @@ fn sort_over(b: &mut [u8], u: usize, h: usize, order: Order, fetch: Fetch, prese
 }
 
 // The same for a merge.
-fn merge_over(b: &mut [u8], u: usize, h: usize, order: Order, fetch: Fetch) -> At
+fn merge_over(b: &mut [u8], u: usize, h: usize, order: Option<Keys>, fetch: Option<u32>) -> At
     requires { Topping b.old u h order (new_merge (order_of order) fetch) }
     ensures { Grown b.old u b.new result (cover (new_merge (order_of order) fetch) (tree_of b.old h)) (u + 1) }
 {
-    let Order::By(k) = order else {
+    let Some(k) = order else {
         return At { used: u, root: h };
     };
     let r = merge_record(k, fetch);

@@ -1,12 +1,11 @@
 -- The walk of one tree of a forest and of the children in a row; the step.
-use Rattle.std.specs.Prelude.{◌≡◌, refl, Bool, true, false, cond, List, [], ◌∷◌, ℕ, zero, suc, ◌+◌, ◌*◌, ◌≤◌, ◌<◌, length, get_or, take, drop, set}
+use Rattle.std.specs.Prelude.{◌≡◌, refl, Bool, true, false, cond, List, [], ◌∷◌, ℕ, zero, suc, ◌+◌, ◌*◌, ◌≤◌, ◌<◌, length, get_or, take, drop, set, None, Result, Ok, Err}
 use Rattle.std.proofs.Common.{sym, ap₂, ◌∙◌, arith, add-one, drop_of_length-le}
 use Rattle.std.proofs.Math.Path.{ap, fun_ext}
 use Rattle.plan.specs.Forest.{Forest, none, tree, size, roots}
 use Rattle.plan.specs.Op.{Plan}
-use Rattle.plan.specs.declared.Fetch.TheVariants.{Unlimited}
 use Rattle.plan.specs.declared.Refusal.{Refusal}
-use Rattle.plan.specs.declared.Refusal.TheVariants.{Accepted, TooManyNodes, ConstantSort}
+use Rattle.plan.specs.declared.Refusal.TheVariants.{TooManyNodes, ConstantSort}
 use Rattle.semantics.specs.Properties.{fetches}
 use Rattle.arena.specs.Arena.{index}
 use Rattle.arena.specs.declared.At.{At}
@@ -19,10 +18,7 @@ use Rattle.plan_updates.specs.Kids.{kids_none, kids_more, kids_forest, plus_none
 use Rattle.plan_updates.specs.ChildLoop.{drop_next, no_more}
 use Rattle.sort_pushdown.specs.declared.Visit.{Visit}
 use Rattle.sort_pushdown.specs.declared.Decision.{Decision}
-use Rattle.push_steps.specs.declared.Step.{Step}
-use Rattle.push_steps.specs.declared.Step.TheVariants as step
 use Rattle.pushdown_sorts.specs.declared.Walked.{Walked}
-use Rattle.pushdown_sorts.specs.declared.Pushed.TheVariants.{Refused}
 use Rattle.pushdown_sorts.specs.Walk.{counted_t, pushed_t, Ended, from, Visiting}
 
 -- ---- one tree of a forest
@@ -72,7 +68,7 @@ size_plus : (f g : Forest Marked) → size (f ⊕ g) ≡ size f + size g
 size_plus none g = omega arith
 size_plus (tree m c r) g = let x = size_plus r g in omega arith
 
-pub fetches_at : (a hs : List ℕ) (j : ℕ) → j < length hs → get_or (fetches (strip (forest a hs))) j Unlimited ≡ fetch_t (tree_of a (get_or hs j 0))
+pub fetches_at : (a hs : List ℕ) (j : ℕ) → j < length hs → get_or (fetches (strip (forest a hs))) j None ≡ fetch_t (tree_of a (get_or hs j 0))
 unfolding forest
 fetches_at a [] j h = absurd (omega arith)
 fetches_at a (k ∷ hs) zero h = refl
@@ -180,26 +176,16 @@ module _ (a ks : List ℕ) (q : ℕ → walk.Visit) (n : ℕ) (b₀ : List ℕ) 
 
 -- ---- the step
 
-step_refusal : Step → Refusal
-step_refusal (step.Refused e) = e
-step_refusal (step.On n) = Accepted
-
-step_count : Step → ℕ
-step_count (step.Refused e) = 0
-step_count (step.On n) = suc n
-
-pub step_stop : (k o : Bool) (n : ℕ) (s : Step) → s ≡ cond k (step.Refused ConstantSort) (cond o (step.Refused TooManyNodes) (step.On n)) → (e : Refusal)
-    → s ≡ step.Refused e → {A : Type 0} (y : Counted A)
+pub step_stop : (k o : Bool) (n : ℕ) (s : Result ℕ Refusal) → s ≡ cond k (Err ConstantSort) (cond o (Err TooManyNodes) (Ok n)) → (e : Refusal)
+    → s ≡ Err e → {A : Type 0} (y : Counted A)
     → cond k (stopped ConstantSort) (cond o (stopped TooManyNodes) y) ≡ stopped e
-unfolding step_refusal step_count
-step_stop true o n s h e f y = ap stopped (ap step_refusal (sym h ∙ f))
-step_stop false true n s h e f y = ap stopped (ap step_refusal (sym h ∙ f))
-step_stop false false n s h e f y = let z : suc n ≡ 0 = ap step_count (sym h ∙ f) in absurd (omega arith)
+step_stop true o n s h e f y = cc
+step_stop false true n s h e f y = cc
+step_stop false false n s h e f y = cc
 
-pub step_on : (k o : Bool) (n : ℕ) (s : Step) → s ≡ cond k (step.Refused ConstantSort) (cond o (step.Refused TooManyNodes) (step.On n)) → (m : ℕ)
-    → s ≡ step.On m → {A : Type 0} (y : Counted A)
+pub step_on : (k o : Bool) (n : ℕ) (s : Result ℕ Refusal) → s ≡ cond k (Err ConstantSort) (cond o (Err TooManyNodes) (Ok n)) → (m : ℕ)
+    → s ≡ Ok m → {A : Type 0} (y : Counted A)
     → (cond k (stopped ConstantSort) (cond o (stopped TooManyNodes) y) ≡ y) × (m ≡ n)
-unfolding step_refusal step_count
-step_on true o n s h m f y = let z : 0 ≡ suc m = ap step_count (sym h ∙ f) in absurd (omega arith)
-step_on false true n s h m f y = let z : 0 ≡ suc m = ap step_count (sym h ∙ f) in absurd (omega arith)
-step_on false false n s h m f y = let z : suc n ≡ suc m = ap step_count (sym h ∙ f) in (refl, omega arith)
+step_on true o n s h m f y = cc
+step_on false true n s h m f y = cc
+step_on false false n s h m f y = (refl, cc)

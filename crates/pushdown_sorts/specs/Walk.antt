@@ -1,8 +1,9 @@
 -- The walk of push in the arena: what its functions ask and leave. These are definitions.
-use Rattle.std.specs.Prelude.{◌≡◌, cond, List, ℕ, ◌+◌, ◌*◌, ◌≤◌, ◌<◌, length, take, drop}
+use Rattle.std.specs.Prelude.{◌≡◌, cond, List, ℕ, ◌+◌, ◌*◌, ◌≤◌, ◌<◌, length, take, drop, Result, Ok, Err}
 use Rattle.plan.specs.Forest.{size}
 use Rattle.plan.specs.Op.{Plan}
-use Rattle.plan.specs.declared.Refusal.TheVariants.{Accepted, TooManyNodes, ConstantSort}
+use Rattle.plan.specs.declared.Refusal.{Refusal}
+use Rattle.plan.specs.declared.Refusal.TheVariants.{TooManyNodes, ConstantSort}
 use Rattle.arena.specs.Arena.{slot_size}
 use Rattle.walks.specs.Marks.{Tree, strip, op_t, size_t}
 use Rattle.walks.specs.Terms.{◌⊕◌}
@@ -13,12 +14,8 @@ use Rattle.plan_context.specs.Records.{plan_t}
 use Rattle.plan_updates.specs.Kids.{Kids}
 use Rattle.sort_pushdown.specs.declared.Visit.{Visit}
 use Rattle.sort_pushdown.specs.declared.Decision.{Decision}
-use Rattle.push_steps.specs.declared.Step.{Step}
-use Rattle.push_steps.specs.declared.Step.TheVariants as step
 use Rattle.push_visits.specs.Carried.{Visits}
 use Rattle.pushdown_sorts.specs.declared.Walked.{Walked}
-use Rattle.pushdown_sorts.specs.declared.Pushed.{Pushed}
-use Rattle.pushdown_sorts.specs.declared.Pushed.TheVariants.{Refused, Done}
 
 -- ---- one tree
 
@@ -56,9 +53,9 @@ pub record Ended (q : walk.Visit) (n : ℕ) (t : Tree) (b : List ℕ) (v : ℕ) 
   pub high : x.count ≤ n + 2 * size_t t
 
 -- It is refused, or it ends
-abbrev pub Ends : walk.Visit → ℕ → Tree → List ℕ → ℕ → List ℕ → Pushed → Type 0
-Ends q n t b v b' (Refused e) = counted_t q n t ≡ stopped e
-Ends q n t b v b' (Done x) = Ended q n t b v b' x
+abbrev pub Ends : walk.Visit → ℕ → Tree → List ℕ → ℕ → List ℕ → Result Walked Refusal → Type 0
+Ends q n t b v b' (Err e) = counted_t q n t ≡ stopped e
+Ends q n t b v b' (Ok x) = Ended q n t b v b' x
 
 -- ---- a whole plan
 
@@ -80,14 +77,9 @@ pub record PushedTo (f : Plan) (b : List ℕ) (x : Walked) : Type 0 where
   pub here : x.root < 2 * x.used
   pub room : x.used ≤ 3 * size f
 
-abbrev pub AnswersPush : Plan → List ℕ → Pushed → Type 0
-AnswersPush f b (Refused e) = answer_in f ≡ refused e
-AnswersPush f b (Done x) = PushedTo f b x
-
--- The refusal of a step; a step that goes on has none
-abbrev pub refused_by : Step → Pushed
-refused_by (step.Refused e) = Refused e
-refused_by (step.On n) = Refused Accepted
+abbrev pub AnswersPush : Plan → List ℕ → Result Walked Refusal → Type 0
+AnswersPush f b (Err e) = answer_in f ≡ refused e
+AnswersPush f b (Ok x) = PushedTo f b x
 
 -- What child number j and those after it are visited with
 abbrev pub from : (ℕ → walk.Visit) → ℕ → ℕ → walk.Visit

@@ -1,12 +1,10 @@
 -- The walk: a step, the children from left to right, and the decision carried out. Assumes nothing.
-use Rattle.std.specs.Prelude.{◌≡◌, refl, Bool, true, false, cond, ◌&&◌, List, [], ◌∷◌, ℕ, zero, suc, ◌+◌, ◌*◌, ◌≤◌, ◌<◌, length, get_or, take, set}
+use Rattle.std.specs.Prelude.{◌≡◌, refl, Bool, true, false, cond, ◌&&◌, List, [], ◌∷◌, ℕ, zero, suc, ◌+◌, ◌*◌, ◌≤◌, ◌<◌, length, get_or, take, set, Option, None, Result, Ok, Err}
 use Rattle.std.proofs.Common.{sym, ap, ap₂, ◌∙◌, subst, arith, length-append, length-take-le}
 use Rattle.std.proofs.Math.Path.{subst⁻¹}
 use Rattle.row_order.specs.Iso.{Key}
 use Rattle.plan.specs.Forest.{Forest, none, tree, size, roots}
 use Rattle.plan.specs.Op.{Op, Plan}
-use Rattle.plan.specs.declared.Fetch.{Fetch}
-use Rattle.plan.specs.declared.Fetch.TheVariants.{Unlimited}
 use Rattle.plan.specs.declared.Refusal.{Refusal}
 use Rattle.plan.specs.declared.Refusal.TheVariants.{TooManyNodes, ConstantSort}
 use Rattle.plan_format.specs.Record.{children}
@@ -34,15 +32,11 @@ use Rattle.plan_context.specs.Summaries.{drop-size}
 use Rattle.sort_pushdown.specs.declared.Visit.{Visit}
 use Rattle.sort_pushdown.specs.declared.Decision.{Decision}
 use Rattle.sort_pushdown.specs.declared.NewNodes.{NewNodes}
-use Rattle.push_steps.specs.declared.Step.{Step}
-use Rattle.push_steps.specs.declared.Step.TheVariants as step
 use Rattle.sort_pushdown.specs.Decisions.{Decides, visit_of, visit_for, tops_of, of_child}
 use Rattle.push_steps.specs.Steps.{step_by, after_by}
 use Rattle.push_steps.specs.Visits.{children_visited, after_is, constant_is, over_is}
 use Rattle.pushdown_sorts.specs.declared.Walked.{Walked}
-use Rattle.pushdown_sorts.specs.declared.Pushed.{Pushed}
-use Rattle.pushdown_sorts.specs.declared.Pushed.TheVariants.{Refused, Done}
-use Rattle.pushdown_sorts.specs.Walk.{Rooted, AnswersPush, counted_t, pushed_t, Pushes, Ended, Ends, refused_by, from, Visiting}
+use Rattle.pushdown_sorts.specs.Walk.{Rooted, AnswersPush, counted_t, pushed_t, Pushes, Ended, Ends, from, Visiting}
 use Rattle.push_visits.specs.Carried.{carried_by, below_by, op_by, Carries}
 use Rattle.push_visits.specs.Carrying.{below_size}
 use Rattle.push_visits.specs.Visiting.{roots_long, shown, own_tells}
@@ -50,11 +44,11 @@ use Rattle.pushdown_sorts.specs.Children.{count_tree_lem, fetches_at, pushed_bel
 
 -- ---- one node, in the slot
 
-merge_few : (ks : List Key) (f : Fetch) → length (new_merge ks f) ≤ 1
+merge_few : (ks : List Key) (f : Option ℕ) → length (new_merge ks f) ≤ 1
 merge_few [] f = omega arith
 merge_few (k ∷ ks) f = omega arith
 
-sort_few : (p : Bool) (ks : List Key) (f : Fetch) → length (new_sort p ks f) ≤ 1
+sort_few : (p : Bool) (ks : List Key) (f : Option ℕ) → length (new_sort p ks f) ≤ 1
 sort_few p [] f = omega arith
 sort_few p (k ∷ ks) f = omega arith
 
@@ -98,7 +92,7 @@ module _ (a : List ℕ) (ua h : ℕ) (b : List ℕ) (v : ℕ) (visit : Visit) (n
   size_is : size_t (tree_of a h) ≡ suc (size (forest a (slot a (index h)).kids))
   size_is = ap size_t see
 
-  pub back : (r : Pushed) (b' : List ℕ) → Ends (visit_of visit) n (node (decode (slot a (index h)).rec) false (forest a (slot a (index h)).kids)) b v b' r
+  pub back : (r : Result Walked Refusal) (b' : List ℕ) → Ends (visit_of visit) n (node (decode (slot a (index h)).rec) false (forest a (slot a (index h)).kids)) b v b' r
       → Ends (visit_of visit) n (tree_in a (index h)) b v b' r
   back r b' e = subst⁻¹ (λ t. Ends (visit_of visit) n t b v b' r) see e
 
@@ -124,26 +118,25 @@ module _ (a : List ℕ) (ua h : ℕ) (b : List ℕ) (v : ℕ) (visit : Visit) (n
     abbrev Q : ℕ → walk.Visit
     Q = visit_for d (fetches (strip (forest a (slot a (index h)).kids)))
 
-    module _ (rec own : List ℕ) (er : rec ≡ (slot a (index h)).rec) (eo : own ≡ kept_part a (index h)) (s : Step)
+    module _ (rec own : List ℕ) (er : rec ≡ (slot a (index h)).rec) (eo : own ≡ kept_part a (index h)) (s : Result ℕ Refusal)
         (es : s ≡ step_by (is_sort (decode rec) && is_nil (known_order (told own))) d.quiet d.peak (after_by d n)) where
       own_is : told own ≡ facts_op o (facts c)
       own_is = (own_tells a ua i p.visits.from low_i own eo).1
 
-      step_is : s ≡ cond (constant_sort o c) (step.Refused ConstantSort) (cond (overflows D n) (step.Refused TooManyNodes) (step.On (after_by d n)))
+      step_is : s ≡ cond (constant_sort o c) (Err ConstantSort) (cond (overflows D n) (Err TooManyNodes) (Ok (after_by d n)))
       step_is = es ∙ ap (λ x. step_by (is_sort (decode x) && is_nil (known_order (told own))) d.quiet d.peak (after_by d n)) er
-          ∙ ap₂ (λ x y. cond x (step.Refused ConstantSort) (cond y (step.Refused TooManyNodes) (step.On (after_by d n))))
+          ∙ ap₂ (λ x y. cond x (Err ConstantSort) (cond y (Err TooManyNodes) (Ok (after_by d n))))
           (constant_is o q c (told own) d dec own_is) (over_is o q c (told own) d dec own_is n)
 
-      stops : (e : Refusal) → s ≡ step.Refused e → counted_t (visit_of visit) n
+      stops : (e : Refusal) → s ≡ Err e → counted_t (visit_of visit) n
           (node (decode (slot a (index h)).rec) false (forest a (slot a (index h)).kids)) ≡ stopped e
       stops e f = step_stop (constant_sort o c) (overflows D n) (after_by d n) s step_is e f
           (bind (count_down D.reqs (afterwards D n) c) (λ x m. counted (walk.carry_out D x) m))
 
-      pub step_ends : (e : Refusal) → s ≡ step.Refused e → (r : Pushed) → r ≡ refused_by s → (b' : List ℕ)
-          → Ends (visit_of visit) n (tree_in a (index h)) b v b' r
-      step_ends e f r x b' = back r b' (subst⁻¹ (λ y. Ends q n N b v b' y) (x ∙ ap refused_by f) (stops e f))
+      pub step_ends : (e : Refusal) → s ≡ Err e → (b' : List ℕ) → Ends (visit_of visit) n (tree_in a (index h)) b v b' (Err e)
+      step_ends e f b' = back (Err e) b' (stops e f)
 
-      pub goes_on : (m : ℕ) → s ≡ step.On m
+      pub goes_on : (m : ℕ) → s ≡ Ok m
           → (counted_t (visit_of visit) n (node (decode (slot a (index h)).rec) false (forest a (slot a (index h)).kids)) ≡ bind
           (count_down (visit_for d (fetches (strip (forest a (slot a (index h)).kids)))) m (strip (forest a (slot a (index h)).kids)))
           (λ x l. counted (walk.carry_out (walk.pushdown_sorts_helper (visit_of visit) (decode (slot a (index h)).rec)
@@ -182,8 +175,8 @@ module _ (a : List ℕ) (ua h : ℕ) (b : List ℕ) (v : ℕ) (visit : Visit) (n
         stopped_child : (e : Refusal) → counted_t (Q j) m (tree_in a (index k)) ≡ stopped e → counted_t q n N ≡ stopped e
         stopped_child e f = is ∙ ap (λ x. bind x (λ x l. counted (walk.carry_out D x) l)) (visiting_stop a ks Q m₀ b v j w m kids b₁ z l e f)
 
-        module _ (below : Visit) (f : Fetch) (ef : f ≡ fetch_t (tree_of a (get_or (slot a (index h)).kids j 0)))
-            (ev : (ts : List Fetch) → f ≡ get_or ts j Unlimited → visit_of below ≡ visit_for d ts j) (eo : below.req.order ≡ (of_child d.reqs j).order) where
+        module _ (below : Visit) (f : Option ℕ) (ef : f ≡ fetch_t (tree_of a (get_or (slot a (index h)).kids j 0)))
+            (ev : (ts : List (Option ℕ)) → f ≡ get_or ts j None → visit_of below ≡ visit_for d ts j) (eo : below.req.order ≡ (of_child d.reqs j).order) where
           visit_is : visit_of below ≡ Q j
           visit_is = ev (fetches c) (ef ∙ sym (fetches_at a ks j l))
 
@@ -219,20 +212,20 @@ module _ (a : List ℕ) (ua h : ℕ) (b : List ℕ) (v : ℕ) (visit : Visit) (n
                 },
               )
 
-          module _ (b₂ : List ℕ) (lb : length b₂ ≡ length b₁) (r : Pushed)
+          module _ (b₂ : List ℕ) (lb : length b₂ ≡ length b₁) (r : Result Walked Refusal)
               (en : Ends (visit_of below) m (tree_in a (index (get_or (slot a (index h)).kids j 0))) b₁ w b₂ r) where
-            pub child_more : (x : Walked) → r ≡ Done x → Visiting a (slot a (index h)).kids
+            pub child_more : (x : Walked) → r ≡ Ok x → Visiting a (slot a (index h)).kids
                 (visit_for d (fetches (strip (forest a (slot a (index h)).kids)))) m₀ b v (j + 1) x.used x.count (set kids j x.root) b₂
             child_more x e =
                 visiting_more a ks Q m₀ b v j w m kids b₁ z l (shown a ua i p.visits.from low_i).few b₂ lb x
                 (subst (λ y. Ended y m (tree_in a (index k)) b₁ w b₂ x) visit_is
                 (subst (λ y. Ends (visit_of below) m (tree_in a (index k)) b₁ w b₂ y) e en))
 
-            pub child_stop : (e : Refusal) → r ≡ Refused e → Ends (visit_of visit) n (tree_in a (index h)) b v b₂ r
+            pub child_stop : (e : Refusal) → r ≡ Err e → Ends (visit_of visit) n (tree_in a (index h)) b v b₂ (Err e)
             child_stop e f =
-                back r b₂ (subst⁻¹ (λ y. Ends q n N b v b₂ y) f
+                back (Err e) b₂
                 (stopped_child e (ap (λ y. counted_t y m (tree_in a (index k))) (sym visit_is)
-                ∙ subst (λ y. Ends (visit_of below) m (tree_in a (index k)) b₁ w b₂ y) f en)))
+                ∙ subst (λ y. Ends (visit_of below) m (tree_in a (index k)) b₁ w b₂ y) f en))
 
       -- ---- all children are walked
       module _ (j w m : ℕ) (kids b₁ : List ℕ) (z : Visiting a (slot a (index h)).kids (visit_for d (fetches (strip (forest a (slot a (index h)).kids)))) m₀
@@ -287,7 +280,7 @@ module _ (a : List ℕ) (ua h : ℕ) (b : List ℕ) (v : ℕ) (visit : Visit) (n
             })
 
         pub all_ends : (b₂ : List ℕ) (x : At) → Grown b₁ w b₂ x (carried_by a (index h) d (forest b₁ (take e kids))) (w + 3)
-            → Ends (visit_of visit) n (tree_in a (index h)) b v b₂ (Done (record { used = x.used; root = x.root; count = m }))
+            → Ends (visit_of visit) n (tree_in a (index h)) b v b₂ (Ok (record { used = x.used; root = x.root; count = m }))
         all_ends b₂ x g =
             let g₁ : Grown b₁ w b₂ x (pushed_t q N) (w + 3) = subst (λ t. Grown b₁ w b₂ x t (w + 3))
             (ap (λ y. carried_by a (index h) d (forest b₁ (take y kids))) ej ∙ carried_is) g in
@@ -295,7 +288,7 @@ module _ (a : List ℕ) (ua h : ℕ) (b : List ℕ) (v : ℕ) (visit : Visit) (n
             let mr = z.made.more in let gm = g₁.more in let gr = g₁.room in
             let cs = cover-size (tops_of d.tops) (below_by a (index h) d f) in let bs = below_size d.gone (op_by a (index h) d.rebuilt) f in
             let tf = tops_few d.tops in let ci = ap size_t carried_is in
-            back (Done (record { used = x.used; root = x.root; count = m })) b₂
+            back (Ok (record { used = x.used; root = x.root; count = m })) b₂
             (record {
               is = is ∙ ap (λ y. bind y (λ x l. counted (walk.carry_out D x) l)) (visiting_end a ks Q m₀ b v j w m kids b₁ z long)
                   ∙ ap (λ y. counted (walk.carry_out D y) m) pure_is;
@@ -341,9 +334,9 @@ module _ (a : List ℕ) (ua h : ℕ) (b : List ℕ) (p : Rooted a ua h b) (visit
       ∙ count_tree_lem (λ i. walk.at_root) n (tree_in a (index h)) none
       ∙ ap (λ q. bind (counted_t q n (tree_in a (index h))) (λ u m. counted (plant u none) m)) (sym ev)
 
-  pub root_ends : (b' : List ℕ) (r : Pushed) → Ends (visit_of visit) n (tree_in a (index h)) b 0 b' r → AnswersPush (plan_t (tree_of a h)) b' r
-  root_ends b' (Refused e) x = ap answer_of (counted_is ∙ ap (λ y. bind y (λ u m. counted (plant u none) m)) x)
-  root_ends b' (Done w) x =
+  pub root_ends : (b' : List ℕ) (r : Result Walked Refusal) → Ends (visit_of visit) n (tree_in a (index h)) b 0 b' r → AnswersPush (plan_t (tree_of a h)) b' r
+  root_ends b' (Err e) x = ap answer_of (counted_is ∙ ap (λ y. bind y (λ u m. counted (plant u none) m)) x)
+  root_ends b' (Ok w) x =
       let z = strip-size (tree_in a (index h)).kids in let g = x.grown.room in
       record {
         is = ap answer_of (counted_is ∙ ap (λ y. bind y (λ u m. counted (plant u none) m)) x.is) ∙ ap (λ t. answered (plan_t t)) (sym x.grown.tree);

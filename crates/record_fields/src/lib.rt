@@ -7,7 +7,7 @@ ghost use Rattle.plan.specs.Numbers.{kind_of, join_type_of};
 ghost use Rattle.plan_codec.specs.Decode.{fetch_of};
 ghost use Rattle.record_fields.specs.Fields.{tail_columns};
 
-use plan::{Fetch, JoinType, Kind, NO_FETCH};
+use plan::{JoinType, Kind, NO_FETCH};
 
 // Where the fields stand that are asked for by name (01, 'A plan file comes in').
 pub const KIND: usize = 0;
@@ -33,14 +33,10 @@ pub const TAIL: usize = 32;
 pub const RECORD: usize = 64;
 
 // The fetch that a number stands for.
-pub fn fetch_from(n: u32) -> Fetch
+pub fn fetch_from(n: u32) -> Option<u32>
     ensures { result ≡ fetch_of n }
 {
-    if n == NO_FETCH {
-        Fetch::Unlimited
-    } else {
-        Fetch::AtMost(n)
-    }
+    if n == NO_FETCH { None } else { Some(n) }
 }
 
 pub fn kind_of(k: u8) -> Kind

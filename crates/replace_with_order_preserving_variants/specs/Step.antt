@@ -1,5 +1,5 @@
 -- The step: a sort whose path is marked, and the alternative that makes it unnecessary or not.
-use Rattle.std.specs.Prelude.{◌≡◌, Bool, ◌&&◌, ◌||◌, ℕ, suc, ◌+◌, ◌*◌, ◌≤◌, ◌<◌, eqb, length, get_or, take}
+use Rattle.std.specs.Prelude.{◌≡◌, Bool, ◌&&◌, ◌||◌, ℕ, suc, ◌+◌, ◌*◌, ◌≤◌, ◌<◌, eqb, length, get_or, take, Option}
 use Rattle.std.proofs.Math.Path.{refl, sym, ap, ap₂}
 use Rattle.std.proofs.Common.{◌∙◌, subst, arith, length-take-le}
 use Rattle.std.proofs.Math.Bool.{true, false, cond, not}
@@ -9,7 +9,6 @@ use Rattle.plan.specs.Forest.{Forest, tree, size}
 use Rattle.plan.specs.Op.{Op, sort_op}
 use Rattle.plan.specs.Numbers.{code, kind_of}
 use Rattle.plan.specs.WellFormed.{fetch_ok, children_ok}
-use Rattle.plan.specs.declared.Fetch.{Fetch}
 use Rattle.plan_codec.specs.Decode.{from_bytes, operator_of, decode}
 use Rattle.plan_codec.specs.Encode.{encode}
 use Rattle.semantics.specs.Facts.{facts_op, nf, met, known_order}
@@ -94,7 +93,7 @@ module _ (m : List ℕ) (u : ℕ) (r : List ℕ) (h i : ℕ) (p : Sorting m u r 
   pub sorting : Sorts m r h
   sorting = record { here = here m u h p.puts.arena low; proper = record_proper r 1 (forest m (h ∷ [])) p.puts.canon p.puts.ok; sort = p.sort }
 
-  module _ (s : Settings) (f : Fetch) (ef : f ≡ (cuts (decode r)).fetch) where
+  module _ (s : Settings) (f : Option ℕ) (ef : f ≡ (cuts (decode r)).fetch) where
     pub sorting_asks : Preserves m u h f
     sorting_asks =
         let x = p.room in let y = p.small in

@@ -41,11 +41,9 @@ fn unmarked(m: &[u8], i: usize) -> [usize; 8]
 {
     let n = child_count(m, i);
     let mut kids = [0usize; 8];
-    let mut j = 0;
-    while j < n {
+    for j in 0..n {
         let k = child(m, i, j);
         kids[j] = set_mark(k, false);
-        j += 1;
     }
     kids
 }

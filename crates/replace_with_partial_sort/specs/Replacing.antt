@@ -1,5 +1,5 @@
 -- Partial sorting of one node, as the code asks.
-use Rattle.std.specs.Prelude.{◌≡◌, refl, Bool, true, false, cond, ◌||◌, List, [], ◌∷◌, ◌++◌, ℕ, zero, suc, ◌≤◌, ◌<◌, eqb, length, get_or, take}
+use Rattle.std.specs.Prelude.{◌≡◌, refl, Bool, true, false, cond, ◌||◌, List, [], ◌∷◌, ◌++◌, ℕ, zero, suc, ◌≤◌, ◌<◌, eqb, length, get_or, take, Option, Some, None}
 use Rattle.std.proofs.Common.{sym, ap, ap₂, ◌∙◌, append_assoc, arith}
 use Rattle.row_order.specs.Iso.{Key}
 use Rattle.plan.specs.Op.{Op, source, filter, projection, union, repartition, coalesce, sort_op, merge_op, global_limit, local_limit, sort_merge_join, hash_join, output_requirement, partial_sort, aggregate, Plan}
@@ -20,8 +20,6 @@ use Rattle.plan_context.specs.Laws.{facts_at}
 use Rattle.plan_context.specs.Facts.{Tells}
 use Rattle.tree_summary.specs.declared.Summary.{Summary}
 use Rattle.sort_connection.specs.Standing.{Standing, tree_is, op_is, own_over, own_proper, sort_op_lem, one_kid_lem, is_code, not_code}
-use Rattle.replace_with_partial_sort.specs.declared.Replaced.{Replaced as Answer}
-use Rattle.replace_with_partial_sort.specs.declared.Replaced.TheVariants.{Same, Partial}
 use Rattle.scan.specs.Below.{or_false}
 
 -- A sort with n keys met, as a partial sort
@@ -43,14 +41,14 @@ partial n (partial_sort p ks k f) = partial_sort p ks k f
 partial n (aggregate ks k) = aggregate ks k
 
 -- What the code's answer stands for, at a node o
-abbrev pub becoming : Op → Answer → Op
-becoming o Same = o
-becoming o (Partial n) = partial n o
+abbrev pub becoming : Op → Option ℕ → Op
+becoming o None = o
+becoming o (Some n) = partial n o
 
 -- A partial sort comes in a sort's place, with eight keys met at most
-abbrev pub Fitting : Op → Answer → Type 0
-Fitting o Same = Unit {0}
-Fitting o (Partial n) = (n ≤ 8) × (code o ≡ 7)
+abbrev pub Fitting : Op → Option ℕ → Type 0
+Fitting o None = Unit {0}
+Fitting o (Some n) = (n ≤ 8) × (code o ≡ 7)
 
 -- ---- how many keys are met
 
@@ -159,7 +157,7 @@ module _ (m : List ℕ) (u h : ℕ) (a : Standing m u h) (r : List ℕ) (hr : r 
 
         -- some of them are
         pub some_met : (eqb n 0 || eqb n ks.len) ≡ false
-            → (replace_with_partial_sort (op_t (tree_of m h)) (strip (tree_of m h).kids) ≡ partial n (op_t (tree_of m h))) × Fitting (op_t (tree_of m h)) (Partial n)
+            → (replace_with_partial_sort (op_t (tree_of m h)) (strip (tree_of m h).kids) ≡ partial n (op_t (tree_of m h))) × Fitting (op_t (tree_of m h)) (Some n)
         some_met q =
             let l = length_keys ks.len ks.word in let f = hn.few in let g = hks.few in
             (by_keys ∙ ap (λ b. cond b (op_t t) (partial n (op_t t))) q, (omega arith, ap code sorts))

@@ -13,32 +13,25 @@ use met_orders::met_keys;
 use node_properties::{is_sort, keys};
 use plan_context::kept::{row, summary};
 
-// What becomes of the node: itself, or a partial sort with this many keys met.
-#[derive(Clone, Copy)]
-pub enum Replaced {
-    Same,
-    Partial(usize),
-}
-
-// The node at h. A sort stays where its child is bounded, or meets none of its keys or all.
-pub fn replace_with_partial_sort(m: &[u8], u: usize, h: usize) -> Replaced
+// What becomes of the node at h: a partial sort with this many keys met, or nothing. A sort stays where its child is bounded, or meets none of its keys or all.
+pub fn replace_with_partial_sort(m: &[u8], u: usize, h: usize) -> Option<usize>
     requires { Standing m.now u h }
     ensures { (replaced (op_t (tree_of m.now h)) (strip (tree_of m.now h).kids) ≡ becoming (op_t (tree_of m.now h)) result)
         × Fitting (op_t (tree_of m.now h)) result }
 {
     let r = record_at(m, h / 2);
     if !is_sort(r) {
-        return Replaced::Same;
+        return None;
     }
     let k = child(m, h / 2, 0);
     let s = summary(m, k);
     if !s.endless {
-        return Replaced::Same;
+        return None;
     }
     let own = keys(r);
     let n = met_keys(row(m, k), own);
     if (n == 0) | (n == own.len) {
-        return Replaced::Same;
+        return None;
     }
-    Replaced::Partial(n)
+    Some(n)
 }

@@ -9,6 +9,9 @@ use std::{fs, io};
 // Longer than the longest file that a case holds.
 const MOST: usize = 10240;
 
+// More cases than a file has.
+const MOST_CASES: usize = 1000000;
+
 // The length of a case's header.
 const HEADER: usize = 20;
 
@@ -53,25 +56,19 @@ pub struct Case {
     pub node: u32,
 }
 
-#[derive(Clone, Copy)]
-pub enum Next {
-    Found(Case),
-    End,
-}
-
-// The next case's header, which the rest of the cases begins with.
-fn header(rest: &[u8]) -> Next {
+// The next case's header, which the rest of the cases begins with, if there is one.
+fn header(rest: &[u8]) -> Option<Case> {
     if rest.len() < HEADER {
-        return Next::End;
+        return None;
     }
     let head = &rest[..HEADER];
     let length = scan::get16(head, 4) as usize;
     let answer = scan::get16(head, 6) as usize;
     let room = scan::get16(head, 8) as usize;
     if (MOST < length) | (MOST < answer) | (MOST < room) {
-        return Next::End;
+        return None;
     }
-    Next::Found(Case {
+    Some(Case {
         call: scan::byte(head, 0),
         number: scan::byte(head, 1),
         passes: scan::byte(head, 2),
@@ -116,11 +113,9 @@ fn rewrite(case: Case, plan: &[u8], out: &mut [u8]) -> u32 {
 // Whether the output is the wanted file, and fresh behind it.
 fn is_written(out: &[u8], want: &[u8]) -> bool {
     let mut all = want.len() <= out.len();
-    let mut i = 0;
-    while i < out.len() {
+    for (i, x) in out.iter().enumerate() {
         let w = if i < want.len() { want[i] } else { FRESH };
-        all = all & (out[i] == w);
-        i += 1;
+        all = all & (*x == w);
     }
     all
 }
@@ -181,7 +176,7 @@ fn front(bytes: &[u8], n: usize) -> usize
     if n < bytes.len() { n } else { bytes.len() }
 }
 
-// A case takes up at least its header, but nothing says how many cases there are: the turns are counted down.
+// A case takes up at least its header, but nothing says how many cases there are: the turns are counted.
 fn replay(cases: &[u8]) -> Tally {
     let mut tally = Tally {
         cases: 0,
@@ -191,24 +186,17 @@ fn replay(cases: &[u8]) -> Tally {
         wrong: 0,
     };
     let mut rest = cases;
-    let mut turns: usize = 1000000;
-    while 0 < turns {
-        let next = header(rest);
-        match next {
-            Next::Found(case) => {
-                let files = &rest[front(rest, HEADER)..];
-                let plan = front(files, case.length);
-                let answers = &files[plan..];
-                let want = front(answers, answer_length(case));
-                let right = is_right(case, &files[..plan], &answers[..want]);
-                tally = counted(tally, case, right);
-                rest = &answers[want..];
-            }
-            Next::End => {
-                return tally;
-            }
-        }
-        turns -= 1;
+    for _ in 0..MOST_CASES {
+        let Some(case) = header(rest) else {
+            return tally;
+        };
+        let files = &rest[front(rest, HEADER)..];
+        let plan = front(files, case.length);
+        let answers = &files[plan..];
+        let want = front(answers, answer_length(case));
+        let right = is_right(case, &files[..plan], &answers[..want]);
+        tally = counted(tally, case, right);
+        rest = &answers[want..];
     }
     tally
 }

@@ -1,6 +1,6 @@
 -- What the functions over rows' bytes need: the null set's tests, a row's columns one by one, a stream's rows one by one, signed numbers. Assumes nothing.
-use Rattle.std.specs.Prelude.{◌≡◌, refl, Bool, true, false, not, ◌&&◌, ◌||◌, List, ℕ, suc, ◌+◌, ◌*◌, ◌-◌, ◌/◌, ◌^◌, ◌≤◌, ◌<◌, eqb, ltb, leb, length, get_or, take, drop}
-use Rattle.std.proofs.Common.{sym, ap, ap₂, ◌∙◌, subst, mul-le-mul, mul-le-mul_left, mul-le-mul_right, mul-one, suc-mul, arith, eq-eqb, ne_eqb, leb-true, le-leb, lt-ltb, le-ltb, add-one, drop-cons, drop_of_length-le, length-append}
+use Rattle.std.specs.Prelude.{◌≡◌, refl, Bool, true, false, not, ◌&&◌, ◌||◌, List, ℕ, suc, ◌+◌, ◌*◌, ◌-◌, ◌/◌, ◌^◌, ◌≤◌, ◌<◌, eqb, leb, length, get_or, take, drop}
+use Rattle.std.proofs.Common.{sym, ap, ap₂, ◌∙◌, subst, mul-le-mul, mul-le-mul_left, mul-le-mul_right, mul-one, suc-mul, arith, eq-eqb, ne_eqb, leb-true, le-leb, add-one, drop-cons, drop_of_length-le, length-append}
 use Rattle.std.proofs.Math.Nat.{div-eq_of_lt}
 use Rattle.std.proofs.lemmas.Bool.{lt-leb}
 use Rattle.std.specs.Int.Bits.{bit_and}
@@ -13,7 +13,7 @@ use Rattle.plan.specs.WellFormed.{set_fits}
 use Rattle.scan.specs.Below.{and_left, and_right, all_more, all_fail, all_end}
 use Rattle.scan.specs.Bytes.{zeros, le32, all_below}
 use Rattle.scan.specs.ByteLaws.{cut}
-use Rattle.stepping.specs.RowBytes.{row_size, cell_bytes_at, row_ok, row_place, stream_end, stream_at, row_at, stream_ok, streams_at, streams_ok, rows_together}
+use Rattle.stepping.specs.RowBytes.{cell_bytes_at, row_ok, row_place, stream_end, stream_at, row_at, stream_ok, streams_at, streams_ok, rows_together}
 
 pub set_whole : (s w : ℕ) → s < 2 ^ 32 → 32 ≤ w → w ≤ 32 → true ≡ set_fits w s
 set_whole s w h a b = let e : w ≡ 32 = omega arith in

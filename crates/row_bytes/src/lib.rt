@@ -46,12 +46,10 @@ pub fn row_fits(s: &[u8], at: usize, w: usize) -> bool
     if !set_fits(nulls, w) {
         return false;
     }
-    let mut c = 0;
-    while c < w {
+    for c in 0..w {
         if !cell_fits(s, at, nulls, c) {
             return false;
         }
-        c += 1;
     }
     true
 }
@@ -70,12 +68,10 @@ pub fn stream_fits(s: &[u8], at: usize, w: usize) -> bool
     if s.len() < end {
         return false;
     }
-    let mut i = 0;
-    while i < n {
+    for i in 0..n {
         if !row_fits(s, at + 4 + i * size, w) {
             return false;
         }
-        i += 1;
     }
     true
 }
@@ -86,15 +82,13 @@ pub fn streams_fit(s: &[u8], widths: &[usize]) -> bool
     ensures { result ≡ streams_ok s.now 0 widths.now }
 {
     let mut at = 0;
-    let mut j = 0;
-    while j < widths.len() {
+    for j in 0..widths.len() {
         let w = widths[j];
         if !stream_fits(s, at, w) {
             return false;
         }
         let n = scan::get32(s, at) as usize;
         at = at + 4 + n * (4 + 8 * w);
-        j += 1;
     }
     at == s.len()
 }
@@ -106,13 +100,11 @@ pub fn rows_in_all(s: &[u8], widths: &[usize]) -> usize
 {
     let mut at = 0;
     let mut rows = 0;
-    let mut j = 0;
-    while j < widths.len() {
+    for j in 0..widths.len() {
         let w = widths[j];
         let n = scan::get32(s, at) as usize;
         rows += n;
         at = at + 4 + n * (4 + 8 * w);
-        j += 1;
     }
     rows
 }
@@ -134,11 +126,9 @@ fn cells_at(s: &[u8], at: usize, w: usize) -> [i64; 32]
     ensures { take w result ≡ numbers_at s.now at w }
 {
     let mut cells = [0i64; 32];
-    let mut c = 0;
-    while c < w {
+    for c in 0..w {
         let x = scan::get64(s, at + 4 + 8 * c);
         cells[c] = signed_number(x);
-        c += 1;
     }
     cells
 }
@@ -172,13 +162,11 @@ pub fn in_order(keys: &[usize], s: &[u8], at: usize, w: usize) -> bool
 {
     let n = scan::get32(s, at) as usize;
     let size = 4 + 8 * w;
-    let mut i = 0;
-    while i + 1 < n {
+    for i in 0..n.saturating_sub(1) {
         let c = compare_at(keys, s, at + 4 + i * size, at + 4 + (i + 1) * size, w);
         if is_after(c) {
             return false;
         }
-        i += 1;
     }
     true
 }
@@ -200,13 +188,11 @@ pub fn source_fits(s: &[u8], at: usize, w: usize, k: usize) -> bool
     ensures { result ≡ streams_fit s.now at (alike k w) }
 {
     let mut a = at;
-    let mut left = k;
-    while 0 < left {
+    for _ in 0..k {
         if !stream_fits(s, a, w) {
             return false;
         }
         a = stream_end(s, a, w);
-        left -= 1;
     }
     true
 }
@@ -217,10 +203,8 @@ pub fn source_end(s: &[u8], at: usize, w: usize, k: usize) -> usize
     ensures { result ≡ streams_end s.now at (alike k w) }
 {
     let mut a = at;
-    let mut left = k;
-    while 0 < left {
+    for _ in 0..k {
         a = stream_end(s, a, w);
-        left -= 1;
     }
     a
 }
@@ -232,11 +216,9 @@ pub fn source_count(s: &[u8], at: usize, w: usize, k: usize) -> usize
 {
     let mut rows = 0;
     let mut a = at;
-    let mut left = k;
-    while 0 < left {
+    for _ in 0..k {
         rows += scan::get32(s, a) as usize;
         a = stream_end(s, a, w);
-        left -= 1;
     }
     rows
 }
@@ -247,13 +229,11 @@ pub fn source_in_order(keys: &[usize], s: &[u8], at: usize, w: usize, k: usize) 
     ensures { result ≡ every (in_order (map key_of keys.now)) (streams_at s.now at (alike k w)) }
 {
     let mut a = at;
-    let mut left = k;
-    while 0 < left {
+    for _ in 0..k {
         if !in_order(keys, s, a, w) {
             return false;
         }
         a = stream_end(s, a, w);
-        left -= 1;
     }
     true
 }
@@ -293,12 +273,10 @@ fn stream_agrees(s: &[u8], first: usize, at: usize, w: usize, c: usize) -> bool
 {
     let n = scan::get32(s, at) as usize;
     let size = 4 + 8 * w;
-    let mut i = 0;
-    while i < n {
+    for i in 0..n {
         if !same_cell(s, first, at + 4 + i * size, c) {
             return false;
         }
-        i += 1;
     }
     true
 }
@@ -309,13 +287,11 @@ fn source_agrees(s: &[u8], first: usize, at: usize, w: usize, k: usize, c: usize
     ensures { result ≡ every (every (agrees (row_at s.now first w) c)) (streams_at s.now at (alike k w)) }
 {
     let mut a = at;
-    let mut left = k;
-    while 0 < left {
+    for _ in 0..k {
         if !stream_agrees(s, first, a, w, c) {
             return false;
         }
         a = stream_end(s, a, w);
-        left -= 1;
     }
     true
 }
@@ -326,13 +302,11 @@ fn one_cell(s: &[u8], at: usize, w: usize, k: usize, c: usize) -> bool
     ensures { result ≡ one_cell c (concat (streams_at s.now at (alike k w))) }
 {
     let mut a = at;
-    let mut left = k;
-    while 0 < left {
+    for j in 0..k {
         if 0 < scan::get32(s, a) {
-            return source_agrees(s, a + 4, a, w, left, c);
+            return source_agrees(s, a + 4, a, w, k - j, c);
         }
         a = stream_end(s, a, w);
-        left -= 1;
     }
     true
 }
@@ -352,12 +326,10 @@ pub fn constants_fit(set: u32, s: &[u8], at: usize, w: usize, k: usize) -> bool
     requires { (w ≤ 32) × (streams_fit s.now at (alike k w) ≡ true) }
     ensures { result ≡ all_below (λ c. not (bit set c) || one_cell c (concat (streams_at s.now at (alike k w)))) w }
 {
-    let mut c = 0;
-    while c < w {
+    for c in 0..w {
         if !constant_fits(set, s, at, w, k, c) {
             return false;
         }
-        c += 1;
     }
     true
 }

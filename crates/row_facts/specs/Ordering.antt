@@ -7,7 +7,7 @@ use Rattle.semantics.specs.Facts.{reorder, nf}
 use Rattle.byte_rows.specs.Rows.{low_bytes}
 use Rattle.key_lists.specs.declared.Keys.{Keys}
 use Rattle.key_lists.specs.Keys.{keys_of, Keyed}
-use Rattle.facts.specs.Known.{known, Says}
+use Rattle.facts.specs.Known.{Says}
 use Rattle.facts.specs.Saying.{says-ordered}
 use Rattle.fact_slots.specs.Slots.{le64, loaded, word_bytes}
 use Rattle.fact_slots.specs.Storing.{word_again}

@@ -30,11 +30,7 @@ pub fn row(s: &[u8]) -> [u8; 48]
     ensures { result ≡ take 48 s.now }
 {
     let mut out = [0u8; 48];
-    let mut i = 0;
-    while i < ROW {
-        out[i] = s[i];
-        i += 1;
-    }
+    out.copy_from_slice(&s[..ROW]);
     out
 }
 

@@ -6,6 +6,7 @@ use Rattle.stepping.specs.Outlets.{tally}
 use Rattle.step_tables.specs.Places.{within}
 use Rattle.step_tables.specs.Shown.{within-true, within_below, within_above}
 use Rattle.step_tables.specs.Passes.{node_in}
+use Rattle.step_tables.specs.declared.StepNode.{StepNode}
 use Rattle.step_tables.specs.Counting.{one, tally_in, tally_is, many_ext, tally_parts, tally_none}
 use Rattle.step_tables.specs.Holding.{more, more_is, HeldAre, held_few}
 use Rattle.step_tables.specs.Queueing.{QueuedAre}
@@ -82,14 +83,14 @@ held_in_lem held places are g (suc m) =
 
 -- ---- rows by node: the first j are counted
 
-pub record Queued (t held queued : List ℕ) (j : ℕ) : Type 0 where
+pub record Queued (t : List StepNode) (held queued : List ℕ) (j : ℕ) : Type 0 where
   pub done : (i : ℕ) → i < j → get_or queued i 0 ≡ held_in held (node_in t i).inp (node_in t i).inps
   pub left : (i : ℕ) → j ≤ i → get_or queued i 0 ≡ 0
 
-pub queued_start : (t held queued : List ℕ) → Zeros queued → Queued t held queued 0
+pub queued_start : (t : List StepNode) (held queued : List ℕ) → Zeros queued → Queued t held queued 0
 queued_start t held queued h = record { done = λ i l. absurd (omega arith); left = λ i l. h i }
 
-pub queued_more : (t held queued : List ℕ) (j n : ℕ) → j < length queued → Queued t held queued j → n ≡ held_in held (node_in t j).inp (node_in t j).inps →
+pub queued_more : (t : List StepNode) (held queued : List ℕ) (j n : ℕ) → j < length queued → Queued t held queued j → n ≡ held_in held (node_in t j).inp (node_in t j).inps →
     Queued t held (set queued j n) (j + 1)
 queued_more t held queued j n h q e =
     record {
@@ -104,7 +105,7 @@ queued_more t held queued j n h q e =
         ap (λ (k : ℕ). get_or (set queued j n) k 0) z ∙ get_or-set_same queued j n 0 h ∙ e
         ∙ sym (ap (λ (k : ℕ). held_in held (node_in t k).inp (node_in t k).inps) z)
 
-pub queued_all : (t held queued : List ℕ) (j n : ℕ) → j ≡ n → Queued t held queued j →
+pub queued_all : (t : List StepNode) (held queued : List ℕ) (j n : ℕ) → j ≡ n → Queued t held queued j →
     ((places : List ℕ) → HeldAre held places → QueuedAre t n queued places) × (get_or queued n 0 ≡ 0)
 queued_all t held queued j n e q = (
   λ places are i h. q.done i (omega arith) ∙ held_in_lem held places are (node_in t i).inp (node_in t i).inps,

@@ -13,6 +13,7 @@ use Rattle.step_tables.specs.Rows.{row_in}
 use Rattle.step_tables.specs.Found.{Known}
 use Rattle.step_tables.specs.Complete.{Complete}
 use Rattle.step_tables.specs.Passes.{node_in, Laid}
+use Rattle.step_tables.specs.declared.StepNode.{StepNode}
 use Rattle.step_tables.proofs.FirstRows.{Of, rows_of, first_shown, nowhere, listed_begins}
 use Rattle.row_reader.specs.Reading.{RowTables}
 use Rattle.row_reader.specs.Plans.{row_count, plan_rows, AllRead}
@@ -77,5 +78,5 @@ places_inside f rows {T} h i l = go (all_at (rows_of (rows_in f rows) 0 0 (total
     go (inl w) = omega (arith, h.placed i l, w.1)
     go (inr w) = omega (arith, h.placed i l, w.1)
 
-pub outs_few : {t : List ℕ} {n len : ℕ} → Laid t n len → (j : ℕ) → j < n → (node_in t j).out < 1000000000
+pub outs_few : {t : List StepNode} {n len : ℕ} → Laid t n len → (j : ℕ) → j < n → (node_in t j).out < 1000000000
 outs_few l j h = omega (arith, l.before_inputs j h, l.among j h, l.few)

@@ -18,6 +18,7 @@ use Rattle.source_rows.specs.Sources.{Which, is_source, is_other, which, streams
 use Rattle.source_rows.specs.Declared.{past_in, past_is, Stand, stand_here, stand_next, stand_other, plan_stand}
 use Rattle.step_tables.specs.Places.{total, inner, Node, nodes_at}
 use Rattle.step_tables.specs.Passes.{node_in, Listed}
+use Rattle.step_tables.specs.declared.StepNode.{StepNode}
 use Rattle.step_tables.specs.Layout.{NodesAre, listed_nodes}
 use Rattle.step_tables.proofs.FirstRows.{move_by, all_rows}
 use Rattle.row_reader.specs.Streams.{source_rows}
@@ -76,13 +77,13 @@ module _ (s : List ℕ) (R : ℕ → ℕ → List Row) (O : ℕ → ℕ) where
 
 -- ---- record by record of a plan file s of n records; t: the table of its nodes; from record j on, whose rows start at place a
 
-abbrev pub rows_from : List ℕ → ℕ → List ℕ → List ℕ → ℕ → ℕ → List Placed
+abbrev pub rows_from : List ℕ → ℕ → List StepNode → List ℕ → ℕ → ℕ → List Placed
 rows_from s n t rows a j = rows_along rows (λ k. (node_in t k).out) a j (ops_from s n j)
 
-pub rows_none : (s : List ℕ) (n : ℕ) (t rows : List ℕ) (a j : ℕ) → n ≤ j → rows_from s n t rows a j ≡ []
+pub rows_none : (s : List ℕ) (n : ℕ) (t : List StepNode) (rows : List ℕ) (a j : ℕ) → n ≤ j → rows_from s n t rows a j ≡ []
 rows_none s n t rows a j h = ap (rows_along rows (λ k. (node_in t k).out) a j) (ops_none s n j h)
 
-module _ (s : List ℕ) (n : ℕ) (taken : Taken s n) (t rows : List ℕ) where
+module _ (s : List ℕ) (n : ℕ) (taken : Taken s n) (t : List StepNode) (rows : List ℕ) where
   pub rows_start : (p : ℕ) → Listed t (nodes_at p 0 0 (total (facts (plan_of s))) (plan_of s)) →
       all_rows (rows_in (plan_of s) rows) 0 0 (total (facts (plan_of s))) (plan_of s) ≡ rows_from s n t rows 0 0
   rows_start p listed =

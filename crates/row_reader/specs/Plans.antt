@@ -1,5 +1,5 @@
 -- The rows of a whole plan in the tables: what is asked, what is ensured, and the loop over the plan file's records. Assumes nothing.
-use Rattle.std.specs.Prelude.{◌≡◌, refl, Bool, true, false, cond, List, [], ◌++◌, ℕ, ◌+◌, ◌*◌, ◌<◌, ◌≤◌, eqb, length, get_or, take, set}
+use Rattle.std.specs.Prelude.{◌≡◌, refl, Bool, true, false, cond, List, [], ◌++◌, ℕ, ◌+◌, ◌<◌, ◌≤◌, eqb, length, get_or, take, set}
 use Rattle.std.proofs.Common.{sym, ap, ◌∙◌, subst, arith, add-one, length-drop, take-suc-set, take_all}
 use Rattle.row_order.specs.Lists.{tab}
 use Rattle.scan.specs.Parts.{at_part}
@@ -17,6 +17,7 @@ use Rattle.source_rows.specs.Files.{Taken, size_is, inside}
 use Rattle.source_rows.specs.Sources.{streams_in, width_in, widths_from, widths_start, form_here, form_more, rows_more, rows_end}
 use Rattle.step_tables.specs.Places.{total, nodes_at}
 use Rattle.step_tables.specs.Passes.{node_in, Listed}
+use Rattle.step_tables.specs.declared.StepNode.{StepNode}
 use Rattle.step_tables.specs.Layout.{length_nodes}
 use Rattle.step_tables.specs.Rows.{row_in, Room}
 use Rattle.step_tables.proofs.FirstRows.{all_rows, nowhere}
@@ -33,7 +34,7 @@ abbrev pub plan_rows : Plan → List ℕ → List Placed
 plan_rows f rows = all_rows (rows_in f rows) 0 0 (total (facts f)) f
 
 -- The table of the nodes holds those of f
-abbrev pub NodesOf : Plan → List ℕ → Type 0
+abbrev pub NodesOf : Plan → List StepNode → Type 0
 NodesOf f t = Listed t (nodes_at (size f) 0 0 (total (facts f)) f)
 
 -- The tables hold the rows `all`, R in number, in this order: row i is all's i-th
@@ -57,7 +58,7 @@ numbered i n l z h k e = let y : i ≡ n = omega arith in sym (take_all i l h) �
 -- ---- the loop over the records of a file s of n; t: the table of its nodes
 
 -- Record j's rows come next, from place a on; r rows are read. T: the tables before the loop
-pub record InPlan (s : List ℕ) (n : ℕ) (t rows : List ℕ) (T : RowTables) (r a j : ℕ) (U : RowTables) : Type 0 where
+pub record InPlan (s : List ℕ) (n : ℕ) (t : List StepNode) (rows : List ℕ) (T : RowTables) (r a j : ℕ) (U : RowTables) : Type 0 where
   pub upto : j ≤ n
   pub taken : Taken s n
   pub long : AsLong U T
@@ -65,7 +66,7 @@ pub record InPlan (s : List ℕ) (n : ℕ) (t rows : List ℕ) (T : RowTables) (
   pub count : r + rows_together rows a (widths_from s n j) ≡ row_count (plan_of s) rows
   pub reading : Reading (plan_rows (plan_of s) rows) (rows_from s n t rows a j) r U
 
-pub plan_start : (s : List ℕ) (n : ℕ) (t rows : List ℕ) (T : RowTables) → Taken s n → form_ok (plan_of s) rows ≡ true →
+pub plan_start : (s : List ℕ) (n : ℕ) (t : List StepNode) (rows : List ℕ) (T : RowTables) → Taken s n → form_ok (plan_of s) rows ≡ true →
     NodesOf (plan_of s) t → InPlan s n t rows T 0 0 0 T
 plan_start s n t rows T taken f listed =
     record {
@@ -94,11 +95,11 @@ streams_few s n t j k h e = go (eqb (get_or (record_at s j) 0 0) 1) refl
     go false f = let x = ap (λ (b : Bool). cond b (get_or (record_at s j) 2 0) 0) f in omega (arith, e, x)
 
 -- the node's number of its first output
-pub out_inside : (s : List ℕ) (n : ℕ) (t : List ℕ) → Taken s n → NodesOf (plan_of s) t → (j : ℕ) → j < n → 7 * j + 2 < length t
+pub out_inside : (s : List ℕ) (n : ℕ) (t : List StepNode) → Taken s n → NodesOf (plan_of s) t → (j : ℕ) → j < n → j < length t
 out_inside s n t taken listed j h =
     omega (arith, listed.room, length_nodes (size (plan_of s)) 0 0 (total (facts (plan_of s))) (plan_of s), size_is s, taken.count)
 
-module _ (s : List ℕ) (n : ℕ) (t rows : List ℕ) (T : RowTables) {r a j : ℕ} {U : RowTables} (i : InPlan s n t rows T r a j U) where
+module _ (s : List ℕ) (n : ℕ) (t : List StepNode) (rows : List ℕ) (T : RowTables) {r a j : ℕ} {U : RowTables} (i : InPlan s n t rows T r a j U) where
   module _ (k w : ℕ) (h : j < n) (ek : k ≡ streams_in (record_at s j)) (ew : w ≡ width_in (record_at s j)) where
     pub fits_here : streams_fit rows a (alike k w) ≡ true
     fits_here = form_here s n i.taken rows j a k w h ek ew i.form

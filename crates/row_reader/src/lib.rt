@@ -18,17 +18,17 @@ ghost use Rattle.row_reader.specs.Reading.{tables, Space, Adds};
 ghost use Rattle.row_reader.specs.Streams.{source_rows};
 ghost use Rattle.row_reader.specs.Plans.{row_count, plan_rows, NodesOf, AllRead};
 
+use step_tables::StepNode;
+
 // The numbers of row r: those of the row at `at`, w columns wide.
 fn read_cells(rows: &[u8], at: usize, w: usize, r: usize, cells: &mut [i64])
     requires { (w ≤ 32) × (at + row_size w ≤ length rows.now) × (r * 32 + 32 ≤ length cells.old) }
     ensures { take (r * 32 + w) cells.new ≡ take (r * 32) cells.old ++ numbers_at rows.now at w }
 {
     let b = r * 32;
-    let mut c = 0;
-    while c < w {
+    for c in 0..w {
         let x = scan::get64(rows, at + 4 + 8 * c);
         cells[b + c] = row_bytes::signed_number(x);
-        c += 1;
     }
 }
 
@@ -76,11 +76,9 @@ fn read_stream(
 {
     let n = scan::get32(rows, at) as usize;
     let size = 4 + 8 * w;
-    let mut i = 0;
-    while i < n {
+    for i in 0..n {
         let b = at + 4 + i * size;
         read_row(rows, b, w, g, r + i, cells, nulls, widths, places);
-        i += 1;
     }
     r + n
 }
@@ -107,11 +105,9 @@ fn read_source(
 {
     let mut q = r;
     let mut a = at;
-    let mut j = 0;
-    while j < k {
+    for j in 0..k {
         q = read_stream(rows, a, w, out + j, q, cells, nulls, widths, places);
         a = row_bytes::stream_end(rows, a, w);
-        j += 1;
     }
     q
 }
@@ -120,10 +116,8 @@ fn read_source(
 fn number_rows(order: &mut [usize])
     ensures { order.new ≡ tab (length order.old) (λ i. i) }
 {
-    let mut i = 0;
-    while i < order.len() {
-        order[i] = i;
-        i += 1;
+    for (i, x) in order.iter_mut().enumerate() {
+        *x = i;
     }
 }
 
@@ -132,7 +126,7 @@ pub fn read_rows(
     plan: &[u8],
     n: usize,
     rows: &[u8],
-    nodes: &[usize],
+    nodes: &[StepNode],
     cells: &mut [i64],
     nulls: &mut [u32],
     widths: &mut [usize],
@@ -148,14 +142,12 @@ pub fn read_rows(
 {
     let mut r = 0;
     let mut at = 0;
-    let mut j = 0;
-    while j < n {
+    for j in 0..n {
         let k = source_rows::streams_of(plan, j);
         let w = source_rows::byte_of(plan, j, 13);
-        let out = nodes[7 * j + 2];
+        let out = nodes[j].out;
         r = read_source(rows, at, w, k, out, r, cells, nulls, widths, places);
         at = row_bytes::source_end(rows, at, w, k);
-        j += 1;
     }
     number_rows(order);
 }

@@ -19,22 +19,21 @@ pub fn wants_met(r: &[u8], first: &[u8], second: &[u8]) -> bool
     requires { (48 ≤ length first.now) × (48 ≤ length second.now) × Ready r.now (loaded first.now) (loaded second.now) }
     ensures { result ≡ wants_met (decode r.now) (kids_of r.now (loaded first.now) (loaded second.now)) }
 {
-    let kind = kind_of(r[KIND]);
-    match kind {
-        Kind::Source => true,
-        Kind::Filter => true,
-        Kind::Projection => true,
-        Kind::Union => true,
-        Kind::Repartition => true,
-        Kind::Coalesce => true,
-        Kind::Sort => true,
+    match kind_of(r[KIND]) {
+        Kind::Source
+        | Kind::Filter
+        | Kind::Projection
+        | Kind::Union
+        | Kind::Repartition
+        | Kind::Coalesce
+        | Kind::Sort
+        | Kind::GlobalLimit
+        | Kind::LocalLimit
+        | Kind::HashJoin
+        | Kind::Aggregate => true,
         Kind::Merge => meets(first, key_list(r)),
-        Kind::GlobalLimit => true,
-        Kind::LocalLimit => true,
         Kind::SortMergeJoin => meets(first, key_list(r)) & meets(second, right_key_list(r)),
-        Kind::HashJoin => true,
         Kind::OutputRequirement => meets(first, key_list(r)),
         Kind::PartialSort => meets(first, front(key_list(r), wide(r[ROLE]))),
-        Kind::Aggregate => true,
     }
 }

@@ -27,11 +27,9 @@ pub fn put_number(d: &mut [u8], x: u64)
     ensures { d.new ≡ little_endian (length d.old) x }
 {
     let mut y = x;
-    let mut i = 0;
-    while i < d.len() {
-        d[i] = (y % 256) as u8;
+    for b in d.iter_mut() {
+        *b = (y % 256) as u8;
         y = y / 256;
-        i += 1;
     }
 }
 
@@ -61,9 +59,7 @@ fn null_set(set: u32, cells: &[i64]) -> u64
     ensures { result ≡ null_set (row_of set cells.now) }
 {
     let mut s = 0u64;
-    let mut c = cells.len();
-    while 0 < c {
-        c -= 1;
+    for c in (0..cells.len()).rev() {
         s = 2 * s + has(set, c) as u64;
     }
     s
@@ -76,13 +72,10 @@ pub fn put_row(d: &mut [u8], set: u32, cells: &[i64])
 {
     let s = null_set(set, cells);
     put_number(&mut d[..4], s);
-    let mut c = 0;
-    while c < cells.len() {
+    for (c, z) in cells.iter().enumerate() {
         let a = 4 + 8 * c;
         let e = a + 8;
-        let z = cells[c];
-        put_cell(&mut d[a..e], has(set, c), z);
-        c += 1;
+        put_cell(&mut d[a..e], has(set, c), *z);
     }
 }
 
@@ -114,13 +107,10 @@ fn count_at(places: &[usize], order: &[usize], k: usize) -> usize
     ensures { result ≡ how_many (λ r. eqb (get_or places.now r 0) k) order.now }
 {
     let mut count = 0;
-    let mut i = 0;
-    while i < order.len() {
-        let row = order[i];
-        if places[row] == k {
+    for row in order {
+        if places[*row] == k {
             count += 1;
         }
-        i += 1;
     }
     count
 }
@@ -147,13 +137,10 @@ fn put_stream(
     let count = count_at(places, order, k) as u64;
     let mut to = at + 4;
     put_number(&mut out[at..to], count);
-    let mut j = 0;
-    while j < order.len() {
-        let r = order[j];
-        if places[r] == k {
-            to = put_row_at(out, to, cells, nulls, widths, r);
+    for r in order {
+        if places[*r] == k {
+            to = put_row_at(out, to, cells, nulls, widths, *r);
         }
-        j += 1;
     }
     to
 }
@@ -167,13 +154,10 @@ pub fn written_size(widths: &[usize], places: &[usize], order: &[usize], n: usiz
         result ≡ length (streams_bytes (put_out (row_in cells nulls widths.now) places.now order.now n)) }
 {
     let mut size = 4 * n;
-    let mut i = 0;
-    while i < order.len() {
-        let r = order[i];
-        if places[r] < n {
-            size += 4 + 8 * widths[r];
+    for row in order {
+        if places[*row] < n {
+            size += 4 + 8 * widths[*row];
         }
-        i += 1;
     }
     size
 }
@@ -196,9 +180,7 @@ pub fn put_streams(
         (put_out (row_in cells.now nulls.now widths.now) places.now order.now n))) out.old }
 {
     let mut at = 0;
-    let mut k = 0;
-    while k < n {
+    for k in 0..n {
         at = put_stream(out, at, cells, nulls, widths, places, order, k);
-        k += 1;
     }
 }

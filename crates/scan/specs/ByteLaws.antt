@@ -1,32 +1,14 @@
 -- Laws of the words of Bytes. Assumes nothing.
-use Rattle.std.specs.Prelude.{◌≡◌, refl, Bool, ◌&&◌, List, [], ◌∷◌, ℕ, zero, suc, ◌+◌, ◌-◌, ◌≤◌, ◌<◌, eqb, length, get_or, take, drop}
-use Rattle.std.proofs.Common.{sym, ap, ◌∙◌, arith, add-one, length-drop, drop_of_length-le, drop-cons, length-take-le, take_all}
+use Rattle.std.specs.Prelude.{◌≡◌, refl, ◌&&◌, List, [], ◌∷◌, ℕ, zero, suc, ◌+◌, ◌-◌, ◌≤◌, eqb, length, take, drop}
+use Rattle.std.proofs.Common.{sym, ap, ◌∙◌, arith, length-drop, length-take-le, take_all}
 use Rattle.scan.specs.Bytes.{part, total, zeros}
-use Rattle.scan.specs.Below.{and_true, and_assoc}
-
-pub total_more : (s : List ℕ) (i a : ℕ) → i < length s → a + total (drop i s) ≡ total s → a + get_or s i 0 + total (drop (i + 1) s) ≡ total s
-total_more s i a h e =
-    let d : total (drop i s) ≡ get_or s i 0 + total (drop (suc i) s) = ap total (drop-cons s i 0 h) in
-    rw (add-one i) (omega arith)
-
-pub total_end : (s : List ℕ) (i a : ℕ) → length s ≤ i → a + total (drop i s) ≡ total s → a ≡ total s
-total_end s i a h e = let d : total (drop i s) ≡ 0 = ap total (drop_of_length-le s {i = i} h) in omega arith
+use Rattle.scan.specs.Below.{and_assoc}
 
 -- the sum of both parts
 pub total_parts : (s : List ℕ) (h : ℕ) → total (take h s) + total (drop h s) ≡ total s
 total_parts s zero = omega arith
 total_parts [] (suc h) = omega arith
 total_parts (x ∷ s) (suc h) = let z = total_parts s h in omega arith
-
-pub zeros_more : (s : List ℕ) (i : ℕ) (b : Bool) → i < length s → b && zeros (drop i s) ≡ zeros s → (b && eqb (get_or s i 0) 0)
-    && zeros (drop (i + 1) s) ≡ zeros s
-zeros_more s i b h e =
-    let d : zeros (drop i s) ≡ eqb (get_or s i 0) 0 && zeros (drop (i + 1) s) = ap zeros (drop-cons s i 0 h)
-    ∙ ap (λ (n : ℕ). eqb (get_or s i 0) 0 && zeros (drop n s)) (sym (add-one i)) in
-    and_assoc b (eqb (get_or s i 0) 0) (zeros (drop (i + 1) s)) ∙ ap (λ z. b && z) (sym d) ∙ e
-
-pub zeros_end : (s : List ℕ) (i : ℕ) (b : Bool) → length s ≤ i → b && zeros (drop i s) ≡ zeros s → b ≡ zeros s
-zeros_end s i b h e = sym (and_true b) ∙ ap (λ l. b && zeros l) (sym (drop_of_length-le s {i = i} h)) ∙ e
 
 -- the first n bytes, and the others; from u on, up to n and past it
 pub zeros_parts : (s : List ℕ) (n : ℕ) → zeros s ≡ zeros (take n s) && zeros (drop n s)

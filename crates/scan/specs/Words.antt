@@ -1,6 +1,6 @@
 -- Bytes as one number: put together by shifts, tested by masks and shifts. Assumes nothing.
 use Rattle.std.specs.Prelude.{◌≡◌, refl, Bool, true, false, ◌&&◌, List, [], ◌∷◌, ℕ, zero, suc, ◌+◌, ◌*◌, ◌/◌, ◌%◌, ◌^◌, ◌≤◌, ◌<◌, eqb, length, get_or, take, drop}
-use Rattle.std.proofs.Common.{sym, ap, ap₂, ◌∙◌, arith, mul_comm, add_comm, pow_pos, pow_mono, shl_exact, shr-shr, drop-cons, eqb-true, eq-eqb, ne_eqb}
+use Rattle.std.proofs.Common.{sym, ap, ◌∙◌, arith, mul_comm, add_comm, pow_pos, pow_mono, shl_exact, shr-shr, drop-cons, eqb-true, eq-eqb, ne_eqb}
 use Rattle.std.proofs.Math.Nat.{div-eq_of_lt}
 use Rattle.std.proofs.Math.Pow.{high}
 use Rattle.std.specs.Int.Bits.{bit_and, bit_or, or_shifted_r, and_zero_l, and_zero_r}

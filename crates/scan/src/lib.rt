@@ -11,10 +11,8 @@ fn sum16(s: &[u8]) -> u16
     ensures { result ≡ total s.now }
 {
     let mut a: u16 = 0;
-    let mut i = 0;
-    while i < s.len() {
-        a += s[i] as u16;
-        i += 1;
+    for x in s {
+        a += *x as u16;
     }
     a
 }
@@ -35,10 +33,8 @@ pub fn all_zero(s: &[u8]) -> bool
     ensures { result ≡ zeros s.now }
 {
     let mut all = true;
-    let mut i = 0;
-    while i < s.len() {
-        all = all & (s[i] == 0);
-        i += 1;
+    for x in s {
+        all = all & (*x == 0);
     }
     all
 }
@@ -79,11 +75,7 @@ pub fn get64(s: &[u8], at: usize) -> u64
 pub fn zero(d: &mut [u8])
     ensures { d.new ≡ replicate (length d.old) 0 }
 {
-    let mut i = 0;
-    while i < d.len() {
-        d[i] = 0;
-        i += 1;
-    }
+    d.fill(0);
 }
 
 // s over the whole of d, which is as long.
@@ -91,9 +83,5 @@ pub fn copy(d: &mut [u8], s: &[u8])
     requires { length d.old ≡ length s.now }
     ensures { d.new ≡ s.now }
 {
-    let mut i = 0;
-    while i < s.len() {
-        d[i] = s[i];
-        i += 1;
-    }
+    d.copy_from_slice(s);
 }

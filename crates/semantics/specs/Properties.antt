@@ -1,16 +1,14 @@
 -- What the check and the walks ask of a node (01, 'Facts of a node'): wanted orders and distributions, what it maintains, its
 -- fetch, boundedness; which nodes are no join and no aggregate and cut nothing off. These are definitions.
-use Rattle.std.specs.Prelude.{Bool, true, false, cond, not, ◌&&◌, ◌||◌, List, [], ◌∷◌, map, ℕ, zero, suc, ◌^◌, eqb, length, get_or, take}
+use Rattle.std.specs.Prelude.{Bool, true, false, cond, not, ◌&&◌, ◌||◌, List, [], ◌∷◌, map, ℕ, zero, suc, ◌^◌, eqb, length, get_or, take, Option, None, is_some}
 use Rattle.std.specs.Int.Bits.{bit_or}
 use Rattle.row_order.specs.Iso.{Key}
 use Rattle.plan.specs.Forest.{none, tree}
 use Rattle.plan.specs.Op.{On, Op, source, filter, projection, union, repartition, coalesce, sort_op, merge_op, global_limit, local_limit, sort_merge_join, hash_join, output_requirement, partial_sort, aggregate, Plan}
 use Rattle.plan.specs.Numbers.{code}
-use Rattle.plan.specs.WellFormed.{some_fetch, member}
+use Rattle.plan.specs.WellFormed.{member}
 use Rattle.plan.specs.declared.Distribution.{Distribution}
 use Rattle.plan.specs.declared.Distribution.TheVariants.{Unspecified, Single, Keyed}
-use Rattle.plan.specs.declared.Fetch.{Fetch}
-use Rattle.plan.specs.declared.Fetch.TheVariants.{Unlimited}
 use Rattle.semantics.specs.Facts.{Facts, is_c, met, nothing, union_facts, is_nil, counts, keeps_order, Kept, k_left, k_right, k_none, smj_kept, hash_kept, at0, known_order, keeps_groups}
 
 -- ---- wanted orders
@@ -128,10 +126,10 @@ maintains (aggregate ks n) fs i = keeps_groups (at0 fs) ks (known_order (at0 fs)
 -- What a node cuts off each of its output streams
 pub record Cut : Type 0 where
   pub skip : ℕ
-  pub fetch : Fetch
+  pub fetch : Option ℕ
 
 abbrev pub uncut : Cut
-uncut = record { skip = 0; fetch = Unlimited }
+uncut = record { skip = 0; fetch = None }
 
 abbrev pub cuts : Op → Cut
 cuts (source s) = uncut
@@ -151,17 +149,17 @@ cuts (partial_sort p ks n f) = record { skip = 0; fetch = f }
 cuts (aggregate ks n) = uncut
 
 -- Reading 3: a projection's fetch is its input's
-abbrev pub fetch_op : Op → List Fetch → Fetch
-fetch_op o fs = cond (eqb (code o) 3) (get_or fs 0 Unlimited) (cuts o).fetch
+abbrev pub fetch_op : Op → List (Option ℕ) → Option ℕ
+fetch_op o fs = cond (eqb (code o) 3) (get_or fs 0 None) (cuts o).fetch
 
 -- The fetch of each root
-abbrev pub fetches : Plan → List Fetch
+abbrev pub fetches : Plan → List (Option ℕ)
 fetches none = []
 fetches (tree o c r) = fetch_op o (fetches c) ∷ fetches r
 
 -- "the cardinality is equal for projection, and for coalesce or merge without a fetch"
 abbrev pub cardinality_equal : Op → Bool
-cardinality_equal o = eqb (code o) 3 || ((eqb (code o) 6 || eqb (code o) 8) && not (some_fetch (cuts o).fetch))
+cardinality_equal o = eqb (code o) 3 || ((eqb (code o) 6 || eqb (code o) 8) && not (is_some (cuts o).fetch))
 
 -- "`supports_limit_pushdown` holds for kinds 3, 4, 6, 8, 9 and 10"
 abbrev pub supports_limit_pushdown : Op → Bool
@@ -237,8 +235,8 @@ fresh_keys F seen (k ∷ ks) = cond (is_c F k.col || member k.col seen) (fresh_k
 
 -- ---- a node that is no join and no aggregate, and cuts nothing off
 
-abbrev pub is_all : Fetch → Bool
-is_all f = not (some_fetch f)
+abbrev pub is_all : Option ℕ → Bool
+is_all f = not (is_some f)
 
 abbrev pub whole : Cut → Bool
 whole k = eqb k.skip 0 && is_all k.fetch

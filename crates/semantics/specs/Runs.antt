@@ -1,5 +1,5 @@
 -- Runs of a plan (01, 'Rows'): "A run chooses streams for every node". These are definitions.
-use Rattle.std.specs.Prelude.{◌≡◌, Bool, true, false, cond, not, List, [], ◌∷◌, ◌++◌, map, ℕ, zero, suc, eqb, length, get_or, take, drop}
+use Rattle.std.specs.Prelude.{◌≡◌, Bool, true, false, cond, not, List, [], ◌∷◌, ◌++◌, map, ℕ, zero, suc, eqb, length, get_or, take, drop, Option, Some, None}
 use Rattle.row_order.specs.Iso.{Cell, Row, Key, cell, peers}
 use Rattle.row_order.specs.Lists.{All, Mixes, Same, concat, tab}
 use Rattle.row_order.specs.Packed.{bit}
@@ -9,8 +9,6 @@ use Rattle.plan.specs.Op.{On, SourceInfo, Op, source, filter, projection, union,
 use Rattle.plan.specs.Numbers.{code}
 use Rattle.plan.specs.WellFormed.{every, columns_of}
 use Rattle.plan.specs.declared.JoinType.{JoinType}
-use Rattle.plan.specs.declared.Fetch.{Fetch}
-use Rattle.plan.specs.declared.Fetch.TheVariants.{Unlimited, AtMost}
 use Rattle.semantics.specs.Facts.{Facts, keeps_order, smj_kept, hash_kept, by_right, at0, at1, facts, known_order}
 use Rattle.semantics.specs.Properties.{Cut, cuts}
 use Rattle.semantics.specs.Joins.{keep, Joined}
@@ -145,9 +143,9 @@ Made E i j (partial_sort p ks n f) fs css out = Sorting p ks (in0 css) out
 Made E i j (aggregate ks n) fs css out = Each (Grouping ks n) (in0 css) out
 
 -- "Fetch and skip cut each output stream." Reading 18: skip cuts before fetch
-abbrev pub front : Fetch → List Row → List Row
-front Unlimited l = l
-front (AtMost n) l = take n l
+abbrev pub front : Option ℕ → List Row → List Row
+front None l = l
+front (Some n) l = take n l
 
 abbrev pub cut_rows : Cut → List Row → List Row
 cut_rows k l = front k.fetch (drop k.skip l)

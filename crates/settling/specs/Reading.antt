@@ -4,7 +4,7 @@ use Rattle.std.proofs.Common.{sym, ap, ◌∙◌, arith}
 use Rattle.scan.specs.Below.{and_left, and_right}
 use Rattle.plan.specs.Forest.{Forest, none, tree, nodes, roots, size, map_f}
 use Rattle.plan.specs.WellFormed.{every, widths, node_ok, nodes_ok}
-use Rattle.plan.specs.declared.Refusal.TheVariants.{Accepted}
+use Rattle.plan.specs.Numbers.{Accepted}
 use Rattle.plan_format.specs.Blocks.{block_count}
 use Rattle.plan_format.specs.Reading.{refusal_of}
 use Rattle.plan_format.specs.Record.{kind_ok, record_ok}

@@ -62,10 +62,9 @@ fn united(m: &[u8], i: usize) -> Facts
     requires { Settles m.now i × (0 < length (slot m.now i).kids) }
     ensures { Says (sem.union_facts (known (forest m.now (slot m.now i).kids))) result }
 {
-    let mut j = child_count(m, i) - 1;
-    let mut f = child_facts(m, i, j);
-    while 0 < j {
-        j -= 1;
+    let last = child_count(m, i) - 1;
+    let mut f = child_facts(m, i, last);
+    for j in (0..last).rev() {
         let a = child_facts(m, i, j);
         f = union_facts(a, f);
     }
@@ -92,9 +91,7 @@ fn below(m: &[u8], i: usize) -> Summary
         nodes: 0,
         fetch: NO_FETCH,
     };
-    let mut j = child_count(m, i);
-    while 0 < j {
-        j -= 1;
+    for j in (0..child_count(m, i)).rev() {
         let x = child_summary(m, i, j);
         s = Summary {
             passes: x.passes & s.passes,
@@ -190,9 +187,7 @@ pub fn settle_all(m: &mut [u8], u: usize)
     requires { Loaded m.old u }
     ensures { Arena m.new u × ((v : ℕ) → held m.new v ≡ held m.old v) }
 {
-    let mut i = 0;
-    while i < u {
+    for i in 0..u {
         settle(m, i);
-        i += 1;
     }
 }

@@ -1,5 +1,5 @@
 -- Which nodes are connected to a sort below them.
-use Rattle.std.specs.Prelude.{◌≡◌, refl, Bool, true, false, cond, ◌&&◌, ◌||◌, List, [], ◌∷◌, ℕ, zero, suc, ◌+◌, ◌*◌, ◌≤◌, ◌<◌, length, get_or, take, drop, set}
+use Rattle.std.specs.Prelude.{◌≡◌, refl, Bool, true, false, cond, ◌&&◌, ◌||◌, List, [], ◌∷◌, ℕ, zero, suc, ◌+◌, ◌*◌, ◌≤◌, ◌<◌, length, get_or, take, drop, set, Option, Some, None}
 use Rattle.std.proofs.Common.{sym, ap₂, ◌∙◌, subst, arith, add-one, length-set, drop_of_length-le, drop-cons, take-suc-set, drop-set-lt}
 use Rattle.std.proofs.Math.Path.{ap}
 use Rattle.row_order.proofs.Order.{no_bool}
@@ -8,8 +8,6 @@ use Rattle.semantics.specs.Facts.{is_nil}
 use Rattle.semantics.specs.Properties.{wanted, maintains, is_limit}
 use Rattle.key_lists.specs.Keys.{keys_in, order_of, Ordered}
 use Rattle.key_lists.specs.declared.Keys.{Keys}
-use Rattle.key_lists.specs.declared.Order.{Order}
-use Rattle.key_lists.specs.declared.Order.TheVariants.{Unordered, By}
 use Rattle.arena.specs.Arena.{index, marked, slot, Below}
 use Rattle.arena.specs.Laws.{below_at, below_set}
 use Rattle.walks.specs.Marks.{Marked, Tree, known, plant, op_t, set_mark, any_mark, any_below}
@@ -43,12 +41,12 @@ some_key : (n x : ℕ) → 0 < n → is_nil (keys_in n x) ≡ false
 some_key zero x h = absurd (omega arith)
 some_key (suc n) x h = refl
 
-pub asked_some : (t : Tree) (j : ℕ) (o : Order) → Ordered (wanted (op_t t) j) o → (k : Keys) → o ≡ By k → false ≡ maintains_unasked t j
+pub asked_some : (t : Tree) (j : ℕ) (o : Option Keys) → Ordered (wanted (op_t t) j) o → (k : Keys) → o ≡ Some k → false ≡ maintains_unasked t j
 asked_some t j o w k e =
-    let v : Ordered (wanted (op_t t) j) (By k) = subst (Ordered (wanted (op_t t) j)) e w in
+    let v : Ordered (wanted (op_t t) j) (Some k) = subst (Ordered (wanted (op_t t) j)) e w in
     none_of (maintains (op_t t) (known t.kids) j) (is_nil (wanted (op_t t) j)) (ap is_nil (sym v.is) ∙ some_key k.len k.word v.real.0)
 
-pub asked_none : (t : Tree) (j : ℕ) (o : Order) → Ordered (wanted (op_t t) j) o → o ≡ Unordered → (b : Bool) → b ≡ maintains (op_t t) (known t.kids) j
+pub asked_none : (t : Tree) (j : ℕ) (o : Option Keys) → Ordered (wanted (op_t t) j) o → o ≡ None → (b : Bool) → b ≡ maintains (op_t t) (known t.kids) j
     → b ≡ maintains_unasked t j
 asked_none t j o w e b q = q ∙ true_right (maintains (op_t t) (known t.kids) j) (is_nil (wanted (op_t t) j)) (ap is_nil (sym w.is ∙ ap order_of e))
 

@@ -9,7 +9,6 @@ ghost use Rattle.sort_connection.specs.Standing.{Standing};
 ghost use Rattle.sort_connection.specs.Connection.{maintains_unasked, any_maintains_unasked, Connected};
 
 use arena::{child, child_count, record_at};
-use key_lists::Order;
 use maintained_orders::maintains;
 use node_properties::{is_limit, is_sort, is_sort_preserving_merge};
 use plan_context::handles::{is_marked, set_mark};
@@ -32,7 +31,7 @@ fn maintains_unasked(m: &[u8], u: usize, h: usize, j: usize) -> bool
     ensures { result ≡ maintains_unasked (tree_of m.now h) j }
 {
     let o = wanted_order(record_at(m, h / 2), j);
-    if let Order::By(_) = o {
+    if let Some(_) = o {
         return false;
     }
     maintains_child(m, u, h, j)
@@ -44,12 +43,10 @@ fn any_maintained(m: &[u8], u: usize, h: usize) -> bool
     ensures { result ≡ any_maintains_unasked (tree_of m.now h) }
 {
     let n = child_count(m, h / 2);
-    let mut j = 0;
-    while j < n {
+    for j in 0..n {
         if maintains_unasked(m, u, h, j) {
             return true;
         }
-        j += 1;
     }
     false
 }
@@ -61,12 +58,10 @@ pub fn any_marked(m: &[u8], u: usize, h: usize) -> bool
 {
     let i = h / 2;
     let n = child_count(m, i);
-    let mut j = 0;
-    while j < n {
+    for j in 0..n {
         if is_marked(child(m, i, j)) {
             return true;
         }
-        j += 1;
     }
     false
 }
@@ -97,11 +92,9 @@ pub fn update_sort_ctx_children_data(m: &[u8], u: usize, ks: &mut [usize])
     requires { Arena m.now u × Below (2 * u) ks.old }
     ensures { Connected m.now u ks.old ks.new }
 {
-    let mut j = 0;
-    while j < ks.len() {
-        let h = ks[j];
+    for k in ks.iter_mut() {
+        let h = *k;
         let b = is_connected(m, u, h);
-        ks[j] = set_mark(h, b);
-        j += 1;
+        *k = set_mark(h, b);
     }
 }

@@ -1,5 +1,5 @@
 -- The decision, piece by piece. Assumes nothing.
-use Rattle.std.specs.Prelude.{◌≡◌, refl, Bool, true, false, cond, ◌&&◌, List, [], ◌++◌, ℕ, zero, suc, ◌+◌, ◌<◌, ◌≤◌, ltb, get_or}
+use Rattle.std.specs.Prelude.{◌≡◌, refl, Bool, true, false, cond, ◌&&◌, List, [], ◌++◌, ℕ, zero, suc, ◌+◌, ◌<◌, ◌≤◌, ltb, get_or, Option, None, Some}
 use Rattle.std.proofs.Common.{sym, ap, ap₂, ◌∙◌, subst, append-nil, arith, eqb-true}
 use Rattle.std.proofs.Math.Path.{subst⁻¹}
 use Rattle.row_order.specs.Iso.{Key}
@@ -7,13 +7,9 @@ use Rattle.plan.specs.Op.{Op, source, filter, projection, union, repartition, co
 use Rattle.plan.specs.WellFormed.{children_ok}
 use Rattle.plan.specs.declared.Distribution.{Distribution}
 use Rattle.plan.specs.declared.Distribution.TheVariants.{Unspecified}
-use Rattle.plan.specs.declared.Fetch.{Fetch}
-use Rattle.plan.specs.declared.Fetch.TheVariants.{Unlimited}
 use Rattle.semantics.specs.Facts.{Facts, facts, facts_op, is_nil, compatible}
 use Rattle.semantics.specs.Properties.{fresh_keys, wanted, dist_of, fetches, rebuilt, cuts, sort_dist}
 use Rattle.key_lists.specs.declared.Keys.{Keys}
-use Rattle.key_lists.specs.declared.Order.{Order}
-use Rattle.key_lists.specs.declared.Order.TheVariants.{Unordered, By}
 use Rattle.key_lists.specs.Keys.{keys_of, order_of, Keyed, Ordered, Real}
 use Rattle.push_requirements.specs.declared.ParentRequirements.{ParentRequirements as Coded}
 use Rattle.push_requirements.specs.Answers.{some-keys}
@@ -35,7 +31,7 @@ no_merge true = refl
 no_merge false = refl
 
 -- one sort of the new keys, or a merge over it
-module _ (F : Facts) (ks keys : List Key) (f : Fetch) (s : Order) (p : Bool) (e : keys ≡ fresh_keys F [] ks) (o : Ordered keys s)
+module _ (F : Facts) (ks keys : List Key) (f : Option ℕ) (s : Option Keys) (p : Bool) (e : keys ≡ fresh_keys F [] ks) (o : Ordered keys s)
     (x : p ≡ ltb 1 F.streams) where
   sort_is : order_of s ≡ fresh_keys F [] ks
   sort_is = o.is ∙ e
@@ -45,15 +41,15 @@ module _ (F : Facts) (ks keys : List Key) (f : Fetch) (s : Order) (p : Bool) (e 
   above_merge d n = record { is = rw (sort_is, x, n); merge = o.real; sort = o.real }
 
   pub above_sort : (d : Distribution) → needs_merge F d ≡ false → Adds (sort_above_with_distribution F ks f d)
-      (record { merge = Unordered; mfetch = f; sort = s; sfetch = f; preserve = p })
+      (record { merge = None; mfetch = f; sort = s; sfetch = f; preserve = p })
   above_sort d n = record { is = rw (sort_is, x, n); merge = tt; sort = o.real }
 
-  pub merge_above_lem : (ms : List Key) (m : Order) (g : Fetch) → Ordered ms m → Adds (new_merge ms g ++ sort_above_with_distribution F ks f Unspecified)
+  pub merge_above_lem : (ms : List Key) (m : Option Keys) (g : Option ℕ) → Ordered ms m → Adds (new_merge ms g ++ sort_above_with_distribution F ks f Unspecified)
       (record { merge = m; mfetch = g; sort = s; sfetch = f; preserve = p })
   merge_above_lem ms m g h = record { is = rw (h.is, sort_is, x, no_merge (ltb 1 F.streams)); merge = h.real; sort = o.real }
 
-pub merge_alone : (ms : List Key) (m : Order) (g : Fetch) → Ordered ms m
-    → Adds (new_merge ms g) (record { merge = m; mfetch = g; sort = Unordered; sfetch = g; preserve = false })
+pub merge_alone : (ms : List Key) (m : Option Keys) (g : Option ℕ) → Ordered ms m
+    → Adds (new_merge ms g) (record { merge = m; mfetch = g; sort = None; sfetch = g; preserve = false })
 merge_alone ms m g h = record { is = append-nil (new_merge (order_of m) g) ∙ ap (λ l. new_merge l g) h.is; merge = h.real; sort = tt }
 
 -- ---- what the children are visited with: all but the first alike
@@ -93,11 +89,11 @@ wanted_rest (aggregate ks n) m c i l = refl
 wanted_rest (sort_merge_join t on) m c zero l = refl
 wanted_rest (sort_merge_join t on) m c (suc i) l = let e = eqb-true m 2 c in absurd (omega arith)
 
-module _ (o : Op) (a b : Order) (f : Fetch) (d₀ d₁ : Distribution) where
+module _ (o : Op) (a b : Option Keys) (f : Option ℕ) (d₀ d₁ : Distribution) where
   abbrev both : Bool → ChildRequirements
   both x = record { first = record { order = a; fetch = f; distribution = d₀ }; rest = record { order = b; fetch = f; distribution = d₁ }; initial = x }
 
-  pub hand_asks : (d : Distribution) → d₀ ≡ stronger_distribution d (dist_of o 0) → d₁ ≡ stronger_distribution d (dist_of o 1) → (m : ℕ) (ts : List Fetch)
+  pub hand_asks : (d : Distribution) → d₀ ≡ stronger_distribution d (dist_of o 0) → d₁ ≡ stronger_distribution d (dist_of o 1) → (m : ℕ) (ts : List (Option ℕ))
       (ks : ℕ → List Key) → Handed m ks a b
       → Asks m ts (λ i. (walk.hand_down ks f d o i).req)
       (record {
@@ -112,7 +108,7 @@ module _ (o : Op) (a b : Order) (f : Fetch) (d₀ d₁ : Distribution) where
       at (suc i) l = let e = e₁ ∙ ap (stronger_distribution d) (dist_rest o i) in let g = h.is (suc i) l in
           λ j. record { order = g j; fetch = f; dist = e j }
 
-  pub own_asks : d₀ ≡ dist_of o 0 → d₁ ≡ dist_of o 1 → order_of a ≡ [] → order_of b ≡ [] → Real a → Real b → f ≡ Unlimited → (m : ℕ) (ts : List Fetch)
+  pub own_asks : d₀ ≡ dist_of o 0 → d₁ ≡ dist_of o 1 → order_of a ≡ [] → order_of b ≡ [] → Real a → Real b → f ≡ None → (m : ℕ) (ts : List (Option ℕ))
       → Asks m ts (λ i. (walk.with_own_distribution o i).req)
       (record {
         first = record { order = a; fetch = f; distribution = d₀ };
@@ -132,12 +128,12 @@ module _ (o : Op) (a b : Order) (f : Fetch) (d₀ d₁ : Distribution) where
   initial_asks e₀ e₁ x y c v = record { is = at; first = x.real; rest = y.real }
     where
       at : (i : ℕ) → i < child_count c → req_for (both true) (fetches c) i ≡ (walk.assign_initial_requirements o c i).req
-      at zero l = let g = x.is in λ j. record { order = g j; fetch = get_or (fetches c) 0 Unlimited; dist = e₀ j }
+      at zero l = let g = x.is in λ j. record { order = g j; fetch = get_or (fetches c) 0 None; dist = e₀ j }
       at (suc i) l =
           let e = e₁ ∙ dist_rest o i in let g = y.is ∙ wanted_rest o (child_count c) v i l in
-          λ j. record { order = g j; fetch = get_or (fetches c) (suc i) Unlimited; dist = e j }
+          λ j. record { order = g j; fetch = get_or (fetches c) (suc i) None; dist = e j }
 
-pub wanted_going : (o : Op) (a b : Order) (m : ℕ) → children_ok o m ≡ true → Ordered (wanted o 0) a → Ordered (wanted o 1) b → Handed m (wanted o) a b
+pub wanted_going : (o : Op) (a b : Option Keys) (m : ℕ) → children_ok o m ≡ true → Ordered (wanted o 0) a → Ordered (wanted o 1) b → Handed m (wanted o) a b
 wanted_going o a b m v x y = record { is = at; first = x.real; rest = y.real }
   where
     at : (i : ℕ) → i < m → order_by a b i ≡ wanted o i
@@ -151,14 +147,14 @@ other_child reqs (suc j) e = refl
 
 -- ---- a sort that goes
 
-pub sort_cut : (o : Op) (p : Bool) (ks : List Key) (f g : Fetch) → o ≡ sort_op p ks f → g ≡ (cuts o).fetch → g ≡ f
+pub sort_cut : (o : Op) (p : Bool) (ks : List Key) (f g : Option ℕ) → o ≡ sort_op p ks f → g ≡ (cuts o).fetch → g ≡ f
 sort_cut o p ks f g e h = h ∙ ap (λ x. (cuts x).fetch) e
 
-pub sort_dist_lem : (o : Op) (p : Bool) (ks : List Key) (f : Fetch) (root : Bool) (d : Distribution) → o ≡ sort_op p ks f
+pub sort_dist_lem : (o : Op) (p : Bool) (ks : List Key) (f : Option ℕ) (root : Bool) (d : Distribution) → o ≡ sort_op p ks f
     → d ≡ cond root (dist_of o 0) Unspecified → d ≡ cond root (sort_dist p) Unspecified
 sort_dist_lem o p ks f root d e h = h ∙ ap (λ x. cond root (dist_of x 0) Unspecified) e
 
-pub gone_by : (p : Bool) (ks : List Key) (f : Fetch) (c : Plan) (us : List Op) (P : ParentRequirements) (b : Bool) (tops : NewNodes) (req : Coded)
+pub gone_by : (p : Bool) (ks : List Key) (f : Option ℕ) (c : Plan) (us : List Op) (P : ParentRequirements) (b : Bool) (tops : NewNodes) (req : Coded)
     (r : Decision)
     → r ≡ removed_by tops req b → Adds us tops → required req ≡ P → Real req.order
     → Decides (sort_op p ks f) c (record { tops = us; gone = true; op = sort_op p ks f; reqs = λ i. walk.below_sort P; peak = 0; quiet = b }) r
@@ -171,19 +167,19 @@ gone_by p ks f c us P b tops req r x a d h =
     at (suc i) l = ap walk.below_sort d
 
 -- three parts of requirements
-pub parts : (ks : List Key) (f : Fetch) (d : Distribution) (x : List Key) (g : Fetch) (e : Distribution) → x ≡ ks → g ≡ f → e ≡ d
+pub parts : (ks : List Key) (f : Option ℕ) (d : Distribution) (x : List Key) (g : Option ℕ) (e : Distribution) → x ≡ ks → g ≡ f → e ≡ d
     → ◌≡◌ {A = ParentRequirements} (record { order = x; fetch = g; dist = e }) (record { order = ks; fetch = f; dist = d })
 parts ks f d x g e p q s = λ i. record { order = p i; fetch = q i; dist = s i }
 
-pub stricter_own : (C : Facts) (own : Order) (k : Keys) (ps : List Key) → Keyed (order_of own) k → (x : Bool) → x ≡ compatible C (keys_of k) ps → x ≡ true
+pub stricter_own : (C : Facts) (own : Option Keys) (k : Keys) (ps : List Key) → Keyed (order_of own) k → (x : Bool) → x ≡ compatible C (keys_of k) ps → x ≡ true
     → Real own → Ordered (cond (compatible C (order_of own) ps) (order_of own) ps) own
 stricter_own C own k ps h x e t r = record { is = sym (ap (λ b. cond b (order_of own) ps) (sym (e ∙ ap (λ l. compatible C l ps) h.is) ∙ t)); real = r }
 
-pub stricter_parent : (C : Facts) (own : Order) (k : Keys) (ps : List Key) → Keyed (order_of own) k → (x : Bool) → x ≡ compatible C (keys_of k) ps → x ≡ false
-    → (o : Order) → Ordered ps o → Ordered (cond (compatible C (order_of own) ps) (order_of own) ps) o
+pub stricter_parent : (C : Facts) (own : Option Keys) (k : Keys) (ps : List Key) → Keyed (order_of own) k → (x : Bool) → x ≡ compatible C (keys_of k) ps → x ≡ false
+    → (o : Option Keys) → Ordered ps o → Ordered (cond (compatible C (order_of own) ps) (order_of own) ps) o
 stricter_parent C own k ps h x e t o r = subst⁻¹ (λ b. Ordered (cond b (order_of own) ps) o) (sym (e ∙ ap (λ l. compatible C l ps) h.is) ∙ t) r
 
-pub stricter_is : (C : Facts) (x own : Order) (p : Keys) (ks ls : List Key)
+pub stricter_is : (C : Facts) (x own : Option Keys) (p : Keys) (ks ls : List Key)
     → Ordered (cond (compatible C (order_of own) (keys_of p)) (order_of own) (keys_of p)) x → order_of own ≡ ks → keys_of p ≡ ls
     → order_of x ≡ cond (compatible C ks ls) ks ls
 stricter_is C x own p ks ls h e d = h.is ∙ ap₂ (λ o l. cond (compatible C o l) o l) e d
@@ -198,7 +194,7 @@ module _ (o : Op) (c : Plan) (D E : walk.Decision) (b : Bool) (r : Decision) whe
   if_not e h = subst⁻¹ (λ x. Decides o c (cond x D E) r) e h
 
 -- an order by keys
-module _ (o : Order) (k : Keys) (r : Real o) (e : o ≡ By k) where
+module _ (o : Option Keys) (k : Keys) (r : Real o) (e : o ≡ Some k) where
   pub requirement_is : keys_of k ≡ order_of o
   requirement_is = ap order_of (sym e)
 
@@ -208,7 +204,7 @@ module _ (o : Order) (k : Keys) (r : Real o) (e : o ≡ By k) where
   pub requirement_some : is_nil (order_of o) ≡ false
   requirement_some = ap (λ x. is_nil (order_of x)) e ∙ some-keys k (subst Real e r)
 
-pub requirement_none : (o : Order) → o ≡ Unordered → is_nil (order_of o) ≡ true
+pub requirement_none : (o : Option Keys) → o ≡ None → is_nil (order_of o) ≡ true
 requirement_none o e = ap (λ x. is_nil (order_of x)) e
 
 -- ---- a node that stays
@@ -235,7 +231,7 @@ module _ (n o : Op) (fs : List Facts) (m : ℕ) (F L R : Facts) (s : SeenNode n 
   pub wanted-like : (i : ℕ) → wanted n i ≡ wanted o i
   wanted-like i = sym (like (λ x. wanted x i) (λ p q k h ks. refl))
 
-  pub handed_like : (ts : List Fetch) (ks : ℕ → List Key) (f : Fetch) (d : Distribution) (q : ChildRequirements)
+  pub handed_like : (ts : List (Option ℕ)) (ks : ℕ → List Key) (f : Option ℕ) (d : Distribution) (q : ChildRequirements)
       → Asks m ts (λ i. (walk.hand_down ks f d n i).req) q → Asks m ts (λ i. (walk.hand_down ks f d o i).req) q
   handed_like ts ks f d q h = record {
     is = λ i l. h.is i l ∙ sym (like (λ x. (walk.hand_down ks f d x i).req) (λ p q k h ks. refl));
@@ -243,7 +239,7 @@ module _ (n o : Op) (fs : List Facts) (m : ℕ) (F L R : Facts) (s : SeenNode n 
     rest = h.rest;
   }
 
-  pub own_like : (ts : List Fetch) (q : ChildRequirements) → Asks m ts (λ i. (walk.with_own_distribution n i).req) q
+  pub own_like : (ts : List (Option ℕ)) (q : ChildRequirements) → Asks m ts (λ i. (walk.with_own_distribution n i).req) q
       → Asks m ts (λ i. (walk.with_own_distribution o i).req) q
   own_like ts q h = record {
     is = λ i l. h.is i l ∙ sym (like (λ x. (walk.with_own_distribution x i).req) (λ p q k h ks. refl));
@@ -260,11 +256,11 @@ module _ (n o : Op) (fs : List Facts) (m : ℕ) (F L R : Facts) (s : SeenNode n 
   }
 
 -- the visit of child number j
-pub child_is : (d : Decision) (j : ℕ) (own : Fetch) (ts : List Fetch) (req : Coded) (g : Fetch) → req ≡ of_child d.reqs j
-    → g ≡ cond d.reqs.initial own req.fetch → own ≡ get_or ts j Unlimited
+pub child_is : (d : Decision) (j : ℕ) (own : Option ℕ) (ts : List (Option ℕ)) (req : Coded) (g : Option ℕ) → req ≡ of_child d.reqs j
+    → g ≡ cond d.reqs.initial own req.fetch → own ≡ get_or ts j None
     → ◌≡◌ {A = walk.Visit} (record { req = record { order = order_of req.order; fetch = g; dist = req.distribution }; touch = d.gone; root = false })
     (visit_for d ts j)
 child_is d j own ts req g x y z =
-    let w : g ≡ cond d.reqs.initial (get_or ts j Unlimited) (of_child d.reqs j).fetch =
+    let w : g ≡ cond d.reqs.initial (get_or ts j None) (of_child d.reqs j).fetch =
     y ∙ ap₂ (λ a (q : Coded). cond d.reqs.initial a q.fetch) z x in
     λ i. record { req = record { order = order_of (x i).order; fetch = w i; dist = (x i).distribution }; touch = d.gone; root = false }

@@ -1,5 +1,5 @@
 -- The decision at a node that is no sort, and at a rebuilt one. Assumes nothing.
-use Rattle.std.specs.Prelude.{◌≡◌, refl, Bool, true, false, cond, not, ◌&&◌, ◌||◌, List, [], ◌∷◌, ◌++◌, ℕ, ◌<◌, eqb, ltb}
+use Rattle.std.specs.Prelude.{◌≡◌, refl, Bool, true, false, cond, not, ◌&&◌, ◌||◌, List, [], ◌∷◌, ◌++◌, ℕ, ◌<◌, eqb, ltb, Option, Some, None}
 use Rattle.std.proofs.Common.{sym, ap, ap₂, ◌∙◌, subst, arith, eqb-true}
 use Rattle.std.proofs.Math.Path.{subst⁻¹, fun_ext}
 use Rattle.row_order.specs.Iso.{Key}
@@ -9,19 +9,15 @@ use Rattle.plan.specs.Op.{Op, source, filter, projection, union, repartition, co
 use Rattle.plan.specs.Numbers.{code}
 use Rattle.plan.specs.WellFormed.{children_ok, member}
 use Rattle.plan.specs.declared.Distribution.TheVariants.{Unspecified}
-use Rattle.plan.specs.declared.Fetch.{Fetch}
 use Rattle.semantics.specs.Facts.{Facts, at0, facts, facts_op, is_nil, met, nf, is_c, cl, counts, known_order}
 use Rattle.semantics.proofs.Theorems.Orders.NormalForms.{nf_all}
 use Rattle.semantics.specs.Properties.{fresh_keys, fetches, fetch_op, rebuilt, remark}
 use Rattle.key_lists.specs.declared.Keys.{Keys}
-use Rattle.key_lists.specs.declared.Order.{Order}
-use Rattle.key_lists.specs.declared.Order.TheVariants.{By}
 use Rattle.key_lists.specs.Keys.{keys_of, order_of, Keyed, Real}
 use Rattle.facts.specs.Reading.{classes}
 use Rattle.fact_slots.specs.Slots.{loaded}
 use Rattle.asked_facts.specs.Asked.{told}
-use Rattle.push_requirements.specs.declared.Pushed.TheVariants.{Stop, Goes}
-use Rattle.push_requirements.specs.declared.Pushed.{Pushed as Answered}
+use Rattle.push_requirements.specs.declared.ChildOrders.{ChildOrders}
 use Rattle.push_requirements.specs.Pushing.{HandsOn, Handed, Asked, SeenNode}
 use Rattle.walks.specs.Utils.{needs_merge, new_merge, sort_above_with_distribution}
 use Rattle.walks.specs.Marks.{shape}
@@ -40,29 +36,29 @@ module _ (o p : Op) (c : Plan) (r : Decision) (q : walk.Visit) where
   abbrev m : ℕ
   m = child_count c
 
-  pub try_goes : (P : Pushed) (a b : Order) → HandsOn (child_count c) P (Goes a b)
-      → ((ks : ℕ → List Key) → Handed (child_count c) ks a b
+  pub try_goes : (P : Pushed) (d : ChildOrders) → HandsOn (child_count c) P (Some d)
+      → ((ks : ℕ → List Key) → Handed (child_count c) ks d.first d.rest
       → Decides o c (walk.stays p (walk.hand_down ks (min_fetch (fetch_op p (fetches c)) q.req.fetch)
       (effective_dist (facts_op p (facts c)) q.req.dist) p)) r)
       → Decides o c (walk.after_try P q p c) r
-  try_goes (goes ks) a b h k = k ks h
-  try_goes stop a b h k = absurd h
+  try_goes (goes ks) d h k = k ks h
+  try_goes stop d h k = absurd h
 
-  pub try_stop : (P : Pushed) → HandsOn (child_count c) P Stop
+  pub try_stop : (P : Pushed) → HandsOn (child_count c) P None
       → Decides o c (cond (needs_merge (facts_op p (facts c)) q.req.dist) (walk.merge_added q p c) (walk.sort_added q p c)) r
       → Decides o c (walk.after_try P q p c) r
   try_stop (goes ks) h k = absurd h
   try_stop stop h k = k
 
-  after_goes : (P : Pushed) (a b : Order) → HandsOn m P (Goes a b)
-      → ((ks : ℕ → List Key) → Handed m ks a b
+  after_goes : (P : Pushed) (d : ChildOrders) → HandsOn m P (Some d)
+      → ((ks : ℕ → List Key) → Handed m ks d.first d.rest
       → Decides o c (walk.covered (new_merge (fresh_keys (facts_op p (facts c)) [] q.req.order) q.req.fetch) 1 p
       (walk.hand_down ks (min_fetch (fetch_op p (fetches c)) q.req.fetch) Unspecified p)) r)
       → Decides o c (walk.after_merge P q p c) r
-  after_goes (goes ks) a b h k = k ks h
-  after_goes stop a b h k = absurd h
+  after_goes (goes ks) d h k = k ks h
+  after_goes stop d h k = absurd h
 
-  after_stop : (P : Pushed) → HandsOn m P Stop
+  after_stop : (P : Pushed) → HandsOn m P None
       → Decides o c (let F : Facts = facts_op p (facts c) in let new : List Key = fresh_keys F [] q.req.order in
       walk.covered (new_merge new q.req.fetch ++ sort_above_with_distribution F (nf F [] new) q.req.fetch Unspecified) 0 p
       (walk.with_own_distribution p)) r
@@ -100,7 +96,7 @@ asked_again r own a b order new again h x y =
       hashed = h.hashed;
     }
 
-pub visited_asked : (r own a b : List ℕ) (requirement : Order) (k : Keys) → Visited r own a b requirement → requirement ≡ By k → Asked r own a b k
+pub visited_asked : (r own a b : List ℕ) (requirement : Option Keys) (k : Keys) → Visited r own a b requirement → requirement ≡ Some k → Asked r own a b k
 visited_asked r own a b requirement k h e =
     record {
       proper = h.proper;
@@ -146,7 +142,7 @@ seen_again n o fs m F L R s =
     }
 
 -- ---- where a merge comes too
-module _ (c : Plan) (n o : Op) (q : walk.Visit) (F L R : Facts) (s : SeenNode n o (facts c) (child_count c) F L R) (limit fetch : Fetch)
+module _ (c : Plan) (n o : Op) (q : walk.Visit) (F L R : Facts) (s : SeenNode n o (facts c) (child_count c) F L R) (limit fetch : Option ℕ)
     (order new again : Keys)
     (e : limit ≡ fetch_op o (fetches c)) (eo : keys_of order ≡ q.req.order) (ef : fetch ≡ q.req.fetch) (kn : Keyed (fresh_keys F [] (keys_of order)) new)
     (ka : Keyed (nf F [] (keys_of new)) again) where
@@ -169,22 +165,22 @@ module _ (c : Plan) (n o : Op) (q : walk.Visit) (F L R : Facts) (s : SeenNode n 
   again₁ = ka.is ∙ ap₂ (λ G l. nf G [] l) (facts-like n o (facts c) (child_count c) F L R s)
       (kn.is ∙ ap₂ (λ G l. fresh_keys G [] l) (facts-like n o (facts c) (child_count c) F L R s) eo)
 
-  tried : (x : Answered) → HandsOn (child_count c) (pushdown_requirement_to_children p limit (child_count c) (facts c) (keys_of again) fetch) x
+  tried : (x : Option ChildOrders) → HandsOn (child_count c) (pushdown_requirement_to_children p limit (child_count c) (facts c) (keys_of again) fetch) x
       → HandsOn (child_count c) (walk.tried_again q o c) x
   tried x h =
       subst (λ P. HandsOn (child_count c) P x)
-      (ap₂ (λ (l : Fetch) (f : Fetch). pushdown_requirement_to_children p l (child_count c) (facts c) (keys_of again) f) limit₁ ef
+      (ap₂ (λ (l : Option ℕ) (f : Option ℕ). pushdown_requirement_to_children p l (child_count c) (facts c) (keys_of again) f) limit₁ ef
       ∙ ap (λ (l : List Key). pushdown_requirement_to_children p (fetch_op p (fetches c)) (child_count c) (facts c) l q.req.fetch) again₁) h
 
   module _ (tops : NewNodes) (reqs : ChildRequirements) (r : Decision) where
-    pub merge_goes : (a b : Order) → HandsOn (child_count c) (pushdown_requirement_to_children (rebuilt o (facts c)) limit (child_count c) (facts c)
-        (keys_of again) fetch) (Goes a b) → (f : Fetch) → f ≡ min_fetch limit fetch
+    pub merge_goes : (d : ChildOrders) → HandsOn (child_count c) (pushdown_requirement_to_children (rebuilt o (facts c)) limit (child_count c) (facts c)
+        (keys_of again) fetch) (Some d) → (f : Option ℕ) → f ≡ min_fetch limit fetch
         → r ≡ stays_by true tops reqs true → Adds (new_merge (keys_of new) fetch) tops
-        → ((ks : ℕ → List Key) → Handed (child_count c) ks a b → Asks (child_count c) (fetches c) (λ i. (walk.hand_down ks f Unspecified n i).req)
+        → ((ks : ℕ → List Key) → Handed (child_count c) ks d.first d.rest → Asks (child_count c) (fetches c) (λ i. (walk.hand_down ks f Unspecified n i).req)
         reqs)
         → Decides o c (walk.merge_added q o c) r
-    merge_goes a b h f g w t asks =
-        after_goes o p c r q (walk.tried_again q o c) a b (tried (Goes a b) h)
+    merge_goes d h f g w t asks =
+        after_goes o p c r q (walk.tried_again q o c) d (tried (Some d) h)
         (λ ks k.
         stay_by o c _ p (λ i. (walk.hand_down ks (min_fetch (fetch_op p (fetches c)) q.req.fetch) Unspecified p i).req) 1 true true tops reqs r w
         (subst (λ l. Adds l tops) (ap₂ new_merge new₁ ef) t) refl refl
@@ -192,7 +188,7 @@ module _ (c : Plan) (n o : Op) (q : walk.Visit) (F L R : Facts) (s : SeenNode n 
         (handed_like n p (facts c) (child_count c) F L R seen₁ (fetches c) ks f Unspecified reqs (asks ks k))))
 
     pub merge_stop : HandsOn (child_count c) (pushdown_requirement_to_children (rebuilt o (facts c)) limit (child_count c) (facts c)
-        (keys_of again) fetch) Stop
+        (keys_of again) fetch) None
         → r ≡ stays_by true tops reqs false → Adds (new_merge (keys_of new) fetch ++ sort_above_with_distribution F (keys_of again) fetch Unspecified) tops
         → Asks (child_count c) (fetches c) (λ i. (walk.with_own_distribution n i).req) reqs
         → Decides o c (walk.merge_added q o c) r
@@ -200,10 +196,10 @@ module _ (c : Plan) (n o : Op) (q : walk.Visit) (F L R : Facts) (s : SeenNode n 
         let G : Facts = facts_op p (facts c) in
         let x : new_merge (keys_of new) fetch ++ sort_above_with_distribution F (keys_of again) fetch Unspecified ≡ new_merge (fresh_keys G [] q.req.order)
         q.req.fetch ++ sort_above_with_distribution G (nf G [] (fresh_keys G [] q.req.order)) q.req.fetch Unspecified =
-        ap₂ (λ (l : List Key) (f : Fetch). new_merge l f ++ sort_above_with_distribution F (keys_of again) f Unspecified) new₁ ef
+        ap₂ (λ (l : List Key) (f : Option ℕ). new_merge l f ++ sort_above_with_distribution F (keys_of again) f Unspecified) new₁ ef
         ∙ ap₂ (λ (H : Facts) (l : List Key). new_merge (fresh_keys G [] q.req.order) q.req.fetch ++ sort_above_with_distribution H l
         q.req.fetch Unspecified) facts₁ (ka.is ∙ ap₂ (λ H l. nf H [] l) facts₁ new₁) in
-        after_stop o p c r q (walk.tried_again q o c) (tried Stop h)
+        after_stop o p c r q (walk.tried_again q o c) (tried None h)
         (stay_by o c _ p (λ i. (walk.with_own_distribution p i).req) 0 true false tops reqs r w (subst (λ l. Adds l tops) x t) refl refl
         (own_like n p (facts c) (child_count c) F L R seen₁ (fetches c) reqs asks))
 
@@ -252,25 +248,25 @@ module _ (o : Op) (q : walk.Visit) (c : Plan) (r : Decision) where
   pub helper_node : eqb (code o) 7 ≡ false → q.touch ≡ false → Decides o c (walk.decide_node q o c) r → Decides o c (walk.pushdown_sorts_helper q o c) r
   helper_node e t h = subst (λ D. Decides o c D r) (no_sort o q o c e ∙ ap (λ b. walk.decide_by (shape o) q (cond b (rebuilt o (facts c)) o) c) (sym t)) h
 
-  pub helper_sort : (p : Bool) (ks : List Key) (f : Fetch) → o ≡ sort_op p ks f → (F C : Facts) → F ≡ facts_op o (facts c) → C ≡ at0 (facts c)
+  pub helper_sort : (p : Bool) (ks : List Key) (f : Option ℕ) → o ≡ sort_op p ks f → (F C : Facts) → F ≡ facts_op o (facts c) → C ≡ at0 (facts c)
       → Decides (sort_op p ks f) c (sort_on p ks f q F C) r → Decides o c (walk.pushdown_sorts_helper q o c) r
   helper_sort p ks f e F C x y h =
       subst⁻¹ (λ n. Decides n c (walk.pushdown_sorts_helper q n c) r) e
       (subst (λ D. Decides (sort_op p ks f) c D r) (ap₂ (sort_on p ks f q) (x ∙ ap (λ n. facts_op n (facts c)) e) y) h)
 
-pub sort_one : (o : Op) (p : Bool) (ks : List Key) (f : Fetch) (m : ℕ) → o ≡ sort_op p ks f → children_ok o m ≡ true → 0 < m
+pub sort_one : (o : Op) (p : Bool) (ks : List Key) (f : Option ℕ) (m : ℕ) → o ≡ sort_op p ks f → children_ok o m ≡ true → 0 < m
 sort_one o p ks f m e h = let x = eqb-true m 1 (sym (ap (λ n. children_ok n m) e) ∙ h) in omega arith
 
 -- ---- at another node that an order is required of
-module _ (c : Plan) (n o : Op) (q : walk.Visit) (F L R : Facts) (s : SeenNode n o (facts c) (child_count c) F L R) (limit : Fetch)
+module _ (c : Plan) (n o : Op) (q : walk.Visit) (F L R : Facts) (s : SeenNode n o (facts c) (child_count c) F L R) (limit : Option ℕ)
     (e : limit ≡ fetch_op o (fetches c)) (k : Keys) (eo : keys_of k ≡ q.req.order) where
   met_is : met F (keys_of k) ≡ met (facts_op o (facts c)) q.req.order
   met_is = ap₂ met (facts-like n o (facts c) (child_count c) F L R s) eo
 
-  pub pushed_down : (p : Answered) → HandsOn (child_count c) (pushdown_requirement_to_children o limit (child_count c) (facts c) (keys_of k)
+  pub pushed_down : (p : Option ChildOrders) → HandsOn (child_count c) (pushdown_requirement_to_children o limit (child_count c) (facts c) (keys_of k)
       q.req.fetch) p → HandsOn (child_count c) (walk.push_down q.req.order q o c) p
   pushed_down p h = subst (λ P. HandsOn (child_count c) P p)
-      (ap₂ (λ (l : Fetch) (ks : List Key). pushdown_requirement_to_children o l (child_count c) (facts c) ks q.req.fetch) e eo) h
+      (ap₂ (λ (l : Option ℕ) (ks : List Key). pushdown_requirement_to_children o l (child_count c) (facts c) ks q.req.fetch) e eo) h
 
   module _ (some : is_nil q.req.order ≡ false) (r : Decision) (x : Bool) (h : x ≡ met F (keys_of k)) where
     pub node_met : x ≡ true → Decides o c (walk.satisfied q o c) r → Decides o c (walk.decide_node q o c) r
@@ -281,5 +277,5 @@ module _ (c : Plan) (n o : Op) (q : walk.Visit) (F L R : Facts) (s : SeenNode n 
     node_tried t d = if_not o c (walk.unasked q o c) (walk.node_asked q o c) (is_nil q.req.order) r some
         (if_not o c (walk.satisfied q o c) (walk.unsatisfied q o c) _ r (sym (h ∙ met_is) ∙ t) d)
 
-pub limit_again : (o : Op) (c : Plan) (limit : Fetch) → limit ≡ fetch_op o (fetches c) → limit ≡ fetch_op (rebuilt o (facts c)) (fetches c)
+pub limit_again : (o : Op) (c : Plan) (limit : Option ℕ) → limit ≡ fetch_op o (fetches c) → limit ≡ fetch_op (rebuilt o (facts c)) (fetches c)
 limit_again o c limit e = e ∙ sym (remark-same (λ x. fetch_op x (fetches c)) (λ b. counts b (at0 (facts c))) (λ p q m h ks. refl) o)

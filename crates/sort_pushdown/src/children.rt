@@ -1,10 +1,8 @@
 // What the children of a node are visited with.
-ghost use Rattle.std.specs.Prelude.{◌≡◌, true, cond, List, ℕ, get_or};
+ghost use Rattle.std.specs.Prelude.{◌≡◌, true, cond, List, ℕ, get_or, Option, None};
 ghost use Rattle.row_order.specs.Iso.{Key};
 ghost use Rattle.plan.specs.Op.{Plan};
 ghost use Rattle.plan.specs.WellFormed.{children_ok};
-ghost use Rattle.plan.specs.declared.Fetch.{Fetch as Fetches};
-ghost use Rattle.plan.specs.declared.Fetch.TheVariants as fetch;
 ghost use Rattle.plan_codec.specs.Decode.{decode};
 ghost use Rattle.record_fields.specs.Proper.{Proper};
 ghost use Rattle.semantics.specs.Properties.{fetches};
@@ -14,8 +12,8 @@ ghost use Rattle.push_requirements.specs.Pushing.{Handed};
 ghost use Rattle.sort_pushdown.specs.Decisions.{Asks, of_child, visit_of, visit_for};
 
 use crate::{ChildRequirements, Decision, Visit};
-use key_lists::Order;
-use plan::{Distribution, Fetch};
+use key_lists::Keys;
+use plan::Distribution;
 use push_requirements::ParentRequirements;
 use push_requirements::requirements::stronger_distribution;
 use wanted_inputs::{wanted_distribution, wanted_order};
@@ -23,13 +21,13 @@ use wanted_inputs::{wanted_distribution, wanted_order};
 // An order for the first child and one for the others, with each child's own distribution if it is stronger.
 pub fn hand_down(
     r: &[u8],
-    first: Order,
-    rest: Order,
-    fetch: Fetch,
+    first: Option<Keys>,
+    rest: Option<Keys>,
+    fetch: Option<u32>,
     d: Distribution,
 ) -> ChildRequirements
     requires { Proper r.now }
-    ensures { (m : ℕ) (ts : List Fetches) (ks : ℕ → List Key) → Handed m ks first rest
+    ensures { (m : ℕ) (ts : List (Option ℕ)) (ks : ℕ → List Key) → Handed m ks first rest
         → Asks m ts (λ i. (walk.hand_down ks fetch d (decode r.now) i).req) result }
 {
     let d0 = stronger_distribution(d, wanted_distribution(r, 0));
@@ -54,7 +52,7 @@ pub fn hand_down(
 // The default, with each child's own distribution.
 pub fn with_own_distribution(r: &[u8]) -> ChildRequirements
     requires { Proper r.now }
-    ensures { (m : ℕ) (ts : List Fetches) → Asks m ts (λ i. (walk.with_own_distribution (decode r.now) i).req) result }
+    ensures { (m : ℕ) (ts : List (Option ℕ)) → Asks m ts (λ i. (walk.with_own_distribution (decode r.now) i).req) result }
 {
     let req = ParentRequirements::default();
     let order = req.order;
@@ -82,7 +80,7 @@ pub fn assign_initial_requirements(r: &[u8]) -> ChildRequirements
     ensures { (c : Plan) → children_ok (decode r.now) (child_count c) ≡ true → Asks (child_count c) (fetches c)
         (λ i. (walk.assign_initial_requirements (decode r.now) c i).req) result }
 {
-    let fetch = Fetch::Unlimited;
+    let fetch = None;
     let a = ParentRequirements {
         order: wanted_order(r, 0),
         fetch: fetch,
@@ -113,15 +111,15 @@ fn of_child(reqs: ChildRequirements, j: usize) -> ParentRequirements
     b
 }
 
-fn fetch_for(initial: bool, own: Fetch, f: Fetch) -> Fetch
+fn fetch_for(initial: bool, own: Option<u32>, f: Option<u32>) -> Option<u32>
     ensures { result ≡ cond initial own f }
 {
     if initial { own } else { f }
 }
 
 // own: that child's fetch.
-pub fn child_visit(d: Decision, j: usize, own: Fetch) -> Visit
-    ensures { ((ts : List Fetches) → own ≡ get_or ts j fetch.Unlimited → visit_of result ≡ visit_for d ts j) × (result.req.order ≡ (of_child d.reqs j).order) }
+pub fn child_visit(d: Decision, j: usize, own: Option<u32>) -> Visit
+    ensures { ((ts : List (Option ℕ)) → own ≡ get_or ts j None → visit_of result ≡ visit_for d ts j) × (result.req.order ≡ (of_child d.reqs j).order) }
 {
     let reqs = d.reqs;
     let req = of_child(reqs, j);

@@ -21,11 +21,10 @@ use crate::new_nodes::{merge_and_sort, merge_only, no_nodes, sort_above_with_dis
 use crate::sorts::decide_sort;
 use crate::{ChildRequirements, Decision, NewNodes, Visit};
 use child_requirements::pushdown_requirement_to_children;
-use key_lists::{Keys, Order};
+use key_lists::Keys;
 use met_orders::{fresh_keys, meets, normal_form};
 use node_properties::is_sort;
-use plan::{Distribution, Fetch};
-use push_requirements::Pushed;
+use plan::Distribution;
 use push_requirements::requirements::{effective_distribution, min_fetch, needs_merge};
 use wanted_inputs::wanted_order;
 
@@ -59,9 +58,9 @@ fn unasked(root: bool, r: &[u8]) -> Decision
 fn handed_on(
     r: &[u8],
     own: &[u8],
-    first: Order,
-    rest: Order,
-    fetch: Fetch,
+    first: Option<Keys>,
+    rest: Option<Keys>,
+    fetch: Option<u32>,
     d: Distribution,
 ) -> Decision
     requires { Proper r.now × FactRow own.now }
@@ -75,7 +74,7 @@ fn handed_on(
 }
 
 // The order cannot be pushed down: a new sort.
-fn sort_added(r: &[u8], own: &[u8], order: Keys, fetch: Fetch, d: Distribution) -> Decision
+fn sort_added(r: &[u8], own: &[u8], order: Keys, fetch: Option<u32>, d: Distribution) -> Decision
     requires { Proper r.now × FactRow own.now × (order.len ≤ 8) }
     ensures { (c : Plan) (o : Op) (L R : sem.Facts) → SeenNode (decode r.now) o (sem.facts c) (child_count c)
         (told own.now) L R → Decides o c (walk.covered (sort_above_with_distribution (sem.facts_op o (sem.facts c)) (keys_of order) fetch d) 0 o
@@ -91,9 +90,9 @@ fn merge_added(
     own: &[u8],
     a: &[u8],
     b: &[u8],
-    limit: Fetch,
+    limit: Option<u32>,
     order: Keys,
-    fetch: Fetch,
+    fetch: Option<u32>,
 ) -> Decision
     requires { Asked r.now own.now a.now b.now order }
     ensures { (c : Plan) (o : Op) (q : walk.Visit) → SeenNode (decode r.now) o (sem.facts c) (child_count c) (told own.now)
@@ -103,11 +102,11 @@ fn merge_added(
     let new = fresh_keys(own, order);
     let again = normal_form(own, new);
     let p = pushdown_requirement_to_children(r, own, a, b, limit, again, fetch);
-    if let Pushed::Goes(first, rest) = p {
+    if let Some(orders) = p {
         let reqs = hand_down(
             r,
-            first,
-            rest,
+            orders.first,
+            orders.rest,
             min_fetch(limit, fetch),
             Distribution::Unspecified,
         );
@@ -117,7 +116,7 @@ fn merge_added(
     stays(true, tops, with_own_distribution(r), false)
 }
 
-fn decide_node(v: Visit, r: &[u8], own: &[u8], a: &[u8], b: &[u8], limit: Fetch) -> Decision
+fn decide_node(v: Visit, r: &[u8], own: &[u8], a: &[u8], b: &[u8], limit: Option<u32>) -> Decision
     requires { Visited r.now own.now a.now b.now v.req.order }
     ensures { (c : Plan) (o : Op) → SeenNode (decode r.now) o (sem.facts c) (child_count c) (told own.now)
         (told a.now) (told b.now) → limit ≡ fetch_op o (fetches c) → Decides o c (walk.decide_node (visit_of v) o c) result }
@@ -126,15 +125,22 @@ fn decide_node(v: Visit, r: &[u8], own: &[u8], a: &[u8], b: &[u8], limit: Fetch)
     let requirement = req.order;
     let fetch = req.fetch;
     let d = req.distribution;
-    let Order::By(order) = requirement else {
+    let Some(order) = requirement else {
         return unasked(v.root, r);
     };
     if meets(own, order) {
         return handed_on(r, own, wanted_order(r, 0), wanted_order(r, 1), fetch, d);
     }
     let p = pushdown_requirement_to_children(r, own, a, b, limit, order, fetch);
-    if let Pushed::Goes(first, rest) = p {
-        return handed_on(r, own, first, rest, min_fetch(limit, fetch), d);
+    if let Some(orders) = p {
+        return handed_on(
+            r,
+            own,
+            orders.first,
+            orders.rest,
+            min_fetch(limit, fetch),
+            d,
+        );
     }
     if needs_merge(own, d) {
         return merge_added(r, own, a, b, limit, order, fetch);
@@ -164,7 +170,7 @@ pub fn pushdown_sorts_helper(
     own: &[u8],
     a: &[u8],
     b: &[u8],
-    limit: Fetch,
+    limit: Option<u32>,
 ) -> Decision
     requires { Visited r.now own.now a.now b.now v.req.order }
     ensures { (c : Plan) → SeenNode (decode r.now) (decode r.now) (sem.facts c) (child_count c) (told own.now)

@@ -11,8 +11,7 @@ ghost use Rattle.key_lists.specs.Keys.{Real};
 ghost use Rattle.walks.specs.PushdownSorts.{at_root};
 ghost use Rattle.sort_pushdown.specs.Decisions.{visit_of};
 
-use key_lists::Order;
-use plan::Fetch;
+use key_lists::Keys;
 use push_requirements::ParentRequirements;
 
 // What a node is visited with. touch: it is rebuilt before it is looked at. root: its children have the requirements of assign_initial_requirements.
@@ -40,10 +39,10 @@ impl Visit {
 // New nodes over a node: a merge over a sort; of no order, none.
 #[derive(Clone, Copy)]
 pub struct NewNodes {
-    pub merge: Order,
-    pub mfetch: Fetch,
-    pub sort: Order,
-    pub sfetch: Fetch,
+    pub merge: Option<Keys>,
+    pub mfetch: Option<u32>,
+    pub sort: Option<Keys>,
+    pub sfetch: Option<u32>,
     pub preserve: bool,
 }
 

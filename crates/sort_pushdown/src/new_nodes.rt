@@ -8,16 +8,16 @@ ghost use Rattle.sort_pushdown.specs.Decisions.{Adds};
 
 use crate::NewNodes;
 use asked_facts::several_streams;
-use key_lists::{Keys, Order, order_of};
+use key_lists::{Keys, order_of};
 use met_orders::fresh_keys;
-use plan::{Distribution, Fetch};
+use plan::Distribution;
 use push_requirements::requirements::needs_merge;
 
 pub fn no_nodes() -> NewNodes
     ensures { Adds [] result }
 {
-    let none = Order::Unordered;
-    let all = Fetch::Unlimited;
+    let none = None;
+    let all = None;
     NewNodes {
         merge: none,
         mfetch: all,
@@ -31,7 +31,7 @@ pub fn no_nodes() -> NewNodes
 pub fn sort_above_with_distribution(
     own: &[u8],
     order: Keys,
-    fetch: Fetch,
+    fetch: Option<u32>,
     d: Distribution,
 ) -> NewNodes
     requires { FactRow own.now × (order.len ≤ 8) }
@@ -48,7 +48,7 @@ pub fn sort_above_with_distribution(
             preserve: preserve,
         };
     }
-    let none = Order::Unordered;
+    let none = None;
     NewNodes {
         merge: none,
         mfetch: fetch,
@@ -59,12 +59,12 @@ pub fn sort_above_with_distribution(
 }
 
 // A merge of the keys.
-pub fn merge_only(keys: Keys, fetch: Fetch) -> NewNodes
+pub fn merge_only(keys: Keys, fetch: Option<u32>) -> NewNodes
     requires { keys.len ≤ 8 }
     ensures { Adds (new_merge (keys_of keys) fetch) result }
 {
     let merge = order_of(keys);
-    let none = Order::Unordered;
+    let none = None;
     NewNodes {
         merge: merge,
         mfetch: fetch,
@@ -75,7 +75,13 @@ pub fn merge_only(keys: Keys, fetch: Fetch) -> NewNodes
 }
 
 // A merge of the keys over a sort of the order.
-pub fn merge_and_sort(own: &[u8], keys: Keys, fetch: Fetch, order: Keys, sfetch: Fetch) -> NewNodes
+pub fn merge_and_sort(
+    own: &[u8],
+    keys: Keys,
+    fetch: Option<u32>,
+    order: Keys,
+    sfetch: Option<u32>,
+) -> NewNodes
     requires { FactRow own.now × (keys.len ≤ 8) × (order.len ≤ 8) }
     ensures { Adds (new_merge (keys_of keys) fetch ++ sort_above_with_distribution (told own.now)
         (keys_of order) sfetch distribution.Unspecified) result }

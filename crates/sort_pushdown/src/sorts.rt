@@ -1,9 +1,8 @@
 // pushdown_sorts_helper at a sort with the record r and the facts own, over a child with the facts a.
-ghost use Rattle.std.specs.Prelude.{◌≡◌, Bool, cond, ◌||◌, List, ◌≤◌};
+ghost use Rattle.std.specs.Prelude.{◌≡◌, Bool, cond, ◌||◌, List, ◌≤◌, Option, ℕ};
 ghost use Rattle.row_order.specs.Iso.{Key};
 ghost use Rattle.plan.specs.Op.{sort_op, Plan};
 ghost use Rattle.plan.specs.declared.Distribution.TheVariants as distribution;
-ghost use Rattle.plan.specs.declared.Fetch.{Fetch as Fetches};
 ghost use Rattle.plan_codec.specs.Decode.{decode};
 ghost use Rattle.record_fields.specs.Proper.{Proper};
 ghost use Rattle.semantics.specs.Facts as sem;
@@ -15,7 +14,7 @@ ghost use Rattle.sort_pushdown.specs.Decisions.{Decides, removed_by, visit_of, s
 use crate::new_nodes::{merge_and_sort, no_nodes, sort_above_with_distribution};
 use crate::{ChildRequirements, Decision, NewNodes, Visit};
 use asked_facts::known_order;
-use key_lists::{Keys, Order, order_of};
+use key_lists::{Keys, order_of};
 use met_orders::{compatible, fresh_keys, meets, normal_form};
 use plan::Distribution;
 use push_requirements::ParentRequirements;
@@ -55,7 +54,7 @@ fn root_distribution(root: bool, r: &[u8]) -> Distribution
 // No order is required: the sort goes, and its order and the stricter fetch go on.
 fn sort_unasked(v: Visit, r: &[u8], own: &[u8]) -> Decision
     requires { Proper r.now × FactRow own.now }
-    ensures { (p : Bool) (ks : List Key) (f : Fetches) (c : Plan) → decode r.now ≡ sort_op p ks f → Decides (sort_op p ks f) c
+    ensures { (p : Bool) (ks : List Key) (f : Option ℕ) (c : Plan) → decode r.now ≡ sort_op p ks f → Decides (sort_op p ks f) c
         (unasked_on p ks f (visit_of v) (told own.now)) result }
 {
     let req = v.req;
@@ -70,7 +69,7 @@ fn sort_unasked(v: Visit, r: &[u8], own: &[u8]) -> Decision
 }
 
 // The sort's own order if it is compatible with the required one, else that.
-fn stricter(a: &[u8], own: Order, parent: Keys) -> Order
+fn stricter(a: &[u8], own: Option<Keys>, parent: Keys) -> Option<Keys>
     requires { FactRow a.now × Real own × (parent.len ≤ 8) }
     ensures { Ordered (cond (sem.compatible (told a.now) (order_of own) (keys_of parent)) (order_of own) (keys_of parent)) result }
 {
@@ -83,7 +82,7 @@ fn stricter(a: &[u8], own: Order, parent: Keys) -> Order
 // The sort was unnecessary: the stricter order and fetch go on.
 fn sort_unnecessary(v: Visit, r: &[u8], own: &[u8], a: &[u8], parent: Keys) -> Decision
     requires { Proper r.now × FactRow own.now × FactRow a.now × (parent.len ≤ 8) × (keys_of parent ≡ order_of v.req.order) }
-    ensures { (p : Bool) (ks : List Key) (f : Fetches) (c : Plan) → decode r.now ≡ sort_op p ks f → Decides (sort_op p ks f) c
+    ensures { (p : Bool) (ks : List Key) (f : Option ℕ) (c : Plan) → decode r.now ≡ sort_op p ks f → Decides (sort_op p ks f) c
         (unnecessary_on p ks f (visit_of v) (told own.now) (told a.now)) result }
 {
     let req = v.req;
@@ -100,7 +99,7 @@ fn sort_unnecessary(v: Visit, r: &[u8], own: &[u8], a: &[u8], parent: Keys) -> D
 // The sort was imposing a different order: a sort of the required one in its place, and the old order goes on.
 fn sort_replaced(v: Visit, r: &[u8], own: &[u8], a: &[u8], parent: Keys) -> Decision
     requires { Proper r.now × FactRow own.now × FactRow a.now × (parent.len ≤ 8) × (keys_of parent ≡ order_of v.req.order) }
-    ensures { (p : Bool) (ks : List Key) (f : Fetches) (c : Plan) → decode r.now ≡ sort_op p ks f → Decides (sort_op p ks f) c
+    ensures { (p : Bool) (ks : List Key) (f : Option ℕ) (c : Plan) → decode r.now ≡ sort_op p ks f → Decides (sort_op p ks f) c
         (replaced_on p ks f (visit_of v) (told own.now) (told a.now)) result }
 {
     let req = v.req;
@@ -118,7 +117,7 @@ fn sort_replaced(v: Visit, r: &[u8], own: &[u8], a: &[u8], parent: Keys) -> Deci
 // The same where a merge comes too: the new sort is replaced in its turn.
 fn sort_replaced_twice(v: Visit, r: &[u8], own: &[u8], a: &[u8], parent: Keys) -> Decision
     requires { Proper r.now × FactRow own.now × FactRow a.now × (parent.len ≤ 8) × (keys_of parent ≡ order_of v.req.order) }
-    ensures { (p : Bool) (ks : List Key) (f : Fetches) (c : Plan) → decode r.now ≡ sort_op p ks f → Decides (sort_op p ks f) c
+    ensures { (p : Bool) (ks : List Key) (f : Option ℕ) (c : Plan) → decode r.now ≡ sort_op p ks f → Decides (sort_op p ks f) c
         (twice_on p ks f (visit_of v) (told own.now) (told a.now)) result }
 {
     let req = v.req;
@@ -145,13 +144,13 @@ fn unnecessary(own: &[u8], parent: Keys) -> bool
 
 pub fn decide_sort(v: Visit, r: &[u8], own: &[u8], a: &[u8]) -> Decision
     requires { Proper r.now × FactRow own.now × FactRow a.now × Real v.req.order }
-    ensures { (p : Bool) (ks : List Key) (f : Fetches) (c : Plan) → decode r.now ≡ sort_op p ks f → Decides (sort_op p ks f) c
+    ensures { (p : Bool) (ks : List Key) (f : Option ℕ) (c : Plan) → decode r.now ≡ sort_op p ks f → Decides (sort_op p ks f) c
         (sort_on p ks f (visit_of v) (told own.now) (told a.now)) result }
 {
     let req = v.req;
     let requirement = req.order;
     let d = req.distribution;
-    let Order::By(parent) = requirement else {
+    let Some(parent) = requirement else {
         return sort_unasked(v, r, own);
     };
     if unnecessary(own, parent) {

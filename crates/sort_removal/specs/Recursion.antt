@@ -1,14 +1,11 @@
 -- The recursion of remove_corresponding_sort_from_sub_plan.
-use Rattle.std.specs.Prelude.{◌≡◌, refl, Bool, true, false, cond, List, ℕ, suc, ◌+◌, ◌*◌, ◌≤◌, ◌<◌, length, get_or, take, drop, set}
+use Rattle.std.specs.Prelude.{◌≡◌, refl, Bool, true, false, cond, List, ℕ, suc, ◌+◌, ◌*◌, ◌≤◌, ◌<◌, length, get_or, take, drop, set, Option, Some, None, is_some}
 use Rattle.std.proofs.Common.{sym, ap, ap₂, ◌∙◌, subst, add-one}
 use native.Mathlib.Omega.{arith}
 use Rattle.row_order.proofs.Order.{no_bool}
 use Rattle.plan.specs.Forest.{Forest, size}
 use Rattle.plan.specs.Op.{Op, sort_op}
 use Rattle.plan.specs.Numbers.{code}
-use Rattle.plan.specs.WellFormed.{some_fetch}
-use Rattle.plan.specs.declared.Fetch.{Fetch}
-use Rattle.plan.specs.declared.Fetch.TheVariants.{AtMost, Unlimited}
 use Rattle.plan_codec.specs.NodeRecord.{NodeRecord}
 use Rattle.plan_codec.specs.Decode.{from_bytes, decode}
 use Rattle.semantics.specs.Properties.{singles}
@@ -46,13 +43,13 @@ pub record Going (b₀ : List ℕ) (u h j w : ℕ) (kids b : List ℕ) : Type 0 
       ≡ remove_kids (singles (decode (slot b₀ (index h)).rec)) (forest b₀ (slot b₀ (index h)).kids)
   pub left : w + 2 * size (forest b₀ (drop j (slot b₀ (index h)).kids)) ≤ u + 2 * size (forest b₀ (slot b₀ (index h)).kids)
 
-drop_some : (f : Fetch) (t : Tree) → some_fetch f ≡ true → drop_sort f t ≡ t
-drop_some Unlimited t e = no_bool e
-drop_some (AtMost n) t e = refl
+drop_some : (f : Option ℕ) (t : Tree) → is_some f ≡ true → drop_sort f t ≡ t
+drop_some None t e = no_bool e
+drop_some (Some n) t e = refl
 
-drop_none : (f : Fetch) (t : Tree) → some_fetch f ≡ false → drop_sort f t ≡ kid0 t t.kids
-drop_none Unlimited t e = refl
-drop_none (AtMost n) t e = no_bool (sym e)
+drop_none : (f : Option ℕ) (t : Tree) → is_some f ≡ false → drop_sort f t ≡ kid0 t t.kids
+drop_none None t e = refl
+drop_none (Some n) t e = no_bool (sym e)
 
 module _ (b₀ : List ℕ) (u h : ℕ) (p : Removes b₀ u h) where
   abbrev hs : List ℕ
@@ -143,7 +140,7 @@ module _ (b₀ : List ℕ) (u h : ℕ) (p : Removes b₀ u h) where
       dropped = ap (λ k. remove_by (shape k) (record { op = o; mark = true }) c₀ (remove_kids (singles o) c₀)) sorts
 
       -- it stays
-      module _ (f : some_fetch (from_bytes (slot b₀ (index h)).rec).fetch ≡ true) where
+      module _ (f : is_some (from_bytes (slot b₀ (index h)).rec).fetch ≡ true) where
         stays : tree_of b₀ h ≡ Removed b₀ h
         stays = ap₂ (λ m t. set_mark m t) z seen.tree ∙ sym (dropped ∙ drop_some x.fetch (node o true c₀) f)
 
@@ -158,7 +155,7 @@ module _ (b₀ : List ℕ) (u h : ℕ) (p : Removes b₀ u h) where
       pub sort_some : 0 < length (slot b₀ (index h)).kids
       sort_some = let k = only in omega arith
 
-      module _ (f : some_fetch (from_bytes (slot b₀ (index h)).rec).fetch ≡ false) (k : ℕ) (hk : k ≡ get_or (slot b₀ (index h)).kids 0 0) where
+      module _ (f : is_some (from_bytes (slot b₀ (index h)).rec).fetch ≡ false) (k : ℕ) (hk : k ≡ get_or (slot b₀ (index h)).kids 0 0) where
         goes : tree_of b₀ k ≡ Removed b₀ h
         goes = ap (tree_of b₀) hk ∙ kid_is b₀ hs (node o true c₀) sort_some ∙ sym (dropped ∙ drop_none x.fetch (node o true c₀) f)
 

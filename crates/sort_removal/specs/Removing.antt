@@ -1,12 +1,11 @@
 -- remove_corresponding_sort_from_sub_plan at one node, over the children that its connected children became.
-use Rattle.std.specs.Prelude.{◌≡◌, refl, Bool, true, false, cond, not, ◌||◌, List, [], ◌∷◌, map, ℕ, suc, ◌+◌, ◌*◌, ◌≤◌, ◌<◌, eqb, length, get_or}
+use Rattle.std.specs.Prelude.{◌≡◌, refl, Bool, true, false, cond, not, ◌||◌, List, [], ◌∷◌, map, ℕ, suc, ◌+◌, ◌*◌, ◌≤◌, ◌<◌, eqb, length, get_or, Option}
 use Rattle.std.proofs.Common.{sym, ap, ap₂, ◌∙◌, subst, arith, ne_eqb}
 use Rattle.row_order.specs.Iso.{Key}
 use Rattle.plan.specs.Forest.{Forest, none, tree, roots, size}
 use Rattle.plan.specs.Op.{Op, source, filter, projection, union, repartition, coalesce, sort_op, merge_op, global_limit, local_limit, sort_merge_join, hash_join, output_requirement, partial_sort, aggregate}
 use Rattle.plan.specs.Numbers.{code}
 use Rattle.plan.specs.WellFormed.{node_ok}
-use Rattle.plan.specs.declared.Fetch.{Fetch}
 use Rattle.plan_codec.specs.Decode.{from_bytes, decode}
 use Rattle.plan_codec.specs.Encode.{encode}
 use Rattle.plan_codec.proofs.OneRecord.{decode-encode}
@@ -95,7 +94,7 @@ module _ (c d : Forest Marked) where
   again : (o : Op) → updated_after_removal (record { op = o; mark = true }) c d ≡ rebuild o (not (needs c)) (updated_by (needs c) d)
   again o = updated_is o c d ∙ ap (λ fs. node (rebuilt o fs) (not (needs c)) e) (sym known_is)
 
-  by_merge : (ks : List Key) (f : Fetch) → remove_by (shape (merge_op ks f)) (record { op = merge_op ks f; mark = true }) c d ≡ set_mark (not (needs c))
+  by_merge : (ks : List Key) (f : Option ℕ) → remove_by (shape (merge_op ks f)) (record { op = merge_op ks f; mark = true }) c d ≡ set_mark (not (needs c))
       (kid0 (rebuild (merge_op ks f) (not (needs c)) (updated_by (needs c) d)) (updated_by (needs c) d))
   by_merge ks f = ap (loosen (a_merge ks f)) (again (merge_op ks f))
 

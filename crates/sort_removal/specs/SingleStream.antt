@@ -1,18 +1,14 @@
 -- One stream of a tree: a merge of its known order over it, or a coalesce.
-use Rattle.std.specs.Prelude.{◌≡◌, refl, Bool, true, false, cond, ◌&&◌, List, [], ◌∷◌, ℕ, zero, suc, ◌+◌, ◌*◌, ◌≤◌, ◌<◌, ltb, length}
+use Rattle.std.specs.Prelude.{◌≡◌, refl, Bool, true, false, cond, ◌&&◌, List, [], ◌∷◌, ℕ, zero, suc, ◌+◌, ◌*◌, ◌≤◌, ◌<◌, ltb, length, Option, None, Some}
 use Rattle.std.proofs.Common.{sym, ap₂, ◌∙◌, subst, arith}
 use Rattle.std.proofs.Math.Path.{ap}
 use Rattle.plan.specs.Forest.{none, size}
-use Rattle.plan.specs.declared.Fetch.{Fetch}
-use Rattle.plan.specs.declared.Fetch.TheVariants.{Unlimited}
 use Rattle.plan_codec.specs.Decode.{decode}
 use Rattle.plan_codec.specs.Encode.{encode}
 use Rattle.plan_codec.proofs.OneRecord.{decode-encode}
 use Rattle.semantics.specs.Facts.{known_order}
 use Rattle.key_lists.specs.Keys.{keys_in, keys_of, order_of, Ordered, Real}
 use Rattle.key_lists.specs.declared.Keys.{Keys}
-use Rattle.key_lists.specs.declared.Order.{Order}
-use Rattle.key_lists.specs.declared.Order.TheVariants.{Unordered, By}
 use Rattle.plan.specs.Op.{merge_op, coalesce}
 use Rattle.asked_facts.specs.Asked.{told}
 use Rattle.arena.specs.Arena.{slot_size}
@@ -29,20 +25,20 @@ use Rattle.sort_connection.specs.Standing.{Standing}
 
 -- ---- the record of the new node
 
-some-keys : (n w : ℕ) (f : Fetch) → 0 < n → merge_op (keys_in n w) f ≡ single_stream_op (keys_in n w) f
+some-keys : (n w : ℕ) (f : Option ℕ) → 0 < n → merge_op (keys_in n w) f ≡ single_stream_op (keys_in n w) f
 some-keys zero w f h = absurd (omega arith)
 some-keys (suc n) w f h = refl
 
-pub single_stream_none : (o : Order) (f : Fetch) (x : List ℕ) → o ≡ Unordered → x ≡ encode 1 (coalesce Unlimited)
+pub single_stream_none : (o : Option Keys) (f : Option ℕ) (x : List ℕ) → o ≡ None → x ≡ encode 1 (coalesce None)
     → x ≡ encode 1 (single_stream_op (order_of o) f)
 single_stream_none o f x e q = q ∙ ap (λ z. encode 1 (single_stream_op (order_of z) f)) (sym e)
 
-pub single_stream_some : (o : Order) → Real o → (k : Keys) → o ≡ By k → (f : Fetch) (x : List ℕ) → x ≡ encode 1 (merge_op (keys_of k) f)
+pub single_stream_some : (o : Option Keys) → Real o → (k : Keys) → o ≡ Some k → (f : Option ℕ) (x : List ℕ) → x ≡ encode 1 (merge_op (keys_of k) f)
     → x ≡ encode 1 (single_stream_op (order_of o) f)
 single_stream_some o r k e f x q =
     q ∙ ap (encode 1) (some-keys k.len k.word f (subst Real e r).0) ∙ ap (λ z. encode 1 (single_stream_op (order_of z) f)) (sym e)
 
-pub few_keys : (o : Order) → Real o → (k : Keys) → o ≡ By k → k.len ≤ 8
+pub few_keys : (o : Option Keys) → Real o → (k : Keys) → o ≡ Some k → k.len ≤ 8
 few_keys o r k e = (subst Real e r).1
 
 -- ---- the new node
@@ -81,7 +77,7 @@ module _ (b : List ℕ) (w h : ℕ) (s : Bool) (p : AsksSingleStream b w h s) wh
     pub one_stream : v ≡ false → Grown b w b (record { used = w; root = h }) (with_single_stream s (tree_of b h)) (w + 1)
     one_stream l = stays (ap₂ ◌&&◌ z (several ∙ l))
 
-    module _ (l : v ≡ true) (o : Order) (ho : Ordered (known_order (told row)) o) (f : Fetch) (hf : f ≡ fetch_t (tree_of b h)) (x : List ℕ)
+    module _ (l : v ≡ true) (o : Option Keys) (ho : Ordered (known_order (told row)) o) (f : Option ℕ) (hf : f ≡ fetch_t (tree_of b h)) (x : List ℕ)
         (hx : x ≡ encode 1 (single_stream_op (order_of o) f))
         (c : Bool) (hc : c ≡ connected (op_t (tree_of b h)) (tree_of b h).kids) (k : ℕ) (hk : Marks h c k) where
       op_is : single_stream_op (order_of o) f ≡ single_stream_op (known_order (fact (tree_of b h))) (fetch_t (tree_of b h))

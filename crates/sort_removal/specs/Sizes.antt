@@ -1,9 +1,7 @@
 -- Removing sorts at most doubles a tree.
-use Rattle.std.specs.Prelude.{◌≡◌, refl, Bool, false, ◌&&◌, ◌||◌, ℕ, suc, ◌*◌, ◌≤◌, ltb}
+use Rattle.std.specs.Prelude.{◌≡◌, refl, Bool, false, ◌&&◌, ◌||◌, ℕ, suc, ◌*◌, ◌≤◌, ltb, Option, Some, None}
 use Rattle.std.proofs.Common.{arith}
 use Rattle.plan.specs.Forest.{Forest, none, tree, roots, size}
-use Rattle.plan.specs.declared.Fetch.{Fetch}
-use Rattle.plan.specs.declared.Fetch.TheVariants.{AtMost, Unlimited}
 use Rattle.semantics.specs.Facts.{is_nil, known_order}
 use Rattle.semantics.specs.Properties.{singles}
 use Rattle.walks.specs.Marks.{Marked, Tree, at, over, fact, fetch_t, size_t, kid0, any_mark, rebuild, Shape, a_sort, a_merge, a_repartition, a_coalesce, another, shape}
@@ -28,9 +26,9 @@ updated_size m c d =
     cond_le (suc (size d)) (any_mark c || is_nil (roots c)) (update_sort_ctx_children_data false (rebuild m.op m.mark d)) (rebuild m.op m.mark d)
     (omega arith) (omega arith)
 
-drop-size : (f : Fetch) (t : Tree) → size_t (drop_sort f t) ≤ size_t t
-drop-size Unlimited t = kid_size t t.kids (omega arith)
-drop-size (AtMost n) t = omega arith
+drop-size : (f : Option ℕ) (t : Tree) → size_t (drop_sort f t) ≤ size_t t
+drop-size None t = kid_size t t.kids (omega arith)
+drop-size (Some n) t = omega arith
 
 pub by_size : (s : Shape) (m : Marked) (c d : Forest Marked) → size d ≤ 2 * size c → size_t (remove_by s m c d) ≤ suc (2 * size c)
 by_size (a_sort p ks f) m c d h = let x = drop-size f (at m c) in omega arith

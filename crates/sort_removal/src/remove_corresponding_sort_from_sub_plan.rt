@@ -15,11 +15,9 @@ ghost use Rattle.sort_removal.specs.Recursion.{Removes};
 
 use arena::{At, child, child_count, read64, record_at};
 use asked_facts::{known_order, several_streams};
-use key_lists::Order;
+use key_lists::Keys;
 use new_records::{coalesce_record, merge_record, with_mark};
-use node_fetches::some_fetch;
 use node_properties::{fetch_field, is_repartition, is_sort, is_sort_preserving_merge};
-use plan::Fetch;
 use plan_context::handles::{is_marked, set_mark};
 use plan_context::kept::{fetch_at, row};
 use plan_updates::{put_again, put_over, update_plan_from_children};
@@ -29,13 +27,13 @@ use sort_connection::update_sort_ctx_children_data::{
 use wanted_inputs::wants_single;
 
 // A merge of the order, or a coalesce where there is none.
-fn single_stream_record(order: Order, fetch: Fetch) -> [u8; 64]
+fn single_stream_record(order: Option<Keys>, fetch: Option<u32>) -> [u8; 64]
     requires { Real order }
     ensures { result ≡ encode 1 (single_stream_op (order_of order) fetch) }
 {
     match order {
-        Order::Unordered => coalesce_record(Fetch::Unlimited),
-        Order::By(k) => merge_record(k, fetch),
+        None => coalesce_record(None),
+        Some(k) => merge_record(k, fetch),
     }
 }
 
@@ -109,7 +107,7 @@ fn remove_sort(m: &mut [u8], u: usize, h: usize, r: &[u8], single: bool) -> At
     requires { Removes m.old u h × (marked h ≡ true) × (r.now ≡ (slot m.old (index h)).rec) × (code (decode r.now) ≡ 7) }
     ensures { Grown m.old u m.new result (remove_one single (tree_of m.old h)) (u + 2 * size_t (tree_of m.old h)) }
 {
-    if some_fetch(fetch_field(r)) {
+    if fetch_field(r).is_some() {
         return with_single_stream(m, u, h, single);
     }
     let k = child(m, h / 2, 0);
@@ -132,14 +130,12 @@ pub fn remove_corresponding_sort_from_sub_plan(m: &mut [u8], u: usize, h: usize,
     let n = child_count(m, i);
     let mut kids = [0usize; 8];
     let mut w = u;
-    let mut j = 0;
-    while j < n {
+    for j in 0..n {
         let k = child(m, i, j);
         let one = wants_single(&r, j);
         let a = remove_corresponding_sort_from_sub_plan(m, w, k, one);
         w = a.used;
         kids[j] = a.root;
-        j += 1;
     }
     let x = remove_by(m, w, h, &r, &mut kids[..n]);
     with_single_stream(m, x.used, x.root, single)

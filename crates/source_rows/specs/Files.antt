@@ -7,9 +7,8 @@ use Rattle.scan.specs.Below.{and_left, and_right}
 use Rattle.scan.specs.Bytes.{AllBytes}
 use Rattle.plan.specs.Forest.{Forest, none, tree, roots, size, nodes, map_f}
 use Rattle.plan.specs.Op.{Op, Plan}
-use Rattle.plan.specs.Numbers.{number_of}
+use Rattle.plan.specs.Numbers.{Accepted, number_of}
 use Rattle.plan.specs.WellFormed.{fields_ok, children_ok, union_ok, columns_ok, width, widths, node_ok, nodes_ok}
-use Rattle.plan.specs.declared.Refusal.TheVariants.{Accepted}
 use Rattle.plan_format.specs.Blocks.{record_count, record_start, record_at, span, records}
 use Rattle.plan_format.specs.Reading.{refusal_of}
 use Rattle.plan_format.specs.Tree.{tree_of}

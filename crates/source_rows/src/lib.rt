@@ -37,12 +37,10 @@ pub fn first_unstepped(plan: &[u8], n: usize) -> usize
     requires { (number_of (refusal_of plan.now) ≡ 0) × (n ≡ record_count plan.now) }
     ensures { result ≡ first_unstepped (plan_of plan.now) }
 {
-    let mut j = 0;
-    while j < n {
+    for j in 0..n {
         if is_unstepped(plan, j) {
             return j;
         }
-        j += 1;
     }
     n
 }
@@ -64,15 +62,13 @@ pub fn form_fits(plan: &[u8], n: usize, rows: &[u8]) -> bool
     ensures { result ≡ form_ok (plan_of plan.now) rows.now }
 {
     let mut at = 0;
-    let mut j = 0;
-    while j < n {
+    for j in 0..n {
         let k = streams_of(plan, j);
         let w = byte_of(plan, j, 13);
         if !row_bytes::source_fits(rows, at, w, k) {
             return false;
         }
         at = row_bytes::source_end(rows, at, w, k);
-        j += 1;
     }
     at == rows.len()
 }
@@ -84,13 +80,11 @@ pub fn rows_given(plan: &[u8], n: usize, rows: &[u8]) -> usize
 {
     let mut count = 0;
     let mut at = 0;
-    let mut j = 0;
-    while j < n {
+    for j in 0..n {
         let k = streams_of(plan, j);
         let w = byte_of(plan, j, 13);
         count += row_bytes::source_count(rows, at, w, k);
         at = row_bytes::source_end(rows, at, w, k);
-        j += 1;
     }
     count
 }
@@ -119,15 +113,13 @@ pub fn declared_fits(plan: &[u8], n: usize, rows: &[u8]) -> bool
     ensures { result ≡ sources_ok (rows_in (plan_of plan.now) rows.now) (plan_of plan.now) }
 {
     let mut at = 0;
-    let mut j = 0;
-    while j < n {
+    for j in 0..n {
         if !source_kept(plan, j, rows, at) {
             return false;
         }
         let k = streams_of(plan, j);
         let w = byte_of(plan, j, 13);
         at = row_bytes::source_end(rows, at, w, k);
-        j += 1;
     }
     true
 }

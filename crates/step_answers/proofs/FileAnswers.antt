@@ -1,11 +1,11 @@
 -- What the dry run of a file returns, each number said as exactly when it is returned (02, P3): 1 to 8 as the file is refused, then 256 plus a node's
 -- number, 26, 27, 24 and 0 by the plan that it holds.
--- Definitions: reading (plan_codec); number_of, Refusal, Plan (plan); returned (Answers); NoJoin, FirstJoin (FirstJoin); RowsKeep, row_count,
+-- Definitions: reading (plan_codec); refusal_number, Refusal, Plan (plan); returned (Answers); NoJoin, FirstJoin (FirstJoin); RowsKeep, row_count,
 -- delivered_bytes (OrderOfAnswers).
 use Rattle.std.specs.Prelude.{◌≡◌, refl, ◌↔◌, List, ℕ, ◌+◌, ◌<◌, ◌≤◌, length}
 use Rattle.std.proofs.Common.{sym, ap, ◌∙◌, arith}
 use Rattle.plan.specs.Op.{Plan}
-use Rattle.plan.specs.Numbers.{number_of}
+use Rattle.plan.specs.Numbers.{refusal_number}
 use Rattle.plan.specs.declared.Refusal.{Refusal}
 use Rattle.plan_codec.specs.Reading as codec
 use Rattle.plan_codec.specs.Reading.{reading}
@@ -18,14 +18,14 @@ use Rattle.step_answers.proofs.FileNumbers.{refused_number, same_refusal}
 -- s: the file; rows: the rows' bytes; bytes: the caller's list; out: the lent output
 module _ (s rows bytes out : List ℕ) where
   -- ---- a file that is refused
-  pub returns_refusal : (x : Refusal) → reading s ≡ codec.refused x → returned s rows bytes out ≡ number_of x
+  pub returns_refusal : (x : Refusal) → reading s ≡ codec.refused x → returned s rows bytes out ≡ refusal_number x
   returns_refusal x e = ap (λ a. number (after_reading a rows bytes (length out))) e
 
   -- 1 to 8: exactly as the file is refused
-  pub returns_1_to_8 : (x : Refusal) → 1 ≤ number_of x → number_of x ≤ 8 → (returned s rows bytes out ≡ number_of x) ↔ (reading s ≡ codec.refused x)
+  pub returns_1_to_8 : (x : Refusal) → 1 ≤ refusal_number x → refusal_number x ≤ 8 → (returned s rows bytes out ≡ refusal_number x) ↔ (reading s ≡ codec.refused x)
   returns_1_to_8 x l h = (go (reading s) refl, returns_refusal x)
     where
-      go : (r : codec.PlanOrRefusal) → reading s ≡ r → number (after_reading r rows bytes (length out)) ≡ number_of x → reading s ≡ codec.refused x
+      go : (r : codec.PlanOrRefusal) → reading s ≡ r → number (after_reading r rows bytes (length out)) ≡ refusal_number x → reading s ≡ codec.refused x
       go (codec.refused y) p q = p ∙ ap codec.refused (same_refusal y x (omega arith) q)
       go (codec.plan f) p q = absurd (omega (arith, answer-past_8 f rows bytes (length out) (λ z. omega arith)))
 

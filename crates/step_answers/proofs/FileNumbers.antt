@@ -1,73 +1,76 @@
 -- A file that holds no plan is refused with a number from 1 to 8, and no two refusals of files have one number.
--- Definitions: Refusal, number_of (plan); refusal_of (plan_format); reading (plan_codec).
-use Rattle.std.specs.Prelude.{◌≡◌, refl, Bool, true, false, cond, List, [], ◌∷◌, ℕ, zero, suc, ◌≤◌, leb, eqb, length, get_or, take}
+-- Definitions: Refusal, refusal_number (plan); refusal_of (plan_format); reading (plan_codec).
+use Rattle.std.specs.Prelude.{◌≡◌, refl, Bool, true, false, cond, List, [], ◌∷◌, ℕ, zero, suc, ◌-◌, ◌≤◌, leb, length, get_or, take, Ok, Err}
 use Rattle.std.proofs.Common.{sym, ap, ◌∙◌, arith}
-use Rattle.std.proofs.lemmas.Bool.{eqb-false}
-use Rattle.plan.specs.Numbers.{number_of}
+use Rattle.plan.specs.Numbers.{Verdict, Accepted, refusal_number, number_of}
 use Rattle.plan.specs.declared.Refusal.{Refusal}
-use Rattle.plan.specs.declared.Refusal.TheVariants.{Accepted, Length, BlockSum, Header, KindOrChildren, RecordCount, Field, Column, Width}
+use Rattle.plan.specs.declared.Refusal.TheVariants.{Length, BlockSum, Header, KindOrChildren, RecordCount, Field, Column, Width}
 use Rattle.plan.specs.declared.Refusal.TheVariants.{NoSuchNode, HasPartialSort, TooManyNodes, OutputTooShort, ConstantSort}
 use Rattle.plan_format.specs.Record.{children, fields}
 use Rattle.plan_format.specs.Blocks.{length_ok, records}
-use Rattle.plan_format.specs.LastPass.{union_ok, column_limit, columns_rule, width_of, last_pass, node_refusal, widths}
+use Rattle.plan_format.specs.Passed.{refused_some}
+use Rattle.plan_format.specs.LastPass.{union_ok, column_limit, columns_rule, width_of, and_then, last_pass, node_refusal, widths}
 use Rattle.plan_format.specs.Reading.{sums_ok, headers_ok, kinds_ok, tree_ok, records_ok, early_refusal, refusal_of}
-use Rattle.plan_codec.specs.Reading.{PlanOrRefusal, plan, plan_of, reading, refused}
+use Rattle.plan_codec.specs.Reading.{plan, plan_of, unless_refused, reading, refused}
 
 -- ---- at most 8
-record Small (x : Refusal) : Type 0 where
+record Small (x : Verdict) : Type 0 where
   small : number_of x ≤ 8
 
-either : (b : Bool) {x y : Refusal} → Small x → Small y → Small (cond b x y)
+either : (b : Bool) {x y : Verdict} → Small x → Small y → Small (cond b x y)
 either true h k = h
 either false h k = k
 
-is : (x : Refusal) → number_of x ≤ 8 → Small x
+is : (x : Verdict) → number_of x ≤ 8 → Small x
 is x h = record { small = h }
 
 early_small : (s : List ℕ) → Small (early_refusal s)
 unfolding early_refusal
 early_small s =
     either (length_ok (length s)) (either (sums_ok s) (either (headers_ok s) (either (kinds_ok s) (either (tree_ok s)
-    (either (records_ok s) (is Accepted (omega arith)) (is Field (omega arith))) (is RecordCount (omega arith)))
-    (is KindOrChildren (omega arith))) (is Header (omega arith))) (is BlockSum (omega arith))) (is Length (omega arith))
+    (either (records_ok s) (is Accepted (omega arith)) (is (Err Field) (omega arith))) (is (Err RecordCount) (omega arith)))
+    (is (Err KindOrChildren) (omega arith))) (is (Err Header) (omega arith))) (is (Err BlockSum) (omega arith))) (is (Err Length) (omega arith))
 
 node_small : (r ws : List ℕ) → Small (node_refusal r ws)
 unfolding node_refusal
 node_small r ws =
     either (union_ok r ws) (either (columns_rule (fields r) r (column_limit (fields r) r ws) (get_or ws 1 0))
-    (either (leb (width_of (fields r) r ws) 32) (is Accepted (omega arith)) (is Width (omega arith))) (is Column (omega arith))) (is Field (omega arith))
+    (either (leb (width_of (fields r) r ws) 32) (is Accepted (omega arith)) (is (Err Width) (omega arith))) (is (Err Column) (omega arith))) (is (Err Field) (omega arith))
+
+then_small : (x y : Verdict) → Small x → Small y → Small (and_then x y)
+then_small (Ok z) y h k = k
+then_small (Err r) y h k = h
 
 last_small : (l : List (List ℕ)) → Small (last_pass l)
 last_small [] = record { small = omega arith }
-last_small (r ∷ l) = either (eqb (number_of (last_pass l)) 0) (node_small r (take (children r) (widths l))) (last_small l)
+last_small (r ∷ l) = then_small (last_pass l) _ (last_small l) (node_small r (take (children r) (widths l)))
 
 refusal_small : (s : List ℕ) → Small (refusal_of s)
 unfolding refusal_of
-refusal_small s = either (eqb (number_of (early_refusal s)) 0) (last_small (records s)) (early_small s)
+refusal_small s = then_small (early_refusal s) _ (early_small s) (last_small (records s))
 
 -- ---- a refused file
 some : (k : ℕ) → (k ≡ 0 → ⊥) → 1 ≤ k
 some zero h = absurd (h refl)
 some (suc k) h = omega arith
 
-pub refused_number : (s : List ℕ) (x : Refusal) → reading s ≡ refused x → (1 ≤ number_of x) × (number_of x ≤ 8)
+pub refused_number : (s : List ℕ) (x : Refusal) → reading s ≡ refused x → (1 ≤ refusal_number x) × (refusal_number x ≤ 8)
 unfolding reading
-refused_number s x e = go (eqb (number_of (refusal_of s)) 0) refl e
+refused_number s x e = go (refusal_of s) refl e
   where
-    go : (b : Bool) → eqb (number_of (refusal_of s)) 0 ≡ b → cond b (plan (plan_of s)) (refused (refusal_of s)) ≡ refused x → (1 ≤ number_of x) × (number_of x ≤ 8)
-    go true q e = let z : ◌≡◌ {A = ℕ} 0 1 = cc in absurd (omega arith)
-    go false q e =
-        let same : refusal_of s ≡ x = cc in
-        let n : number_of (refusal_of s) ≡ number_of x = ap number_of same in
-        (some (number_of x) (λ z. eqb-false (number_of (refusal_of s)) 0 q (n ∙ z)), omega (arith, (refusal_small s).small))
+    go : (v : Verdict) → refusal_of s ≡ v → unless_refused v (plan_of s) ≡ refused x → (1 ≤ refusal_number x) × (refusal_number x ≤ 8)
+    go (Ok v) q e = let z : ◌≡◌ {A = ℕ} 0 1 = cc in absurd (omega arith)
+    go (Err r) q e =
+        let same : r ≡ x = cc in
+        let n : number_of (refusal_of s) ≡ refusal_number x = ap number_of q ∙ ap refusal_number same in
+        (some (refusal_number x) (refused_some x), omega (arith, (refusal_small s).small))
 
 -- ---- which refusal it is
 first_ones : List Refusal
-first_ones = Accepted ∷ Length ∷ BlockSum ∷ Header ∷ KindOrChildren ∷ RecordCount ∷ Field ∷ Column ∷ Width ∷ []
+first_ones = Length ∷ BlockSum ∷ Header ∷ KindOrChildren ∷ RecordCount ∷ Field ∷ Column ∷ Width ∷ []
 
-of_number : (x : Refusal) → number_of x ≤ 8 → get_or first_ones (number_of x) Accepted ≡ x
+of_number : (x : Refusal) → refusal_number x ≤ 8 → get_or first_ones (refusal_number x - 1) Length ≡ x
 unfolding first_ones
-of_number Accepted h = refl
 of_number Length h = refl
 of_number BlockSum h = refl
 of_number Header h = refl
@@ -82,5 +85,5 @@ of_number TooManyNodes h = absurd (omega arith)
 of_number OutputTooShort h = absurd (omega arith)
 of_number ConstantSort h = absurd (omega arith)
 
-pub same_refusal : (x y : Refusal) → number_of x ≤ 8 → number_of x ≡ number_of y → x ≡ y
-same_refusal x y h e = sym (of_number x h) ∙ ap (λ (n : ℕ). get_or first_ones n Accepted) e ∙ of_number y (omega arith)
+pub same_refusal : (x y : Refusal) → refusal_number x ≤ 8 → refusal_number x ≡ refusal_number y → x ≡ y
+same_refusal x y h e = sym (of_number x h) ∙ ap (λ (n : ℕ). get_or first_ones (n - 1) Length) e ∙ of_number y (omega arith)

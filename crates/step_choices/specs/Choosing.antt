@@ -1,6 +1,6 @@
 -- The choices of a step by the tables. Definitions, and what the code's loops ask.
-use Rattle.std.specs.Prelude.{◌≡◌, refl, Bool, true, false, cond, not, ◌&&◌, ◌||◌, List, [], ◌∷◌, ℕ, zero, suc, ◌+◌, ◌*◌, ◌-◌, ◌<◌, ◌≤◌, ltb, length, get_or}
-use Rattle.std.proofs.Common.{sym, ap, ap₂, ◌∙◌, subst, arith, ltb-true, ltb-false, lt-ltb, le-ltb}
+use Rattle.std.specs.Prelude.{◌≡◌, refl, Bool, true, false, cond, not, ◌&&◌, ◌||◌, List, [], ◌∷◌, ℕ, zero, suc, ◌+◌, ◌*◌, ◌-◌, ◌<◌, ◌≤◌, ltb, length, get_or, take}
+use Rattle.std.proofs.Common.{sym, ap, ap₂, ◌∙◌, subst, arith, ltb-true, ltb-false, get_or-take}
 use Rattle.std.proofs.Math.Decide.{dec_lt}
 use Rattle.row_order.proofs.Order.{no_bool}
 use Rattle.row_order.specs.Lists.{tab}
@@ -10,22 +10,23 @@ use Rattle.step_tables.specs.Places.{is_straight}
 use Rattle.step_tables.specs.Choosing.{any_from, chosen_from}
 use Rattle.step_tables.specs.Draws.{drawn_value, drawn_next, one_choice}
 use Rattle.step_tables.specs.Opened.{Fits, fill_all}
-use Rattle.step_tables.specs.Passes.{node_in, held_at, may_by, node_may}
+use Rattle.step_tables.specs.Passes.{number_of, no_node, node_in, held_at, may_by, node_may}
+use Rattle.step_tables.specs.declared.StepNode.{StepNode}
 use Rattle.step_tables.proofs.ChosenMoves.{drawn_below}
 use Rattle.step_tables.proofs.Stepped.{output_of}
 
 -- Node j waits for open streams: it merges or sorts
-abbrev pub waits_for : List ℕ → ℕ → Bool
+abbrev pub waits_for : List StepNode → ℕ → Bool
 waits_for t j = ltb 1 (node_in t j).kind
 
-abbrev pub any_waiter : List ℕ → ℕ → Bool
+abbrev pub any_waiter : List StepNode → ℕ → Bool
 any_waiter t n = any_from (waits_for t) 0 n
 
 -- The open streams, and the numbers of the nodes that can move then
-abbrev pub opened : List ℕ → ℕ → List Bool → List ℕ → List Bool
+abbrev pub opened : List StepNode → ℕ → List Bool → List ℕ → List Bool
 opened t n fl held = fill_all (held_at held) (tab n (node_in t)) fl
 
-abbrev pub movable : List ℕ → ℕ → List Bool → List ℕ → List ℕ → List ℕ
+abbrev pub movable : List StepNode → ℕ → List Bool → List ℕ → List ℕ → List ℕ
 movable t n fl held queued = chosen_from (node_may t (opened t n fl held) held queued) 0 n
 
 -- ---- who waits for nothing does not look at the flags
@@ -34,7 +35,7 @@ by_nothing zero fl fl' w some g n h = refl
 by_nothing (suc zero) fl fl' w some g n h = refl
 by_nothing (suc (suc k)) fl fl' w some g n h = absurd (omega arith)
 
-none_waits : (t : List ℕ) (k n : ℕ) → any_from (waits_for t) k n ≡ false → (j : ℕ) → k ≤ j → j < k + n → (node_in t j).kind ≤ 1
+none_waits : (t : List StepNode) (k n : ℕ) → any_from (waits_for t) k n ≡ false → (j : ℕ) → k ≤ j → j < k + n → (node_in t j).kind ≤ 1
 none_waits t k zero e j h l = absurd (omega arith)
 none_waits t k (suc n) e j h l = go (waits_for t k) refl e (dec_lt k j) (λ y d. none_waits t (suc k) n y j d (omega arith))
   where
@@ -49,25 +50,25 @@ chosen_ext p q k zero h = refl
 chosen_ext p q k (suc n) h =
     ap₂ (λ (b : Bool) (l : List ℕ). cond b (k ∷ l) l) (h k (omega arith) (omega arith)) (chosen_ext p q (suc k) n (λ j a b. h j (omega arith) (omega arith)))
 
-pub nobody_waits : (t : List ℕ) (n : ℕ) (fl fl' : List Bool) (held queued : List ℕ) → any_waiter t n ≡ false →
+pub nobody_waits : (t : List StepNode) (n : ℕ) (fl fl' : List Bool) (held queued : List ℕ) → any_waiter t n ≡ false →
     chosen_from (node_may t fl held queued) 0 n ≡ chosen_from (node_may t fl' held queued) 0 n
 nobody_waits t n fl fl' held queued e =
     chosen_ext (node_may t fl held queued) (node_may t fl' held queued) 0 n
     (λ j a b. by_nothing (node_in t j).kind fl fl' (held_at held) (ltb 0 (get_or queued j 0)) (node_in t j).inp (node_in t j).inps (none_waits t 0 n e j a b))
 
 -- The flags fl' tell who can move, as the open streams do
-pub record Serves (t : List ℕ) (n : ℕ) (fl : List Bool) (held : List ℕ) (fl' : List Bool) : Type 0 where
+pub record Serves (t : List StepNode) (n : ℕ) (fl : List Bool) (held : List ℕ) (fl' : List Bool) : Type 0 where
   pub long : length fl' ≡ length fl
   pub tells : (queued : List ℕ) → chosen_from (node_may t fl' held queued) 0 n ≡ movable t n fl held queued
 
-pub serves_filled : (t : List ℕ) (n : ℕ) (fl : List Bool) (held : List ℕ) (fl' : List Bool) → length fl' ≡ length fl → fl' ≡ opened t n fl held →
+pub serves_filled : (t : List StepNode) (n : ℕ) (fl : List Bool) (held : List ℕ) (fl' : List Bool) → length fl' ≡ length fl → fl' ≡ opened t n fl held →
     Serves t n fl held fl'
 serves_filled t n fl held fl' l e = record { long = l; tells = λ queued. ap (λ (x : List Bool). chosen_from (node_may t x held queued) 0 n) e }
 
-pub serves_idle : (t : List ℕ) (n : ℕ) (fl : List Bool) (held : List ℕ) (w : Bool) → w ≡ any_waiter t n → w ≡ false → Serves t n fl held fl
+pub serves_idle : (t : List StepNode) (n : ℕ) (fl : List Bool) (held : List ℕ) (w : Bool) → w ≡ any_waiter t n → w ≡ false → Serves t n fl held fl
 serves_idle t n fl held w e f = record { long = refl; tells = λ queued. nobody_waits t n fl (opened t n fl held) held queued (sym e ∙ f) }
 
-pub serves_count : (t : List ℕ) (n : ℕ) (fl : List Bool) (held : List ℕ) (fl' : List Bool) (queued bytes : List ℕ) (i k v j next : ℕ) → Serves t n fl held fl' →
+pub serves_count : (t : List StepNode) (n : ℕ) (fl : List Bool) (held : List ℕ) (fl' : List Bool) (queued bytes : List ℕ) (i k v j next : ℕ) → Serves t n fl held fl' →
     k ≡ length (chosen_from (node_may t fl' held queued) 0 n) → (v ≡ drawn_value bytes i k) × (next ≡ drawn_next i k) →
     j ≡ get_or (chosen_from (node_may t fl' held queued) 0 n) v 0 →
     (k ≡ length (movable t n fl held queued)) × (j ≡ get_or (movable t n fl held queued) (drawn_value bytes i k) 0) × (next ≡ drawn_next i k) × (length fl' ≡ length fl)
@@ -118,12 +119,11 @@ outgoes (scattered m) s n k bytes i value next f h p e =
       takes = ap (drawn_next i) l ∙ sym e.next_is;
     }
 
--- ---- the test of the loop over the nodes
-pub waiter_is : (t : List ℕ) (j : ℕ) → 1 < get_or t (7 * j) 0 → true ≡ waits_for t (0 + j)
-waiter_is t j h = let e : j ≡ 0 + j = omega arith in sym (lt-ltb 1 (get_or t (7 * j) 0) h) ∙ ap (waits_for t) e
-
-pub waiter_not : (t : List ℕ) (j : ℕ) → get_or t (7 * j) 0 ≤ 1 → false ≡ waits_for t (0 + j)
-waiter_not t j h = let e : j ≡ 0 + j = omega arith in sym (le-ltb 1 (get_or t (7 * j) 0) h) ∙ ap (waits_for t) e
+-- ---- the test of the loop over the first n nodes
+pub waiter_here : (t : List StepNode) (n j : ℕ) (w : Bool) → j < n → w ≡ ltb 1 (number_of (get_or (take n t) j no_node).manner) → w ≡ waits_for t (0 + j)
+waiter_here t n j w h e =
+    let z : j ≡ 0 + j = omega arith in
+    e ∙ ap (λ x. ltb 1 (number_of x.manner)) (get_or-take n t j no_node h) ∙ ap (waits_for t) z
 
 pub sent_drawn : (b : Bool) (stream outs : ℕ) (bytes : List ℕ) (i value next : ℕ) → b ≡ false → (value ≡ drawn_value bytes i outs) × (next ≡ drawn_next i outs) →
     SentTo b stream outs bytes i value next

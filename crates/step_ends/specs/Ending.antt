@@ -1,11 +1,11 @@
 -- The end of a step: what is asked of the tree that it left, and what the count and the tidying leave.
-use Rattle.std.specs.Prelude.{◌≡◌, List, ℕ, ◌+◌, ◌*◌, ◌-◌, ◌≤◌, ◌<◌, length}
+use Rattle.std.specs.Prelude.{◌≡◌, List, ℕ, ◌+◌, ◌*◌, ◌-◌, ◌≤◌, ◌<◌, Result, Ok, Err, length}
 use Rattle.walks.specs.Marks.{size_t}
 use Rattle.arena.specs.Arena.{slot_size}
 use Rattle.arena.specs.declared.At.{At}
 use Rattle.plan_context.specs.View.{tree_of, Arena}
 use Rattle.step_ends.specs.declared.Walked.{Walked}
-use Rattle.step_ends.specs.declared.Walked.TheVariants.{Done, Stopped}
+use Rattle.step_ends.specs.declared.Stop.{Stop}
 use Rattle.step_ends.specs.declared.Stop.TheVariants.{TooManyNodes, NoRoom}
 use Rattle.step_ends.specs.Tidying.{tidy_from, Tidied}
 
@@ -23,8 +23,8 @@ pub record Ending (m : List ℕ) (v : ℕ) (s : At) (n before : ℕ) (c : List �
 abbrev pub after : List ℕ → At → ℕ → ℕ → ℕ
 after m s n before = (n + size_t (tree_of m s.root)) - before
 
-abbrev pub Ended : Walked → List ℕ → ℕ → At → ℕ → ℕ → List ℕ → Type 0
-Ended (Done used root count) m v s n before m' = (count ≡ after m s n before) × (count ≤ 126)
-    × Tidied m v m' (record { used = used; root = root }) (tree_of m s.root)
-Ended (Stopped TooManyNodes) m v s n before m' = 126 < after m s n before
-Ended (Stopped NoRoom) m v s n before m' = ⊥
+abbrev pub Ended : Result Walked Stop → List ℕ → ℕ → At → ℕ → ℕ → List ℕ → Type 0
+Ended (Ok w) m v s n before m' = (w.total ≡ after m s n before) × (w.total ≤ 126)
+    × Tidied m v m' (record { used = w.used; root = w.root }) (tree_of m s.root)
+Ended (Err TooManyNodes) m v s n before m' = 126 < after m s n before
+Ended (Err NoRoom) m v s n before m' = ⊥

@@ -17,11 +17,12 @@ pub enum Stop {
     NoRoom,
 }
 
-// What the walk of a subtree answers: the slots used, the handle of the new tree, and the nodes of the whole plan.
+// What the walk of a subtree leaves: the slots used, the handle of the new tree, and the nodes of the whole plan.
 #[derive(Clone, Copy)]
-pub enum Walked {
-    Done(usize, usize, usize),
-    Stopped(Stop),
+pub struct Walked {
+    pub used: usize,
+    pub root: usize,
+    pub total: usize,
 }
 
 // A subtree that used more slots than this is always copied together after its walk.
@@ -54,15 +55,26 @@ fn tidied(m: &mut [u8], v: usize, s: At, k: usize, c: &mut [u8]) -> At
 }
 
 // The step at a node has left the tree of s; before it that tree had so many nodes, the whole plan n. Slots from v on are of this subtree.
-pub fn end_step(m: &mut [u8], v: usize, s: At, n: usize, before: usize, c: &mut [u8]) -> Walked
+pub fn end_step(
+    m: &mut [u8],
+    v: usize,
+    s: At,
+    n: usize,
+    before: usize,
+    c: &mut [u8],
+) -> Result<Walked, Stop>
     requires { Ending m.old v s n before c.old }
     ensures { Ended result m.old v s n before m.new }
 {
     let k = nodes(m, s.root);
     let total = n + k - before;
     if 126 < total {
-        return Walked::Stopped(Stop::TooManyNodes);
+        return Err(Stop::TooManyNodes);
     }
     let z = tidied(m, v, s, k, c);
-    Walked::Done(z.used, z.root, total)
+    Ok(Walked {
+        used: z.used,
+        root: z.root,
+        total: total,
+    })
 }

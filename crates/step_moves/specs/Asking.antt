@@ -5,8 +5,9 @@ use Rattle.plan.specs.Forest.{size}
 use Rattle.semantics.specs.Facts.{facts}
 use Rattle.stepping.specs.Moves.{manner, way, moves}
 use Rattle.plan_context.specs.View.{Arena}
-use Rattle.step_tables.specs.Places.{kind_of, is_straight, total, inner}
+use Rattle.step_tables.specs.Places.{kind_of, is_straight, total, inner, Node}
 use Rattle.step_tables.specs.Passes.{node_in, Laid, held_at}
+use Rattle.step_tables.specs.declared.StepNode.{StepNode}
 use Rattle.step_tables.specs.Found.{Known}
 use Rattle.step_tables.specs.Rows.{row_in, Room}
 use Rattle.step_tables.specs.Complete.{Complete}
@@ -23,8 +24,6 @@ use Rattle.step_nodes.specs.Laying.{op_in, below_in}
 use Rattle.step_choices.specs.Choosing.{any_waiter, movable, SentTo, Outgoes, outgoes}
 use Rattle.row_moves.specs.Picking.{Picks}
 use Rattle.row_moves.specs.Carrying.{Carries, Carried}
-use Rattle.step_moves.specs.declared.Seat.{Seat}
-use Rattle.step_moves.specs.Seats.{SeatIs}
 use Rattle.step_moves.specs.Running.{Book, tables_of, Seated, Running}
 use Rattle.step_moves.specs.Movers.{Next, next_is, movers_are, waits}
 use Rattle.step_moves.specs.Stepping.{Ready, Goes, outs_some, goes as step_goes}
@@ -36,7 +35,7 @@ next_few b n = go (leb n 1)
     go true = omega arith
     go false = omega arith
 
-module _ (m : List ℕ) (u : ℕ) (slots nodes : List ℕ) (n gone : ℕ) (waiter : Bool) (b len : ℕ) (B : Book) (Y : Ready m u slots nodes n gone waiter b len B) where
+module _ (m : List ℕ) (u : ℕ) (slots : List ℕ) (nodes : List StepNode) (n gone : ℕ) (waiter : Bool) (b len : ℕ) (B : Book) (Y : Ready m u slots nodes n gone waiter b len B) where
   pub asks_operator : Laid nodes n len × (length B.held ≡ len) × (n ≤ length B.queued) × (waiter ≡ any_waiter nodes n) × (b < 1000000000)
   asks_operator =
       let S = Y.seated in
@@ -56,44 +55,50 @@ module _ (m : List ℕ) (u : ℕ) (slots nodes : List ℕ) (n gone : ℕ) (waite
         (mv-is ∙ ap (λ (k : ℕ). length (movable nodes k fl B.held B.queued)) Y.nodes_are) some
         (j-is ∙ ap (λ (k : ℕ). get_or (movable nodes k fl B.held B.queued) (drawn_value bytes b mv) 0) Y.nodes_are)
 
-    pub asks_seat : (j < n) × (n ≤ length slots) × (7 * n ≤ length nodes)
+    pub asks_seat : (j < n) × (n ≤ length slots) × (n ≤ length nodes)
     asks_seat =
         let l = laid nodes (size Y.plan) Y.plan len Y.seated.formed Y.seated.listed (omega (arith, Y.seated.past)) Y.seated.few in
         (omega (arith, the_next.below, Y.nodes_are), omega (arith, Y.seated.slotted.room, Y.nodes_are), omega (arith, l.entries, Y.nodes_are))
 
-    module _ (b₁ : ℕ) (b₁_is : b₁ ≡ drawn_next b mv) (s : Seat) (slot_is : s.slot ≡ get_or slots j 0) (is : SeatIs (node_in nodes j) s) where
+    module _ (b₁ : ℕ) (b₁_is : b₁ ≡ drawn_next b mv) where
+      abbrev s : Node
+      s = node_in nodes j
+
+      abbrev slot : ℕ
+      slot = get_or slots j 0
+
       N : Next m u slots nodes Y.plan B Y.state fl bytes b j
       N = the_next
 
-      op_is : op_in m s.slot ≡ the_next.ch.spot.op
-      op_is = ap (op_in m) slot_is ∙ the_next.slot.op
+      op_is : op_in m slot ≡ the_next.ch.spot.op
+      op_is = the_next.slot.op
 
-      kids_are : below_in m s.slot ≡ the_next.ch.spot.kids
-      kids_are = ap (below_in m) slot_is ∙ the_next.slot.below
+      kids_are : below_in m slot ≡ the_next.ch.spot.kids
+      kids_are = the_next.slot.below
 
       inp_is : s.inp ≡ the_next.ch.spot.inp
-      inp_is = is.inp ∙ ap (λ x. x.inp) the_next.row
+      inp_is = ap (λ x. x.inp) the_next.row
 
       inps_is : s.inps ≡ ins_of the_next.ch.spot
-      inps_is = is.inps ∙ ap (λ x. x.inps) the_next.row
+      inps_is = ap (λ x. x.inps) the_next.row
 
       rg : Range 0 (total (facts Y.plan)) Y.plan the_next.ch.spot
       rg = range the_next.ch.stands (omega arith)
 
-      pub asks_pick : (Arena m u × (s.slot < u) × (s.kind ≡ kind_of (manner (op_in m s.slot) (facts (below_in m s.slot)))) × (0 < s.kind)
-          × (s.straight ≡ is_straight (way (op_in m s.slot))))
+      pub asks_pick : (Arena m u × (slot < u) × (s.kind ≡ kind_of (manner (op_in m slot) (facts (below_in m slot)))) × (0 < s.kind)
+          × (s.straight_on ≡ is_straight (way (op_in m slot))))
           × ((Known B.order (length B.places) × Complete B.order (length B.places) × Room (length B.places) B.cells B.nulls B.widths
           × Tells B.held B.places B.order)
           × ((s.inp + s.inps ≤ length B.held) × (length B.held < 1000000000) × (b₁ < 1000000000) × (any_from (waits_at B.places B.order) s.inp s.inps ≡ true)))
       asks_pick =
           let R = Y.running in
-          let k = is.kind ∙ ap (λ x. x.kind) the_next.row in (
+          let k = ap (λ x. x.kind) the_next.row in (
             (
               Y.seated.arena,
-              subst (λ (x : ℕ). x < u) (sym slot_is) the_next.slot.there,
+              the_next.slot.there,
               k ∙ sym (ap₂ (λ o c. kind_of (manner o (facts c))) op_is kids_are),
               omega (arith, k, the_next.can_move.not-still),
-              is.straight ∙ ap (λ x. x.straight_on) the_next.row ∙ sym (ap (λ o. is_straight (way o)) op_is),
+              ap (λ x. x.straight_on) the_next.row ∙ sym (ap (λ o. is_straight (way o)) op_is),
             ),
             (
               (
@@ -112,7 +117,7 @@ module _ (m : List ℕ) (u : ℕ) (slots nodes : List ℕ) (n gone : ℕ) (waite
           )
 
       -- as the node that stands there has it
-      pub picks_there : (k i b₂ : ℕ) → Picks (manner (op_in m s.slot) (facts (below_in m s.slot))) (row_in B.cells B.nulls B.widths) B.places B.order s.inp
+      pub picks_there : (k i b₂ : ℕ) → Picks (manner (op_in m slot) (facts (below_in m slot))) (row_in B.cells B.nulls B.widths) B.places B.order s.inp
           s.inps bytes b₁ k i b₂ →
           Picks (manner the_next.ch.spot.op (facts the_next.ch.spot.kids)) (row_in B.cells B.nulls B.widths) B.places B.order the_next.ch.spot.inp
           (ins_of the_next.ch.spot) bytes b₁ k i b₂
@@ -130,14 +135,14 @@ module _ (m : List ℕ) (u : ℕ) (slots nodes : List ℕ) (n gone : ℕ) (waite
             the_next.ch.spot.inp (ins_of the_next.ch.spot)) in
             omega (arith, P.takes, next_few b₁ C, b₁_is, next_few b mv, Y.few_bytes)
 
-        module _ (v b₃ : ℕ) (O : SentTo s.straight k s.outs bytes b₂ v b₃) where
+        module _ (v b₃ : ℕ) (O : SentTo s.straight_on k s.outs bytes b₂ v b₃) where
           pub sent_there : SentTo (is_straight (way the_next.ch.spot.op)) k (outs_of the_next.ch.spot) bytes b₂ v b₃
           sent_there =
-              subst (λ (t : Bool). SentTo t k (outs_of the_next.ch.spot) bytes b₂ v b₃) (is.straight ∙ ap (λ x. x.straight_on) the_next.row)
-              (subst (λ (x : ℕ). SentTo s.straight k x bytes b₂ v b₃) (is.outs ∙ ap (λ x. x.outs) the_next.row) O)
+              subst (λ (t : Bool). SentTo t k (outs_of the_next.ch.spot) bytes b₂ v b₃) (ap (λ x. x.straight_on) the_next.row)
+              (subst (λ (x : ℕ). SentTo s.straight_on k x bytes b₂ v b₃) (ap (λ x. x.outs) the_next.row) O)
 
           out_is : s.out ≡ the_next.ch.spot.out
-          out_is = is.out ∙ ap (λ x. x.out) the_next.row
+          out_is = ap (λ x. x.out) the_next.row
 
           goes : Outgoes (way the_next.ch.spot.op) (outs_of the_next.ch.spot) k bytes b₂ v b₃
           goes =
@@ -170,7 +175,7 @@ module _ (m : List ℕ) (u : ℕ) (slots nodes : List ℕ) (n gone : ℕ) (waite
 
           -- ---- and the step is the definition's
           pub steps : (B' : Book) (kept : Bool) (q : ℕ) → q ≡ s.out + v →
-              Carried (op_in m s.slot) i q gone B.cells B.nulls B.widths B.places B.order B.counts B.held
+              Carried (op_in m slot) i q gone B.cells B.nulls B.widths B.places B.order B.counts B.held
               B'.cells B'.nulls B'.widths B'.places B'.order B'.counts B'.held kept →
               B'.queued ≡ requeued j s.above kept B.queued → Goes Y.plan nodes len Y.done B' Y.state bytes b b₃
           steps B' kept q e C Q =
@@ -182,19 +187,18 @@ module _ (m : List ℕ) (u : ℕ) (slots nodes : List ℕ) (n gone : ℕ) (waite
               B'.cells B'.nulls B'.widths B'.places B'.order B'.counts B'.held kept) (e ∙ ap (λ (x : ℕ). x + v) out_is)
               (subst (λ o. Carried o i q gone B.cells B.nulls B.widths B.places B.order B.counts B.held
               B'.cells B'.nulls B'.widths B'.places B'.order B'.counts B'.held kept) op_is C))
-              (Q ∙ ap (λ (x : ℕ). requeued j x kept B.queued) is.above)
+              Q
 
       pub asks_requeue : (j < length B.queued) × (s.above < length B.queued) × (0 < get_or B.queued j 0) × (get_or B.queued s.above 0 < 1000000000)
       asks_requeue =
           let R = Y.running in
           let S = Y.seated in
           let a = above_few nodes (size Y.plan) Y.plan S.listed (omega arith) j the_next.below in
-          let q = above_queued nodes (size Y.plan) Y.plan S.listed (omega arith) B.queued B.places R.queued_are R.ends j the_next.below in
-          let e = ap (λ (x : ℕ). get_or B.queued x 0) is.above in (
+          let q = above_queued nodes (size Y.plan) Y.plan S.listed (omega arith) B.queued B.places R.queued_are R.ends j the_next.below in (
             omega (arith, the_next.below, R.queued_long),
-            omega (arith, is.above, a, R.queued_long),
+            omega (arith, a, R.queued_long),
             ltb-true 0 (get_or B.queued j 0)
                 (sym (queued_some nodes (size Y.plan) B.queued B.places B.order R.queued_are R.complete R.known j the_next.below)
                 ∙ ap₂ (any_from (waits_at B.places B.order)) (ap (λ x. x.inp) the_next.row) (ap (λ x. x.inps) the_next.row) ∙ the_next.can_move.has),
-            omega (arith, e, q, R.few_rows),
+            omega (arith, q, R.few_rows),
           )

@@ -1,6 +1,5 @@
 pub mod Running
 pub mod Movers
 pub mod Stepping
-pub mod Seats
 pub mod Asking
 pub mod Runs

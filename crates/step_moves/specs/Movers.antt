@@ -16,6 +16,7 @@ use Rattle.step_tables.specs.Choosing.{waits_at, served_at, any_from, all_from, 
 use Rattle.step_tables.specs.Opened.{Opened, fill_all, all_open}
 use Rattle.step_tables.specs.Movers.{may_move, may_move_lem, movers}
 use Rattle.step_tables.specs.Passes.{node_in, held_at, node_may}
+use Rattle.step_tables.specs.declared.StepNode.{StepNode}
 use Rattle.step_tables.specs.Draws.{drawn_value}
 use Rattle.step_tables.proofs.Spots.{Spot, Stands, stands_here, stands_below, stands_beside, choices_of, can, numbers_from, can-moves, Chosen, nth}
 use Rattle.step_tables.proofs.Standing.{outs_of, ins_of, spot_shows, spot_opened, can-movers, numbers_chosen}
@@ -99,7 +100,7 @@ may_has (merging ks) fl w some g n e = record { not-still = omega arith; has = a
 may_has (sorting p ks) fl w some g n e = record { not-still = omega arith; has = and_last (not (any_from (λ x. get_or fl x false) g n)) some e }
 
 -- ---- the node that moves next
-pub record Next (m : List ℕ) (u : ℕ) (slots nodes : List ℕ) (f : Plan) (B : Book) (st : Forest Outlet) (fl : List Bool) (bytes : List ℕ) (b j : ℕ) : Type 0 where
+pub record Next (m : List ℕ) (u : ℕ) (slots : List ℕ) (nodes : List StepNode) (f : Plan) (B : Book) (st : Forest Outlet) (fl : List Bool) (bytes : List ℕ) (b j : ℕ) : Type 0 where
   pub ch : Chosen (size f) 0 0 (total (facts f)) f st (drawn_value bytes b (length (moves f st)))
   pub number : ch.spot.number ≡ j
   pub below : j < size f
@@ -108,7 +109,7 @@ pub record Next (m : List ℕ) (u : ℕ) (slots nodes : List ℕ) (f : Plan) (B 
   pub opens : Opened (opened nodes (size f) fl B.held) 0 (total (facts f)) f st
   pub can_move : Moves (manner ch.spot.op (facts ch.spot.kids)) (any_from (waits_at B.places B.order) ch.spot.inp (ins_of ch.spot))
 
-module _ (m : List ℕ) (u : ℕ) (slots nodes : List ℕ) (f : Plan) (len done : ℕ) (B : Book) (st : Forest Outlet) (fl : List Bool)
+module _ (m : List ℕ) (u : ℕ) (slots : List ℕ) (nodes : List StepNode) (f : Plan) (len done : ℕ) (B : Book) (st : Forest Outlet) (fl : List Bool)
     (S : Seated m u slots nodes f len) (R : Running f nodes len done B st) (long : length fl ≡ len) where
   pub waits : waits_at B.places B.order ≡ held_at B.held
   waits = held_waits B.places B.order R.complete R.known B.held R.held_are

@@ -7,6 +7,7 @@ use Rattle.stepping.specs.Outlets.{Outlet}
 use Rattle.stepping.proofs.Theorems.Formed.{Steppable}
 use Rattle.step_tables.specs.Places.{total, inner, nodes_at, Tables, Shows, Once}
 use Rattle.step_tables.specs.Passes.{Listed}
+use Rattle.step_tables.specs.declared.StepNode.{StepNode}
 use Rattle.step_tables.specs.Found.{Known}
 use Rattle.step_tables.specs.Rows.{row_in, Room}
 use Rattle.step_tables.specs.Complete.{Complete}
@@ -32,7 +33,7 @@ abbrev pub tables_of : Book → Tables
 tables_of B = record { rows = row_in B.cells B.nulls B.widths; places = B.places; order = B.order; counts = B.counts }
 
 -- The plan f stands in the arena and in the table of nodes; len: the length of the tables by place, in which the last is for rows that were cut
-pub record Seated (m : List ℕ) (u : ℕ) (slots nodes : List ℕ) (f : Plan) (len : ℕ) : Type 0 where
+pub record Seated (m : List ℕ) (u : ℕ) (slots : List ℕ) (nodes : List StepNode) (f : Plan) (len : ℕ) : Type 0 where
   pub arena : Arena m u
   pub slotted : Slotted m u slots f
   pub listed : Listed nodes (nodes_at (size f) 0 0 (total (facts f)) f)
@@ -41,7 +42,7 @@ pub record Seated (m : List ℕ) (u : ℕ) (slots nodes : List ℕ) (f : Plan) (
   pub few : len < 1000000000
 
 -- The tables hold the state st; done: how many steps were made at most
-pub record Running (f : Plan) (nodes : List ℕ) (len done : ℕ) (B : Book) (st : Forest Outlet) : Type 0 where
+pub record Running (f : Plan) (nodes : List StepNode) (len done : ℕ) (B : Book) (st : Forest Outlet) : Type 0 where
   pub shows : Shows (tables_of B) 0 0 (total (facts f)) f st
   pub once : Once B.order
   pub known : Known B.order (length B.places)

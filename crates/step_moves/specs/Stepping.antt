@@ -1,5 +1,5 @@
 -- A step of the code is a step of the definition. Assumes nothing.
-use Rattle.std.specs.Prelude.{◌≡◌, refl, Bool, true, false, cond, List, [], ◌∷◌, ℕ, zero, suc, ◌+◌, ◌<◌, ◌≤◌, length, get_or, set}
+use Rattle.std.specs.Prelude.{◌≡◌, refl, Bool, true, false, cond, List, [], ◌∷◌, ℕ, zero, suc, ◌+◌, ◌<◌, ◌≤◌, length, get_or, set, Option, Some, None}
 use Rattle.std.proofs.Common.{sym, ap, ap₂, ◌∙◌, subst, arith, length-set, get_or-set_same, get_or-set_other}
 use Rattle.std.proofs.Math.Decide.{ℕ_discrete}
 use Rattle.row_order.specs.Iso.{Row}
@@ -19,6 +19,7 @@ use Rattle.step_tables.specs.Found.{Known}
 use Rattle.step_tables.specs.Rows.{row_in, Room}
 use Rattle.step_tables.specs.Opened.{Fits, way_fits}
 use Rattle.step_tables.specs.Passes.{node_in}
+use Rattle.step_tables.specs.declared.StepNode.{StepNode}
 use Rattle.step_tables.specs.Draws.{drawn_value, drawn_next}
 use Rattle.step_tables.proofs.ChosenMoves.{drawn_below}
 use Rattle.step_tables.proofs.Spots.{Spot, choices_of, Chosen}
@@ -36,20 +37,20 @@ use Rattle.row_moves.specs.Picking.{Picks}
 use Rattle.row_moves.specs.Carrying.{Carried, ShownAs}
 
 -- What `step` leaves
-pub record Goes (f : Plan) (nodes : List ℕ) (len done : ℕ) (B' : Book) (st : Forest Outlet) (bytes : List ℕ) (b next : ℕ) : Type 0 where
+pub record Goes (f : Plan) (nodes : List StepNode) (len done : ℕ) (B' : Book) (st : Forest Outlet) (bytes : List ℕ) (b next : ℕ) : Type 0 where
   pub runs : Running f nodes len (suc done) B' (chosen bytes b st (moves f st)).value
   pub takes : (chosen bytes b st (moves f st)).next ≡ next
 
-pub record Rests (f : Plan) (nodes : List ℕ) (len done : ℕ) (B' : Book) (st : Forest Outlet) : Type 0 where
+pub record Rests (f : Plan) (nodes : List StepNode) (len done : ℕ) (B' : Book) (st : Forest Outlet) : Type 0 where
   pub runs : Running f nodes len done B' st
   pub stuck : moves f st ≡ []
 
-abbrev pub StepsTo : Plan → List ℕ → ℕ → ℕ → Book → Forest Outlet → List ℕ → ℕ → Bool → ℕ → Type 0
-StepsTo f nodes len done B' st bytes b true next = Goes f nodes len done B' st bytes b next
-StepsTo f nodes len done B' st bytes b false next = Rests f nodes len done B' st
+abbrev pub StepsTo : Plan → List StepNode → ℕ → ℕ → Book → Forest Outlet → List ℕ → ℕ → Option ℕ → Type 0
+StepsTo f nodes len done B' st bytes b (Some next) = Goes f nodes len done B' st bytes b next
+StepsTo f nodes len done B' st bytes b None = Rests f nodes len done B' st
 
 -- What `step` asks: some plan f stands there, and the tables hold a state of its stepping
-pub record Ready (m : List ℕ) (u : ℕ) (slots nodes : List ℕ) (n gone : ℕ) (waiter : Bool) (b len : ℕ) (B : Book) : Type 0 where
+pub record Ready (m : List ℕ) (u : ℕ) (slots : List ℕ) (nodes : List StepNode) (n gone : ℕ) (waiter : Bool) (b len : ℕ) (B : Book) : Type 0 where
   pub plan : Plan
   pub done : ℕ
   pub state : Forest Outlet
@@ -62,10 +63,10 @@ pub record Ready (m : List ℕ) (u : ℕ) (slots nodes : List ℕ) (n gone : ℕ
   pub waits_are : waiter ≡ any_waiter nodes n
 
 -- and what it leaves, of every such plan and state
-abbrev pub StepsOn : List ℕ → ℕ → List ℕ → List ℕ → ℕ → ℕ → ℕ → Book → Book → List ℕ → ℕ → Bool → ℕ → Type 0
-StepsOn m u slots nodes n gone len B B' bytes b moved next =
+abbrev pub StepsOn : List ℕ → ℕ → List ℕ → List StepNode → ℕ → ℕ → ℕ → Book → Book → List ℕ → ℕ → Option ℕ → Type 0
+StepsOn m u slots nodes n gone len B B' bytes b next =
     (f : Plan) (done : ℕ) (st : Forest Outlet) → Seated m u slots nodes f len → Running f nodes len done B st → n ≡ size f →
-    gone ≡ total (facts f) + inner f → done < 50000 → StepsTo f nodes len done B' st bytes b moved next
+    gone ≡ total (facts f) + inner f → done < 50000 → StepsTo f nodes len done B' st bytes b next
 
 -- counts are not looked at
 finds_any : (m : Manner) (rows : ℕ → Row) (places order c c' : List ℕ) (g n k i : ℕ) → Finds m (record { rows = rows; places = places; order = order; counts = c }) g n k i →
@@ -110,7 +111,7 @@ outs_some (partial_sort false ks n f) c h k l = omega arith
 outs_some (aggregate ks n) c h k l = absurd h
 
 -- ---- nothing can move
-pub rests : (m : List ℕ) (u : ℕ) (slots nodes : List ℕ) (f : Plan) (len done : ℕ) (B : Book) (st : Forest Outlet) (fl : List Bool) →
+pub rests : (m : List ℕ) (u : ℕ) (slots : List ℕ) (nodes : List StepNode) (f : Plan) (len done : ℕ) (B : Book) (st : Forest Outlet) (fl : List Bool) →
     Seated m u slots nodes f len → Running f nodes len done B st → length fl ≡ len → (mv : ℕ) →
     mv ≡ length (movable nodes (size f) fl B.held B.queued) → mv ≡ 0 → Rests f nodes len done B st
 rests m u slots nodes f len done B st fl S R long mv e z = record { runs = R; stuck = empty (moves f st) (sym (movers_are m u slots nodes f len done B st fl S R long) ∙ sym e ∙ z) }
@@ -120,7 +121,7 @@ rests m u slots nodes f len done B st fl S R long mv e z = record { runs = R; st
     empty (x ∷ l) h = absurd (omega arith)
 
 -- ---- one moves
-module _ (m : List ℕ) (u : ℕ) (slots nodes : List ℕ) (f : Plan) (len done : ℕ) (B B' : Book) (st : Forest Outlet) (fl : List Bool) (bytes : List ℕ) (b b₁ b₂ b₃ j k i v gone : ℕ)
+module _ (m : List ℕ) (u : ℕ) (slots : List ℕ) (nodes : List StepNode) (f : Plan) (len done : ℕ) (B B' : Book) (st : Forest Outlet) (fl : List Bool) (bytes : List ℕ) (b b₁ b₂ b₃ j k i v gone : ℕ)
     (kept : Bool) (S : Seated m u slots nodes f len) (R : Running f nodes len done B st) (N : Next m u slots nodes f B st fl bytes b j)
     (takes₁ : b₁ ≡ drawn_next b (length (moves f st)))
     (P : Picks (manner N.ch.spot.op (facts N.ch.spot.kids)) (row_in B.cells B.nulls B.widths) B.places B.order N.ch.spot.inp (ins_of N.ch.spot) bytes b₁ k i b₂)

@@ -10,7 +10,6 @@ use Rattle.semantics.specs.Facts.{Facts, nothing, facts, facts_op}
 use Rattle.walks.specs.Marks.{strip, known, op_t, fact, size_t}
 use Rattle.walks.proofs.Theorems.Common.Trees.{strip-size}
 use Rattle.plan_codec.specs.Decode.{decode}
-use Rattle.scan.specs.Parts.{splice}
 use Rattle.stepping.specs.Moves.{manner, way}
 use Rattle.record_fields.specs.Encoded.{code_byte}
 use Rattle.record_fields.specs.Proper.{Proper}
@@ -27,10 +26,12 @@ use Rattle.plan_context.specs.Records.{plan_t}
 use Rattle.plan_context.specs.Laws.{facts_at, length_facts}
 use Rattle.plan_context.specs.Nodes.{counts_of, Seen, seen}
 use Rattle.plan_context.specs.Facts.{ok_plan}
-use Rattle.step_tables.specs.Places.{total, inner, kind_of as number_of, is_straight, node_of}
-use Rattle.step_tables.specs.Passes.{node_in}
+use Rattle.step_tables.specs.Places.{total, inner, kind_of as kind_number, is_straight, node_of}
+use Rattle.step_tables.specs.Passes.{number_of, node_in}
+use Rattle.step_tables.specs.declared.StepNode.{StepNode}
+use Rattle.step_tables.specs.declared.StepManner.{StepManner}
 use Rattle.step_nodes.specs.Layout.{plan_in, Entry, entries, Along, Stands, TreeLaid, TreeLays, LaidOut}
-use Rattle.step_nodes.specs.Rows.{along_behind, along_map, less_front, stands_same, row_of, written, row_written, entry_count, entries_split, lists, slots_are}
+use Rattle.step_nodes.specs.Rows.{along_behind, along_map, less_front, stands_same, manner_at, manner_back, row_of, written, row_written, entry_count, entries_split, lists, slots_are}
 use Rattle.step_nodes.specs.FewPlaces.{few_places}
 use Rattle.step_nodes.specs.declared.Next.{Next}
 
@@ -111,18 +112,18 @@ summed_all fs k s h q = let e : k ≡ 0 = omega arith in q.is ∙ ap (λ n. tota
 -- ---- the loop over the children
 
 -- The tree of o over c; its first children are done, those of q are left. t, s: the tables when the loop starts
-pub record Going (m : List ℕ) (u : ℕ) (t s : List ℕ) (p n a b : ℕ) (o : Op) (c q : Plan) (t' s' : List ℕ) (next free out : ℕ) : Type 0 where
+pub record Going (m : List ℕ) (u : ℕ) (t : List StepNode) (s : List ℕ) (p n a b : ℕ) (o : Op) (c q : Plan) (t' : List StepNode) (s' : List ℕ) (next free out : ℕ) : Type 0 where
   pub count : next + size q ≡ suc n + size c
   pub places : free + inner q ≡ b + total (facts c) + inner c
   pub outs : out + total (facts q) ≡ b + total (facts c)
-  pub rows : take (7 * n) t' ≡ take (7 * n) t
+  pub rows : take n t' ≡ take n t
   pub slots : take n s' ≡ take n s
   pub done : List Entry
   pub long : n + length done ≡ next
   pub stand : Along (Stands m u t' s') n done
   pub whole : entries p n a b (tree o c none) ≡ done ++ entries n next out free q
 
-pub going-none : (m : List ℕ) (u : ℕ) (t s : List ℕ) (p n a b : ℕ) (o : Op) (c : Plan)
+pub going-none : (m : List ℕ) (u : ℕ) (t : List StepNode) (s : List ℕ) (p n a b : ℕ) (o : Op) (c : Plan)
     → Stands m u t s n (record { node = node_of p a b o c; plan = tree o c none })
     → Going m u t s p n a b o c c t s (n + 1) (b + total (facts c)) b
 going-none m u t s p n a b o c h =
@@ -140,14 +141,14 @@ going-none m u t s p n a b o c h =
           ∙ ap (λ j. entries n j b (b + total (facts c)) c) z);
     }
 
-module _ (m : List ℕ) (u : ℕ) (t s : List ℕ) (p n a b : ℕ) (o : Op) (c : Plan) (t' s' : List ℕ) (next free out : ℕ) where
+module _ (m : List ℕ) (u : ℕ) (t : List StepNode) (s : List ℕ) (p n a b : ℕ) (o : Op) (c : Plan) (t' : List StepNode) (s' : List ℕ) (next free out : ℕ) where
   -- one child more
   module _ (o' : Op) (c' q : Plan) (g : Going m u t s p n a b o c (tree o' c' q) t' s' next free out) where
-    pub going_asks : Arena m u → 7 * (suc n + size c) ≤ length t' → suc n + size c ≤ length s' → b + total (facts c) + inner c ≤ 1000000
+    pub going_asks : Arena m u → suc n + size c ≤ length t' → suc n + size c ≤ length s' → b + total (facts c) + inner c ≤ 1000000
         → TreeLays m u t' s' next free (tree o' c' none)
     going_asks x h k l = let y = g.count in let z = g.places in record { arena = x; table = omega arith; list = omega arith; few = omega arith }
 
-    pub going_next : (t'' s'' : List ℕ) (r : Next) (x : ℕ) → TreeLaid m u t' s' t'' s'' n next out free (tree o' c' none) r → x ≡ (facts_op o' (facts c')).streams
+    pub going_next : (t'' : List StepNode) (s'' : List ℕ) (r : Next) (x : ℕ) → TreeLaid m u t' s' t'' s'' n next out free (tree o' c' none) r → x ≡ (facts_op o' (facts c')).streams
         → Going m u t s p n a b o c q t'' s'' r.node r.place (out + x)
     going_next t'' s'' r x d e =
         let f = d.node in let w = d.place in let y = g.count in let z = g.places in let v = g.outs in
@@ -162,7 +163,7 @@ module _ (m : List ℕ) (u : ℕ) (t s : List ℕ) (p n a b : ℕ) (o : Op) (c :
           count = omega arith;
           places = omega arith;
           outs = omega arith;
-          rows = less_front (7 * n) (7 * next) t' t'' (omega arith) d.rows ∙ g.rows;
+          rows = less_front n next t' t'' (omega arith) d.rows ∙ g.rows;
           slots = less_front n next s' s'' l d.slots ∙ g.slots;
           done = g.done ++ mine;
           long = omega arith;
@@ -188,48 +189,47 @@ module _ (m : List ℕ) (u : ℕ) (t s : List ℕ) (p n a b : ℕ) (o : Op) (c :
 
 -- ---- in the arena
 
--- The row, as the code lends its part of the table
-pub node_put : (t : List ℕ) (n p a b : ℕ) (o : Op) (c : Plan) (k : ℕ) (q : Bool) (x y : ℕ) (d : List ℕ)
-    → d ≡ row_of (record { kind = k; straight_on = q; out = a; outs = x; inp = b; inps = y; above = p }) → k ≡ number_of (manner o (facts c))
+-- The row, as the code writes it
+pub node_put : (t : List StepNode) (n p a b : ℕ) (o : Op) (c : Plan) (k : StepManner) (q : Bool) (x y : ℕ) → number_of k ≡ kind_number (manner o (facts c))
     → q ≡ is_straight (way o) → x ≡ (facts_op o (facts c)).streams → y ≡ total (facts c)
-    → splice t (7 * n) (7 * n + 7 - 7 * n) d ≡ written t n (node_of p a b o c)
-node_put t n p a b o c k q x y d e f g h l =
-    let z : 7 * n + 7 - 7 * n ≡ 7 = omega arith in
-    let v : record { kind = k; straight_on = q; out = a; outs = x; inp = b; inps = y; above = p } ≡ node_of p a b o c =
-    λ i. record { kind = f i; straight_on = g i; out = a; outs = h i; inp = b; inps = l i; above = p } in
-    ap₂ (λ (w : ℕ) (r : List ℕ). splice t (7 * n) w r) z (e ∙ ap row_of v)
+    → set t n (record { manner = k; straight = q; out = a; outs = x; inp = b; inps = y; above = p }) ≡ written t n (node_of p a b o c)
+node_put t n p a b o c k q x y f g h l =
+    let e : k ≡ manner_at (kind_number (manner o (facts c))) = sym (manner_back k) ∙ ap manner_at f in
+    let v : record { manner = k; straight = q; out = a; outs = x; inp = b; inps = y; above = p } ≡ row_of (node_of p a b o c) =
+    λ i. record { manner = e i; straight = g i; out = a; outs = h i; inp = b; inps = l i; above = p } in
+    ap (set t n) v
 
 -- One row written and one slot: node n stands
-pub stands_first : (m : List ℕ) (u i : ℕ) (a : Arena m u) (l : i < u) (t s t' : List ℕ) (p n x b : ℕ)
-    → t' ≡ written t n (node_of p x b (op_in m i) (below_in m i)) → 7 * n + 7 ≤ length t → n < length s
+pub stands_first : (m : List ℕ) (u i : ℕ) (a : Arena m u) (l : i < u) (t : List StepNode) (s : List ℕ) (t' : List StepNode) (p n x b : ℕ)
+    → t' ≡ written t n (node_of p x b (op_in m i) (below_in m i)) → n < length t → n < length s
     → Stands m u t' (set s n i) n (record { node = node_of p x b (op_in m i) (below_in m i); plan = tree (op_in m i) (below_in m i) none })
 stands_first m u i a l t s t' p n x b e q k =
     let z = get_or-set_same s n i 0 k in
     record {
-      row = ap (λ r. node_in r n) e ∙ row_written t n (node_of p x b (op_in m i) (below_in m i)) q;
+      row = ap (λ r. node_in r n) e ∙ row_written t n p x b (op_in m i) (below_in m i) q;
       tree = ap (plan_in m) z ∙ plan_is m u i a l;
       there = subst (λ i. i < u) (sym z) (omega arith);
     }
 
 -- The children left, from number k on
-abbrev pub LayingKids : (m : List ℕ) (u i : ℕ) (t s : List ℕ) (p n a b k : ℕ) (t' s' : List ℕ) (next free out : ℕ) → Type 0
+abbrev pub LayingKids : (m : List ℕ) (u i : ℕ) (t : List StepNode) (s : List ℕ) (p n a b k : ℕ) (t' : List StepNode) (s' : List ℕ) (next free out : ℕ) → Type 0
 LayingKids m u i t s p n a b k t' s' next free out =
     Going m u t s p n a b (op_in m i) (below_in m i) (strip (forest m (drop k (slot m i).kids))) t' s' next free out
 
-module _ (m : List ℕ) (u i : ℕ) (d : Arena m u) (l : i < u) (t s : List ℕ) (p n a b : ℕ) (t₀ s₀ : List ℕ)
+module _ (m : List ℕ) (u i : ℕ) (d : Arena m u) (l : i < u) (t : List StepNode) (s : List ℕ) (p n a b : ℕ) (t₀ : List StepNode) (s₀ : List ℕ)
     (w : TreeLays m u t₀ s₀ n b (plan_in m i)) where
   abbrev c : Plan
   c = below_in m i
 
   -- its bounds, over the node and its children
-  pub room_is : (7 * (suc n + size (below_in m i)) ≤ length t₀) × (suc n + size (below_in m i) ≤ length s₀)
+  pub room_is : (suc n + size (below_in m i) ≤ length t₀) × (suc n + size (below_in m i) ≤ length s₀)
       × (b + total (facts (below_in m i)) + inner (below_in m i) ≤ 1000000)
   room_is =
       let e = ap size (plan_is m u i d l) in let f = ap inner (plan_is m u i d l) in
       let x = w.table in let y = w.list in let z = w.few in
       (omega arith, omega arith, omega arith)
 
-  module _ (k : ℕ) (q : k < length (slot m i).kids) (j : ℕ) (e : j ≡ get_or (slot m i).kids k 0) (t' s' : List ℕ) (next free out : ℕ)
+  module _ (k : ℕ) (q : k < length (slot m i).kids) (j : ℕ) (e : j ≡ get_or (slot m i).kids k 0) (t' : List StepNode) (s' : List ℕ) (next free out : ℕ)
       (g : LayingKids m u i t s p n a b k t' s' next free out) where
     abbrev o' : Op
     o' = op_t (tree_of m j)
@@ -255,14 +255,14 @@ module _ (m : List ℕ) (u i : ℕ) (d : Arena m u) (l : i < u) (t s : List ℕ)
     pub kid_adds : (x : ℕ) → x ≡ (fact (tree_of m j)).streams → out + x ≤ 1000000
     kid_adds x f = let y = going.outs in let z = room_is.2 in omega arith
 
-    pub kid_next : (t'' s'' : List ℕ) (r : Next) (x : ℕ) → TreeLaid m u t' s' t'' s'' n next out free (plan_in m (index j)) r → x ≡ (fact (tree_of m j)).streams
+    pub kid_next : (t'' : List StepNode) (s'' : List ℕ) (r : Next) (x : ℕ) → TreeLaid m u t' s' t'' s'' n next out free (plan_in m (index j)) r → x ≡ (fact (tree_of m j)).streams
         → LayingKids m u i t s p n a b (k + 1) t'' s'' r.node r.place (out + x)
     kid_next t'' s'' r x y f = subst (λ z. LayingKids m u i t s p n a b z t'' s'' r.node r.place (out + x)) (sym (add-one k))
         (going_next m u t s p n a b (op_in m i) c t' s' next free out o' c' rest going t'' s'' r x y f)
 
   -- t₁, s₁: the tables before the node was put
-  pub kids_all : (k : ℕ) (t' s' : List ℕ) (next free out : ℕ) → length (slot m i).kids ≤ k → LayingKids m u i t s p n a b k t' s' next free out
-      → (t₁ s₁ : List ℕ) → take (7 * n) t ≡ take (7 * n) t₁ → take n s ≡ take n s₁
+  pub kids_all : (k : ℕ) (t' : List StepNode) (s' : List ℕ) (next free out : ℕ) → length (slot m i).kids ≤ k → LayingKids m u i t s p n a b k t' s' next free out
+      → (t₁ : List StepNode) (s₁ : List ℕ) → take n t ≡ take n t₁ → take n s ≡ take n s₁
       → TreeLaid m u t₁ s₁ t' s' p n a b (plan_in m i) (record { node = next; place = free })
   unfolding forest
   kids_all k t' s' next free out q g t₁ s₁ x y =
@@ -284,12 +284,12 @@ module _ (m : List ℕ) (u h : ℕ) (d : Arena m u) (l : h < 2 * u) (w : size_t 
   places-few : total (facts (plan_t (tree_of m h))) + inner (plan_t (tree_of m h)) ≤ 258048
   places-few = few_places f (ok_plan (tree_in m (index h)) (d.all (index h) (omega arith)).proper.ok) (let x = plan_size in omega arith)
 
-  pub whole_asks : (t s : List ℕ) (x : ℕ) → 882 ≤ length t → 126 ≤ length s → x ≡ (fact (tree_of m h)).streams → TreeLays m u t s 0 x (plan_in m (index h))
+  pub whole_asks : (t : List StepNode) (s : List ℕ) (x : ℕ) → 126 ≤ length t → 126 ≤ length s → x ≡ (fact (tree_of m h)).streams → TreeLays m u t s 0 x (plan_in m (index h))
   whole_asks t s x q k e =
       let z = plan_size in let y = places-few in
       record { arena = d; table = omega arith; list = omega arith; few = omega arith }
 
-  pub whole_laid : (t s t' s' : List ℕ) (n x : ℕ) (r : Next) → 882 ≤ length t' → 126 ≤ length s' → n ≡ size_t (tree_of m h) → x ≡ (fact (tree_of m h)).streams
+  pub whole_laid : (t : List StepNode) (s : List ℕ) (t' : List StepNode) (s' : List ℕ) (n x : ℕ) (r : Next) → 126 ≤ length t' → 126 ≤ length s' → n ≡ size_t (tree_of m h) → x ≡ (fact (tree_of m h)).streams
       → TreeLaid m u t s t' s' n 0 0 x (plan_in m (index h)) r
       → LaidOut m u (plan_t (tree_of m h)) t' s' (record { nodes = n; places = r.place })
   whole_laid t s t' s' n x r q k e v g =

@@ -1,5 +1,5 @@
--- The plan that stands in the arena as the stepper's tables: each node's seven numbers, and its slot. These are definitions.
-use Rattle.std.specs.Prelude.{◌≡◌, List, [], ◌∷◌, ◌++◌, ℕ, suc, ◌+◌, ◌*◌, ◌≤◌, ◌<◌, length, get_or, take}
+-- The plan that stands in the arena as the stepper's tables: each node's entry, and its slot. These are definitions.
+use Rattle.std.specs.Prelude.{◌≡◌, List, [], ◌∷◌, ◌++◌, ℕ, suc, ◌+◌, ◌≤◌, ◌<◌, length, get_or, take}
 use Rattle.row_order.specs.Lists.{tab}
 use Rattle.plan.specs.Forest.{none, tree, size}
 use Rattle.plan.specs.Op.{Op, Plan}
@@ -9,6 +9,7 @@ use Rattle.plan_context.specs.View.{tree_in, Arena}
 use Rattle.plan_context.specs.Records.{plan_t}
 use Rattle.step_tables.specs.Places.{total, inner, Node, node_of, nodes_at}
 use Rattle.step_tables.specs.Passes.{node_in, Listed}
+use Rattle.step_tables.specs.declared.StepNode.{StepNode}
 use Rattle.step_nodes.specs.declared.Next.{Next}
 use Rattle.step_nodes.specs.declared.Layout.{Layout}
 
@@ -28,7 +29,7 @@ pub record Slotted (m : List ℕ) (u : ℕ) (s : List ℕ) (f : Plan) : Type 0 w
   pub are : tab (size f) (λ j. plan_in m (get_or s j 0)) ≡ subtrees f
 
 -- What `lay_out` leaves of the plan f. The root's `above` is the number of nodes
-pub record LaidOut (m : List ℕ) (u : ℕ) (f : Plan) (t s : List ℕ) (r : Layout) : Type 0 where
+pub record LaidOut (m : List ℕ) (u : ℕ) (f : Plan) (t : List StepNode) (s : List ℕ) (r : Layout) : Type 0 where
   pub nodes : r.nodes ≡ size f
   pub places : r.places ≡ total (facts f) + inner f
   pub few : r.places ≤ 258048
@@ -55,22 +56,22 @@ Along R j [] = Unit {0}
 Along R j (x ∷ l) = R j x × Along R (suc j) l
 
 -- Node j of the tables t and s
-pub record Stands (m : List ℕ) (u : ℕ) (t s : List ℕ) (j : ℕ) (e : Entry) : Type 0 where
+pub record Stands (m : List ℕ) (u : ℕ) (t : List StepNode) (s : List ℕ) (j : ℕ) (e : Entry) : Type 0 where
   pub row : node_in t j ≡ e.node
   pub tree : plan_in m (get_or s j 0) ≡ e.plan
   pub there : get_or s j 0 < u
 
 -- Nodes from n on are those of f; what stands before them stays. t, s: the tables before; a, b: the places of its first output and of its first input
-pub record TreeLaid (m : List ℕ) (u : ℕ) (t s t' s' : List ℕ) (p n a b : ℕ) (f : Plan) (r : Next) : Type 0 where
+pub record TreeLaid (m : List ℕ) (u : ℕ) (t : List StepNode) (s : List ℕ) (t' : List StepNode) (s' : List ℕ) (p n a b : ℕ) (f : Plan) (r : Next) : Type 0 where
   pub node : r.node ≡ n + size f
   pub place : r.place ≡ b + inner f
-  pub rows : take (7 * n) t' ≡ take (7 * n) t
+  pub rows : take n t' ≡ take n t
   pub slots : take n s' ≡ take n s
   pub stand : Along (Stands m u t' s') n (entries p n a b f)
 
 -- What it asks
-pub record TreeLays (m : List ℕ) (u : ℕ) (t s : List ℕ) (n b : ℕ) (f : Plan) : Type 0 where
+pub record TreeLays (m : List ℕ) (u : ℕ) (t : List StepNode) (s : List ℕ) (n b : ℕ) (f : Plan) : Type 0 where
   pub arena : Arena m u
-  pub table : 7 * (n + size f) ≤ length t
+  pub table : n + size f ≤ length t
   pub list : n + size f ≤ length s
   pub few : b + inner f ≤ 1000000

@@ -18,8 +18,9 @@ use Rattle.semantics.specs.Runs.{proj}
 use Rattle.plan_codec.specs.NodeRecord.{NodeRecord}
 use Rattle.plan_codec.specs.Decode.{decode, from_bytes, operator_of}
 use Rattle.class_tables.specs.Tables.{Columns}
-use Rattle.key_lists.specs.Keys.{keys_in}
-use Rattle.key_lists.specs.Lists.{next, end}
+use Rattle.key_lists.specs.declared.Keys.{Keys}
+use Rattle.key_lists.specs.Keys.{keys_of}
+use Rattle.key_lists.specs.Lists.{length_keys}
 use Rattle.key_lists.specs.Packing.{seven_bits}
 use Rattle.record_fields.specs.Fields.{packed_keys, tail_columns}
 use Rattle.record_fields.specs.Decoded.{length-packed}
@@ -78,42 +79,38 @@ pub record Projects (o : Op) (r : ColumnRow) : Type 0 where
 
 -- ---- a word's keys, one number each
 
--- The first j are unpacked; w: the word's rest
-pub record Unpacking (n word j : ℕ) (items : List ℕ) (w : ℕ) : Type 0 where
-  pub low : j ≤ n
+-- The first j are unpacked, the keys l are left
+pub record Unpacking (ks : List Key) (j : ℕ) (items : List ℕ) (l : List Key) : Type 0 where
+  pub room : j + length l ≡ length ks
   pub long : length items ≡ 8
-  pub is : map key_of (take j items) ++ keys_in (n - j) w ≡ keys_in n word
+  pub is : map key_of (take j items) ++ l ≡ ks
 
-pub unpacking_none : (n word : ℕ) (items : List ℕ) → length items ≡ 8 → Unpacking n word 0 items word
-unpacking_none n word items h = let e : n - 0 ≡ n = omega arith in record { low = omega arith; long = h; is = ap (λ k. keys_in k word) e }
+pub unpacking_none : (ks : List Key) (items : List ℕ) (l : List Key) → length items ≡ 8 → l ≡ ks → Unpacking ks 0 items l
+unpacking_none ks items l h e = record { room = omega (arith, ap length e); long = h; is = e }
 
-pub unpacking_more : (n word j : ℕ) (items : List ℕ) (w : ℕ) → n ≤ 8 → j < n → Unpacking n word j items w
-    → Unpacking n word (j + 1) (set items j (bit_and w 127)) (w / 256)
-unpacking_more n word j items w m h u =
-    let l = u.long in
-    let e : n - j - 1 ≡ n - suc j = omega arith in
+pub unpacking_more : (ks : List Key) (j : ℕ) (items : List ℕ) (l : List Key) (w : ℕ) (m : List Key) → length ks ≤ 8 → l ≡ key_of w ∷ m → Unpacking ks j items l
+    → Unpacking ks (j + 1) (set items j (bit_and w 127)) m
+unpacking_more ks j items l w m h e u =
+    let g = u.long in let r = u.room in let z = ap length e in
     let k : key_of (bit_and w 127) ≡ key_of w = ap key_of (and_mask w 7) ∙ seven_bits w in
     record {
-      low = omega arith;
-      long = length-set items j (bit_and w 127) ∙ l;
+      room = omega arith;
+      long = length-set items j (bit_and w 127) ∙ g;
       is = rw (add-one j)
-          (ap (λ x. map key_of x ++ keys_in (n - suc j) (w / 256)) (take-suc-set items j (bit_and w 127) (omega arith))
-          ∙ ap (λ x. x ++ keys_in (n - suc j) (w / 256)) (map-append key_of (take j items) (bit_and w 127 ∷ []))
-          ∙ append_assoc (map key_of (take j items)) (key_of (bit_and w 127) ∷ []) (keys_in (n - suc j) (w / 256))
-          ∙ ap (λ x. map key_of (take j items) ++ x)
-          (ap₂ (λ x q. x ∷ keys_in q (w / 256)) k (sym e) ∙ sym (next (n - j) w (omega arith)))
+          (ap (λ x. map key_of x ++ m) (take-suc-set items j (bit_and w 127) (omega arith))
+          ∙ ap (λ x. x ++ m) (map-append key_of (take j items) (bit_and w 127 ∷ []))
+          ∙ append_assoc (map key_of (take j items)) (key_of (bit_and w 127) ∷ []) m
+          ∙ ap (λ x. map key_of (take j items) ++ x) (ap (λ x. x ∷ m) k ∙ sym e)
           ∙ u.is);
     }
 
-pub unpacked_all : (n word j : ℕ) (items : List ℕ) (w : ℕ) → n ≤ 8 → n ≤ j → Unpacking n word j items w
-    → KeysAre (keys_in n word) (record { items = items; len = n })
-unpacked_all n word j items w m h u =
-    let l = u.low in
-    let e : n ≡ j = omega arith in
+pub unpacked_all : (k : Keys) (j : ℕ) (items : List ℕ) (l : List Key) → k.len ≤ 8 → l ≡ [] → Unpacking (keys_of k) j items l
+    → KeysAre (keys_of k) (record { items = items; len = k.len })
+unpacked_all k j items l h e u =
+    let i : k.len ≡ j = omega (arith, u.room, ap length e, length_keys k.len k.word) in
     record {
-      is = ap (λ k. map key_of (take k items)) e ∙ sym (append-nil (map key_of (take j items)))
-          ∙ ap (λ x. map key_of (take j items) ++ x) (sym (end (n - j) w (omega arith))) ∙ u.is;
-      few = m;
+      is = ap (λ x. map key_of (take x items)) i ∙ sym (append-nil (map key_of (take j items))) ∙ ap (λ x. map key_of (take j items) ++ x) (sym e) ∙ u.is;
+      few = h;
       long = u.long;
     }
 

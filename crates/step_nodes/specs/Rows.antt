@@ -1,15 +1,17 @@
 -- The rows of the tables, as the walk writes them.
-use Rattle.std.specs.Prelude.{◌≡◌, refl, Bool, true, false, List, [], ◌∷◌, ◌++◌, map, ℕ, zero, suc, ◌+◌, ◌*◌, ◌≤◌, ◌<◌, eqb, length, get_or, take}
-use Rattle.std.proofs.Common.{sym, ap, ap₂, ◌∙◌, subst, append-nil, arith, length-append, get_or-take, take-take}
-use Rattle.std.proofs.lemmas.List.{map-append, length-map}
-use Rattle.scan.specs.Bytes.{one_if}
-use Rattle.scan.specs.Parts.{splice, at_part, splice_here, splice_front}
+use Rattle.std.specs.Prelude.{◌≡◌, refl, Bool, true, false, List, [], ◌∷◌, ◌++◌, map, ℕ, zero, suc, ◌+◌, ◌*◌, ◌≤◌, ◌<◌, length, get_or, set, take}
+use Rattle.std.proofs.Common.{sym, ap, ap₂, ◌∙◌, subst, append-nil, arith, length-append, get_or-take, get_or-set_same, take-take}
+use Rattle.std.proofs.lemmas.List.{map-append, length-map, take-set-le}
+use Rattle.stepping.specs.Moves.{Manner, still, passing, merging, sorting, manner}
 use Rattle.row_order.specs.Lists.{tab}
 use Rattle.plan.specs.Forest.{none, tree, size}
 use Rattle.plan.specs.Op.{Op, Plan}
 use Rattle.semantics.specs.Facts.{facts, facts_op}
-use Rattle.step_tables.specs.Places.{total, inner, Node, nodes_at, node_of}
-use Rattle.step_tables.specs.Passes.{node_in, Listed}
+use Rattle.step_tables.specs.Places.{total, inner, kind_of, Node, nodes_at, node_of}
+use Rattle.step_tables.specs.Passes.{number_of, node_from, no_node, node_in, Listed}
+use Rattle.step_tables.specs.declared.StepNode.{StepNode}
+use Rattle.step_tables.specs.declared.StepManner.{StepManner}
+use Rattle.step_tables.specs.declared.StepManner.TheVariants.{Still, Passing, Merging, Sorting}
 use Rattle.step_nodes.specs.Layout.{plan_in, subtrees, Slotted, Entry, entries, Along, Stands}
 
 -- ---- along a list
@@ -48,20 +50,13 @@ along_at R P j n (x ∷ l) e h a (suc k) q =
 pub same_at : (n : ℕ) (t t' : List ℕ) → take n t' ≡ take n t → (i : ℕ) → i < n → get_or t' i 0 ≡ get_or t i 0
 same_at n t t' e i h = sym (get_or-take n t' i 0 h) ∙ ap (λ l. get_or l i 0) e ∙ get_or-take n t i 0 h
 
-pub less_front : (k n : ℕ) (t t' : List ℕ) → k ≤ n → take n t' ≡ take n t → take k t' ≡ take k t
+pub less_front : {A : Type 0} (k n : ℕ) (t t' : List A) → k ≤ n → take n t' ≡ take n t → take k t' ≡ take k t
 less_front k n t t' h e = sym (take-take k n t' h) ∙ ap (take k) e ∙ take-take k n t h
 
-node_is : (t : List ℕ) (j : ℕ) (x : Node) → get_or t (7 * j) 0 ≡ x.kind → eqb (get_or t (7 * j + 1) 0) 1 ≡ x.straight_on → get_or t (7 * j + 2) 0 ≡ x.out
-    → get_or t (7 * j + 3) 0 ≡ x.outs → get_or t (7 * j + 4) 0 ≡ x.inp → get_or t (7 * j + 5) 0 ≡ x.inps → get_or t (7 * j + 6) 0 ≡ x.above → node_in t j ≡ x
-node_is t j x a b c d e f g = λ i. record { kind = a i; straight_on = b i; out = c i; outs = d i; inp = e i; inps = f i; above = g i }
+pub same_node : (n : ℕ) (t t' : List StepNode) → take n t' ≡ take n t → (j : ℕ) → j < n → node_in t' j ≡ node_in t j
+same_node n t t' e j h = ap node_from (sym (get_or-take n t' j no_node h) ∙ ap (λ l. get_or l j no_node) e ∙ get_or-take n t j no_node h)
 
-pub same_node : (n : ℕ) (t t' : List ℕ) → take (7 * n) t' ≡ take (7 * n) t → (j : ℕ) → j < n → node_in t' j ≡ node_in t j
-same_node n t t' e j h =
-    let at = same_at (7 * n) t t' e in
-    node_is t' j (node_in t j) (at (7 * j) (omega arith)) (ap (λ x. eqb x 1) (at (7 * j + 1) (omega arith))) (at (7 * j + 2) (omega arith))
-    (at (7 * j + 3) (omega arith)) (at (7 * j + 4) (omega arith)) (at (7 * j + 5) (omega arith)) (at (7 * j + 6) (omega arith))
-
-pub stands_same : (m : List ℕ) (u n : ℕ) (t s t' s' : List ℕ) → take (7 * n) t' ≡ take (7 * n) t → take n s' ≡ take n s → (j : ℕ) (x : Entry) → j < n
+pub stands_same : (m : List ℕ) (u n : ℕ) (t : List StepNode) (s : List ℕ) (t' : List StepNode) (s' : List ℕ) → take n t' ≡ take n t → take n s' ≡ take n s → (j : ℕ) (x : Entry) → j < n
     → Stands m u t s j x → Stands m u t' s' j x
 stands_same m u n t s t' s' e q j x h a =
     let z = same_at n s s' q j h in
@@ -69,29 +64,49 @@ stands_same m u n t s t' s' e q j x h a =
 
 -- ---- a row written
 
-abbrev pub row_of : Node → List ℕ
-row_of x = x.kind ∷ one_if x.straight_on ∷ x.out ∷ x.outs ∷ x.inp ∷ x.inps ∷ x.above ∷ []
+-- The manner of a number
+abbrev pub manner_at : ℕ → StepManner
+manner_at zero = Still
+manner_at (suc zero) = Passing
+manner_at (suc (suc zero)) = Merging
+manner_at (suc (suc (suc k))) = Sorting
 
-flag : (b : Bool) → eqb (one_if b) 1 ≡ b
-flag true = refl
-flag false = refl
+pub manner_back : (k : StepManner) → manner_at (number_of k) ≡ k
+manner_back Still = refl
+manner_back Passing = refl
+manner_back Merging = refl
+manner_back Sorting = refl
+
+number_back : (k : Manner) → number_of (manner_at (kind_of k)) ≡ kind_of k
+number_back still = refl
+number_back passing = refl
+number_back (merging ks) = refl
+number_back (sorting p ks) = refl
+
+-- A node's entry
+abbrev pub row_of : Node → StepNode
+row_of x = record { manner = manner_at x.kind; straight = x.straight_on; out = x.out; outs = x.outs; inp = x.inp; inps = x.inps; above = x.above }
 
 -- The table with row j written
-abbrev pub written : List ℕ → ℕ → Node → List ℕ
-written t j x = splice t (7 * j) 7 (row_of x)
+abbrev pub written : List StepNode → ℕ → Node → List StepNode
+written t j x = set t j (row_of x)
 
-module _ (t : List ℕ) (j : ℕ) (x : Node) (h : 7 * j + 7 ≤ length t) where
-  at_row : (i : ℕ) → i < 7 → get_or (written t j x) (7 * j + i) 0 ≡ get_or (row_of x) i 0
-  at_row i l = sym (at_part (written t j x) (7 * j) 7 i l) ∙ ap (λ r. get_or r i 0) (splice_here t (row_of x) (7 * j) 7 h refl)
+pub row_written : (t : List StepNode) (j p a b : ℕ) (o : Op) (c : Plan) → j < length t → node_in (written t j (node_of p a b o c)) j ≡ node_of p a b o c
+row_written t j p a b o c h =
+    let e = number_back (manner o (facts c)) in
+    ap node_from (get_or-set_same t j (row_of (node_of p a b o c)) no_node h)
+    ∙ (λ i. record {
+      kind = e i;
+      straight_on = (node_of p a b o c).straight_on;
+      out = a;
+      outs = (node_of p a b o c).outs;
+      inp = b;
+      inps = (node_of p a b o c).inps;
+      above = p;
+    })
 
-  pub row_written : node_in (written t j x) j ≡ x
-  row_written =
-      let z : 7 * j ≡ 7 * j + 0 = omega arith in
-      node_is (written t j x) j x (ap (λ n. get_or (written t j x) n 0) z ∙ at_row 0 (omega arith)) (ap (λ n. eqb n 1) (at_row 1 (omega arith)) ∙ flag x.straight_on)
-      (at_row 2 (omega arith)) (at_row 3 (omega arith)) (at_row 4 (omega arith)) (at_row 5 (omega arith)) (at_row 6 (omega arith))
-
-  pub row_front : take (7 * j) (written t j x) ≡ take (7 * j) t
-  row_front = splice_front t (row_of x) (7 * j) 7 h refl
+pub row_front : (t : List StepNode) (j : ℕ) (x : Node) → take j (written t j x) ≡ take j t
+row_front t j x = take-set-le j t j (row_of x) (omega arith)
 
 -- ---- the entries of a forest
 
@@ -129,11 +144,11 @@ entries_split p n a b o c r = ap (λ l. record { node = node_of p a b o c; plan 
 
 -- ---- the tables of a whole plan
 
-module _ (m : List ℕ) (u : ℕ) (t s : List ℕ) (p a b : ℕ) (f : Plan) (h : Along (Stands m u t s) 0 (entries p 0 a b f)) where
+module _ (m : List ℕ) (u : ℕ) (t : List StepNode) (s : List ℕ) (p a b : ℕ) (f : Plan) (h : Along (Stands m u t s) 0 (entries p 0 a b f)) where
   tabled : {A : Type 0} (n : ℕ) (g : ℕ → A) → tab n (λ k. g (0 + k)) ≡ tab n g
   tabled n g = λ i. tab n (λ k. let e : 0 + k ≡ k = omega arith in g (e i))
 
-  pub lists : 7 * size f ≤ length t → Listed t (nodes_at p 0 a b f)
+  pub lists : size f ≤ length t → Listed t (nodes_at p 0 a b f)
   lists l =
       let n = entry_count p 0 a b f in
       let e = entry_nodes p 0 a b f in

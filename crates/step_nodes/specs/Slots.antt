@@ -12,6 +12,7 @@ use Rattle.stepping.proofs.Theorems.Formed.{Formed, Steppable, steppable-none, s
 use Rattle.plan_context.specs.View.{Arena}
 use Rattle.step_tables.specs.Places.{total, inner, kind_of, is_straight, Node, nodes_at, node_of}
 use Rattle.step_tables.specs.Passes.{node_in, Listed}
+use Rattle.step_tables.specs.declared.StepNode.{StepNode}
 use Rattle.step_nodes.specs.Layout.{plan_in, subtrees, Slotted, LaidOut, Entry, entries}
 use Rattle.step_nodes.specs.Rows.{entry_nodes, entry_plans, entry_count}
 use Rattle.step_nodes.specs.declared.Layout.{Layout}
@@ -82,7 +83,7 @@ each_at (e ∷ l) a zero h = a.0
 each_at (e ∷ l) a (suc j) h = each_at l a.1 j (omega arith)
 
 -- row j of the tables, and the tree of node j
-pub row_at : (t : List ℕ) (p n a b : ℕ) (f : Plan) → Listed t (nodes_at p n a b f) → (j : ℕ) → j < size f → (o : Op) (c : Plan)
+pub row_at : (t : List StepNode) (p n a b : ℕ) (f : Plan) → Listed t (nodes_at p n a b f) → (j : ℕ) → j < size f → (o : Op) (c : Plan)
     → get_or (subtrees f) j none ≡ tree o c none → RowOf (node_in t j) o c
 row_at t p n a b f h j l o c e =
     let k = entry_count p n a b f in
@@ -98,7 +99,7 @@ row_at t p n a b f h j l o c e =
 pub node_count_lem : (p n a b : ℕ) (f : Plan) → length (nodes_at p n a b f) ≡ size f
 node_count_lem p n a b f = ap length (sym (entry_nodes p n a b f)) ∙ length-map (entries p n a b f) (λ x. x.node) ∙ entry_count p n a b f
 
-pub each_row : (P : Node → Type 0) (t : List ℕ) (ns : List Node) → Listed t ns → All P ns → (j : ℕ) → j < length ns → P (node_in t j)
+pub each_row : (P : Node → Type 0) (t : List StepNode) (ns : List Node) → Listed t ns → All P ns → (j : ℕ) → j < length ns → P (node_in t j)
 each_row P t ns h a j l = subst P (ap (λ x. get_or x j blank) (sym h.are) ∙ get_or-tab (length ns) (node_in t) blank j l) (at ns a j l)
   where
     at : (ns : List Node) → All P ns → (j : ℕ) → j < length ns → P (get_or ns j blank)
@@ -130,7 +131,7 @@ module _ (w : (o : Op) (c : Plan) → Formed o (length (roots c)) → is_straigh
       (rows_wide p (suc n + size c) (a + (facts_op o (facts c)).streams) (b + total (facts c) + inner c) r y))
 
 -- of the plan that was laid out
-module _ (m : List ℕ) (u : ℕ) (f : Plan) (t s : List ℕ) (r : Layout) (h : LaidOut m u f t s r) where
+module _ (m : List ℕ) (u : ℕ) (f : Plan) (t : List StepNode) (s : List ℕ) (r : Layout) (h : LaidOut m u f t s r) where
   row_count : length (nodes_at (size f) 0 0 (total (facts f)) f) ≡ size f
   row_count = node_count_lem (size f) 0 0 (total (facts f)) f
 

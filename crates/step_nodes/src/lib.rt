@@ -1,7 +1,7 @@
 // The nodes of a plan that stands in the arena, as the stepper takes them (02, P3). Node order: parent first, then each child's subtree in order.
 #![tactic(auto)]
 
-ghost use Rattle.std.specs.Prelude.{◌≡◌, true, ◌+◌, ◌*◌, ◌≤◌, ◌<◌, eqb, length};
+ghost use Rattle.std.specs.Prelude.{◌≡◌, true, ◌*◌, ◌≤◌, ◌<◌, eqb, length};
 ghost use Rattle.plan.specs.Numbers.{code};
 ghost use Rattle.semantics.specs.Facts.{at0, facts_op, facts};
 ghost use Rattle.semantics.specs.Properties.{cuts};
@@ -13,8 +13,9 @@ ghost use Rattle.plan_context.specs.View.{tree_of, Arena};
 ghost use Rattle.plan_context.specs.Records.{plan_t};
 ghost use Rattle.stepping.specs.Moves.{manner};
 ghost use Rattle.step_tables.specs.Places.{total, node_of};
+ghost use Rattle.step_tables.specs.Passes.{number_of};
 ghost use Rattle.step_nodes.specs.Layout.{plan_in, TreeLaid, TreeLays, LaidOut};
-ghost use Rattle.step_nodes.specs.Rows.{row_of, written};
+ghost use Rattle.step_nodes.specs.Rows.{written};
 ghost use Rattle.step_nodes.specs.Manners.{mark_counts, manner_number, straight_kind};
 ghost use Rattle.step_nodes.specs.Laying.{op_in, below_in};
 ghost use Rattle.step_nodes.specs.Moves.{keys_of_manner, KeysAre, own_keys, cut_in, Projects};
@@ -22,16 +23,14 @@ ghost use Rattle.step_nodes.specs.Moves.{keys_of_manner, KeysAre, own_keys, cut_
 use arena::{child, child_count, kept_at, record_at};
 use asked_facts::{counts, known_order, streams, width};
 use byte_rows::wide;
-use key_lists::{Keys, Order};
+use key_lists::Keys;
 use node_fetches::fetch;
 use node_properties::is_projection;
-use plan::{Fetch, Kind};
+use plan::Kind;
 use plan_context::kept::{nodes, row};
 use record_fields::{KEY_COUNT, KIND, SKIP, WIDTH, kind_of, preserves, tail_columns};
 use record_keys::packed_keys;
-
-// A row of the table: kind of manner, straight or not, first place and number of the outputs, of the inputs, number of the node above.
-pub const ROW: usize = 7;
+use step_tables::{StepManner, StepNode};
 
 // What the walk answers: the number of the next node, and the next free place.
 #[derive(Clone, Copy)]
@@ -58,7 +57,7 @@ pub struct KeyRow {
 #[derive(Clone, Copy)]
 pub struct Cut {
     pub skip: usize,
-    pub fetch: Fetch,
+    pub fetch: Option<u32>,
 }
 
 // The child columns of a projection: the first len of the items.
@@ -70,26 +69,30 @@ pub struct ColumnRow {
 
 // ---- one node
 
-// How a node of this kind takes rows: 0 not at all, 1 any stream's first, 2 by merging, 3 by sorting; counts: its preserve mark does.
-fn manner_number(kind: Kind, counts: bool) -> usize
-    ensures { result ≡ manner_number kind counts }
+// How a node of this kind takes rows; counts: its preserve mark does.
+fn manner_of(kind: Kind, counts: bool) -> StepManner
+    ensures { number_of result ≡ manner_number kind counts }
 {
     match kind {
-        Kind::Source => 0,
-        Kind::Filter => 1,
-        Kind::Projection => 1,
-        Kind::Union => 1,
-        Kind::Repartition => if counts { 2 } else { 1 },
-        Kind::Coalesce => 1,
-        Kind::Sort => 3,
-        Kind::Merge => 2,
-        Kind::GlobalLimit => 1,
-        Kind::LocalLimit => 1,
-        Kind::SortMergeJoin => 0,
-        Kind::HashJoin => 0,
-        Kind::OutputRequirement => 1,
-        Kind::PartialSort => 3,
-        Kind::Aggregate => 0,
+        Kind::Source => StepManner::Still,
+        Kind::Filter => StepManner::Passing,
+        Kind::Projection => StepManner::Passing,
+        Kind::Union => StepManner::Passing,
+        Kind::Repartition => if counts {
+            StepManner::Merging
+        } else {
+            StepManner::Passing
+        },
+        Kind::Coalesce => StepManner::Passing,
+        Kind::Sort => StepManner::Sorting,
+        Kind::Merge => StepManner::Merging,
+        Kind::GlobalLimit => StepManner::Passing,
+        Kind::LocalLimit => StepManner::Passing,
+        Kind::SortMergeJoin => StepManner::Still,
+        Kind::HashJoin => StepManner::Still,
+        Kind::OutputRequirement => StepManner::Passing,
+        Kind::PartialSort => StepManner::Sorting,
+        Kind::Aggregate => StepManner::Still,
     }
 }
 
@@ -122,11 +125,13 @@ fn mark_counts(m: &[u8], u: usize, i: usize) -> bool
     ensures { result ≡ mark_counts (op_in m.now i) (facts (below_in m.now i)) }
 {
     let r = record_at(m, i);
-    if r[KIND] == 5 {
-        let c = child(m, i, 0);
-        return counts(preserves(r), row(m, c));
+    match kind_of(r[KIND]) {
+        Kind::Repartition => {
+            let c = child(m, i, 0);
+            counts(preserves(r), row(m, c))
+        }
+        _ => false,
     }
-    false
 }
 
 // How many input streams it has.
@@ -135,9 +140,7 @@ fn inputs(m: &[u8], u: usize, i: usize) -> usize
     ensures { result ≡ total (facts (below_in m.now i)) }
 {
     let mut s = 0;
-    let mut k = child_count(m, i);
-    while 0 < k {
-        k -= 1;
+    for k in (0..child_count(m, i)).rev() {
         let c = child(m, i, k);
         s += streams(row(m, c));
     }
@@ -174,31 +177,26 @@ fn unpacked(k: Keys) -> KeyRow
     requires { k.len ≤ 8 }
     ensures { KeysAre (keys_of k) result }
 {
-    let n = k.len;
     let mut items = [0usize; 8];
-    let mut w = k.word;
-    let mut j = 0;
-    while j < n {
-        items[j] = w & 127;
-        w = w >> 8;
-        j += 1;
+    for (j, key) in k.iter().enumerate() {
+        items[j] = key & 127;
     }
     KeyRow {
         items: items,
-        len: n,
+        len: k.len,
     }
 }
 
-fn order_row(o: Order) -> KeyRow
+fn order_row(o: Option<Keys>) -> KeyRow
     requires { Real o }
     ensures { KeysAre (order_of o) result }
 {
     match o {
-        Order::Unordered => KeyRow {
+        None => KeyRow {
             items: [0usize; 8],
             len: 0,
         },
-        Order::By(k) => unpacked(k),
+        Some(k) => unpacked(k),
     }
 }
 
@@ -228,14 +226,14 @@ pub fn move_keys(m: &[u8], u: usize, i: usize) -> KeyRow
         let c = child(m, i, 0);
         return order_row(known_order(row(m, c)));
     }
-    order_row(Order::Unordered)
+    order_row(None)
 }
 
 fn skip_of(r: &[u8]) -> usize
     requires { Proper r.now }
     ensures { result ≡ (cuts (decode r.now)).skip }
 {
-    if r[KIND] == 9 {
+    if let Kind::GlobalLimit = kind_of(r[KIND]) {
         return scan::get32(r, SKIP) as usize;
     }
     0
@@ -296,52 +294,36 @@ pub fn picked_columns(m: &[u8], u: usize, i: usize) -> ColumnRow
 
 // ---- the tables
 
-fn put_row(
-    d: &mut [usize],
-    kind: usize,
-    straight: bool,
-    out: usize,
-    outs: usize,
-    inp: usize,
-    inps: usize,
-    above: usize,
-)
-    requires { length d.old ≡ 7 }
-    ensures { d.new ≡ row_of (record { kind = kind; straight_on = straight; out = out; outs = outs; inp = inp; inps = inps; above = above }) }
-{
-    d[0] = kind;
-    d[1] = straight as usize;
-    d[2] = out;
-    d[3] = outs;
-    d[4] = inp;
-    d[5] = inps;
-    d[6] = above;
-}
-
 // Row n for the node in slot i, with its first output at a and its first input at b. It answers how many inputs there are.
 fn put_node(
     m: &[u8],
     u: usize,
     i: usize,
-    table: &mut [usize],
+    table: &mut [StepNode],
     above: usize,
     n: usize,
     a: usize,
     b: usize,
 ) -> usize
-    requires { Arena m.now u × (i < u) × (7 * n + 7 ≤ length table.old) }
+    requires { Arena m.now u × (i < u) × (n < length table.old) }
     ensures { (result ≡ total (facts (below_in m.now i)))
         × (table.new ≡ written table.old n (node_of above a b (op_in m.now i) (below_in m.now i))) }
 {
     let r = record_at(m, i);
     let kind = kind_of(r[KIND]);
     let straight = is_straight(kind, preserves(r));
-    let number = manner_number(kind, mark_counts(m, u, i));
+    let manner = manner_of(kind, mark_counts(m, u, i));
     let outs = streams(kept_at(m, i));
     let inps = inputs(m, u, i);
-    let at = ROW * n;
-    let e = at + ROW;
-    put_row(&mut table[at..e], number, straight, a, outs, b, inps, above);
+    table[n] = StepNode {
+        manner: manner,
+        straight: straight,
+        out: a,
+        outs: outs,
+        inp: b,
+        inps: inps,
+        above: above,
+    };
     inps
 }
 
@@ -350,7 +332,7 @@ fn lay(
     m: &[u8],
     u: usize,
     i: usize,
-    table: &mut [usize],
+    table: &mut [StepNode],
     slots: &mut [usize],
     above: usize,
     n: usize,
@@ -363,18 +345,15 @@ fn lay(
 {
     let inps = put_node(m, u, i, table, above, n, a, b);
     slots[n] = i;
-    let kids = child_count(m, i);
     let mut next = n + 1;
     let mut free = b + inps;
     let mut out = b;
-    let mut k = 0;
-    while k < kids {
+    for k in 0..child_count(m, i) {
         let c = child(m, i, k);
         let r = lay(m, u, c / 2, table, slots, n, next, out, free);
         out += streams(row(m, c));
         next = r.node;
         free = r.place;
-        k += 1;
     }
     Next {
         node: next,
@@ -382,9 +361,9 @@ fn lay(
     }
 }
 
-// The tree at h: each node's seven numbers and its slot, in node order.
-pub fn lay_out(m: &[u8], u: usize, h: usize, table: &mut [usize], slots: &mut [usize]) -> Layout
-    requires { Arena m.now u × (h < 2 * u) × (size_t (tree_of m.now h) ≤ 126) × (882 ≤ length table.old) × (126 ≤ length slots.old) }
+// The tree at h: each node's entry and its slot, in node order.
+pub fn lay_out(m: &[u8], u: usize, h: usize, table: &mut [StepNode], slots: &mut [usize]) -> Layout
+    requires { Arena m.now u × (h < 2 * u) × (size_t (tree_of m.now h) ≤ 126) × (126 ≤ length table.old) × (126 ≤ length slots.old) }
     ensures { LaidOut m.now u (plan_t (tree_of m.now h)) table.new slots.new result }
 {
     let n = nodes(m, h);

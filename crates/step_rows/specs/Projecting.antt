@@ -1,7 +1,11 @@
 -- A row that becomes the row of some of its columns: "projection picks columns" (01). Assumes nothing.
-use Rattle.std.specs.Prelude.{◌≡◌, refl, Bool, true, false, ◌&&◌, ◌||◌, ◌⊎◌, List, map, ℕ, ◌+◌, ◌-◌, ◌*◌, ◌<◌, ◌≤◌, ℤ, pos, ltb, leb, length, get_or, set, take, drop}
+use Rattle.std.specs.Prelude.{◌≡◌, refl, Bool, true, false, ◌&&◌, ◌||◌, ◌⊎◌, List, ◌++◌, map, ℕ, zero, suc, ◌+◌, ◌-◌, ◌*◌, ◌<◌, ◌≤◌, ℤ, pos, ltb, leb, length, get_or, set, take, drop}
 use Rattle.std.proofs.Common.{sym, ap, ap₂, ◌∙◌, subst, inl, inr, arith, ltb-true, lt-ltb, le-leb, length-take, length-drop, length-set, length-take-le, get_or-take, get_or-drop, get_or-set_same, get_or-set_other, ext_get_or}
+use Rattle.std.proofs.Common.{take_all}
 use Rattle.std.proofs.Math.Decide.{dec_lt}
+use Rattle.std.proofs.Math.Seq.{paste, paste-zero, paste-suc}
+use Rattle.std.proofs.lemmas.Slice.{put_mid-paste}
+use borrow.Rule.Slice.PartMut.{put_mid}
 use Rattle.std.proofs.lemmas.Bool.{lt-leb}
 use Rattle.std.proofs.lemmas.List.{length-map}
 use Rattle.std.proofs.Math.ListN.{get_or-map}
@@ -64,6 +68,22 @@ stored_more {cells} {a} {xs} {n} {cells'} {x} s h e =
     out : (y : ℕ) → (y < a) ⊎ (a + (n + 1) ≤ y) → get_or (set cells' (a + n) x) y (pos 0) ≡ get_or cells y (pos 0)
     out y (inl o) = get_or-set_other cells' (a + n) y x (pos 0) (λ z. omega arith) ∙ s.apart y (inl o)
     out y (inr o) = get_or-set_other cells' (a + n) y x (pos 0) (λ z. omega arith) ∙ s.apart y (inr (omega arith))
+
+stored_pasted : (cells : List ℤ) (a : ℕ) (xs : List ℤ) (n : ℕ) → n ≤ length xs → a + n ≤ length cells → Stored cells a xs n (paste cells a xs n)
+stored_pasted cells a xs zero h f = subst (λ q. Stored cells a xs 0 q) (paste-zero cells a xs) (stored_none cells a xs)
+stored_pasted cells a xs (suc n) h f =
+    let s : Stored cells a xs (n + 1) (set (paste cells a xs n) (a + n) (get_or xs n (pos 0))) =
+    stored_more (stored_pasted cells a xs n (omega arith) (omega arith)) (omega arith) refl in
+    subst (λ q. Stored cells a xs (suc n) q) (paste-suc cells a xs n (pos 0) (omega arith) h)
+    (subst (λ (k : ℕ). Stored cells a xs k (set (paste cells a xs n) (a + n) (get_or xs n (pos 0)))) (omega arith) s)
+
+-- part: what the k numbers from a on are now
+pub stored_copied : (cells : List ℤ) (a : ℕ) (xs : List ℤ) (n k : ℕ) (part : List ℤ) → n ≤ length xs → a + n ≤ length cells → part ≡ take n xs → n ≡ k →
+    Stored cells a xs n (put_mid a k cells part)
+stored_copied cells a xs n k part h f e l =
+    let m : length (take n xs) ≡ n = length-take-le n xs h in
+    let z = put_mid-paste a k cells part (take n xs) n e l (omega arith) ∙ ap (λ q. take a cells ++ q ++ drop (a + n) cells) (take_all n (take n xs) (omega arith)) in
+    subst (λ q. Stored cells a xs n q) (sym z) (stored_pasted cells a xs n h f)
 
 -- ---- a row's numbers in the table
 part_length : (cells : List ℤ) (r v : ℕ) → v ≤ 32 → r * 32 + 32 ≤ length cells → length (take v (drop (r * 32) cells)) ≡ v

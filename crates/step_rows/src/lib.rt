@@ -71,9 +71,7 @@ pub fn least_head(
         stream: n,
         at: order.len(),
     };
-    let mut i = n;
-    while 0 < i {
-        i -= 1;
+    for i in (0..n).rev() {
         best = turn_back(keys, cells, nulls, widths, places, order, held, g, i, best);
     }
     best
@@ -85,11 +83,8 @@ fn picked_cells(cells: &[i64], a: usize, cols: &[usize]) -> [i64; 32]
     ensures { Picks cells.now a cols.now (length cols.now) result }
 {
     let mut picked = [0i64; 32];
-    let mut j = 0;
-    while j < cols.len() {
-        let c = cols[j];
-        picked[j] = cells[a + c];
-        j += 1;
+    for (j, c) in cols.iter().enumerate() {
+        picked[j] = cells[a + *c];
     }
     picked
 }
@@ -117,11 +112,7 @@ pub fn project_row(
 {
     let a = r * 32;
     let picked = picked_cells(cells, a, cols);
-    let mut j = 0;
-    while j < cols.len() {
-        cells[a + j] = picked[j];
-        j += 1;
-    }
+    cells[a..a + cols.len()].copy_from_slice(&picked[..cols.len()]);
     let old = with_past(nulls[r], widths[r]);
     nulls[r] = class_tables::projection_set(old, cols);
     widths[r] = cols.len();

@@ -13,6 +13,7 @@ use Rattle.step_tables.specs.Shown.{tab_ext}
 use Rattle.step_tables.specs.Choosing.{waits_at, any_from}
 use Rattle.step_tables.specs.Movers.{movers}
 use Rattle.step_tables.specs.Passes.{node_in, Listed, may_by, may_by_lem, node_may}
+use Rattle.step_tables.specs.declared.StepNode.{StepNode}
 use Rattle.step_tables.specs.Holding.{HeldAre}
 use Rattle.step_tables.specs.Complete.{Complete}
 use Rattle.step_tables.specs.Waiting.{held_waits}
@@ -36,7 +37,7 @@ map-tab : {A B : Type 0} (h : A → B) (n : ℕ) (g : ℕ → A) → map h (tab 
 map-tab h zero g = refl
 map-tab h (suc n) g = ap (λ l. h (g 0) ∷ l) (map-tab h n (λ k. g (suc k)))
 
-pub may_node_lem : (t : List ℕ) (p : ℕ) (f : Plan) (fl : List Bool) (held queued places order : List ℕ) → Listed t (nodes_at p 0 0 (total (facts f)) f) →
+pub may_node_lem : (t : List StepNode) (p : ℕ) (f : Plan) (fl : List Bool) (held queued places order : List ℕ) → Listed t (nodes_at p 0 0 (total (facts f)) f) →
     HeldAre held places → QueuedAre t (size f) queued places → Complete order (length places) → Known order (length places) →
     tab (size f) (node_may t fl held queued) ≡ movers fl (waits_at places order) (total (facts f)) f
 may_node_lem t p f fl held queued places order listed are queue complete known =

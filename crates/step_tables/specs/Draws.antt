@@ -1,9 +1,7 @@
 -- A byte drawn, and a cut, as the code answers them. Assumes nothing.
-use Rattle.std.specs.Prelude.{◌≡◌, refl, Bool, true, false, cond, ◌&&◌, List, [], ◌∷◌, ℕ, zero, suc, ◌+◌, ◌-◌, ◌%◌, ◌<◌, ◌≤◌, ltb, leb, length, get_or}
+use Rattle.std.specs.Prelude.{◌≡◌, refl, Bool, true, false, cond, ◌&&◌, List, [], ◌∷◌, ℕ, zero, suc, ◌+◌, ◌-◌, ◌%◌, ◌<◌, ◌≤◌, ltb, leb, length, get_or, Option, Some, None}
 use Rattle.std.proofs.Common.{sym, ap, ap₂, ◌∙◌, arith, mod-eq_of_lt, ltb-true, ltb-false, lt-ltb, le-ltb, le-leb}
 use Rattle.std.proofs.lemmas.Bool.{lt-leb}
-use Rattle.plan.specs.declared.Fetch.{Fetch}
-use Rattle.plan.specs.declared.Fetch.TheVariants.{Unlimited, AtMost}
 use Rattle.semantics.specs.Properties.{Cut}
 use Rattle.stepping.specs.Outlets.{below, keeps}
 use Rattle.stepping.specs.Stepping.{byte_at, Drawn, draw}
@@ -41,17 +39,17 @@ module _ (bytes : List ℕ) (i n : ℕ) where
       go [] e = sym (mod-eq_of_lt (omega arith))
       go (x ∷ b) e = absurd (omega arith)
 
-abbrev pub cut_of : ℕ → Fetch → Cut
+abbrev pub cut_of : ℕ → Option ℕ → Cut
 cut_of s f = record { skip = s; fetch = f }
 
-pub cut_skipped : (s c : ℕ) (f : Fetch) → c < s → false ≡ keeps (cut_of s f) c
+pub cut_skipped : (s c : ℕ) (f : Option ℕ) → c < s → false ≡ keeps (cut_of s f) c
 cut_skipped s c f h = sym (ap (λ (b : Bool). b && below s f c) (lt-leb s c h))
 
-pub cut_unlimited : (s c : ℕ) (f : Fetch) → s ≤ c → f ≡ Unlimited → true ≡ keeps (cut_of s f) c
-cut_unlimited s c f h e = sym (ap₂ (λ (b : Bool) (g : Fetch). b && below s g c) (le-leb s c h) e)
+pub cut_unlimited : (s c : ℕ) (f : Option ℕ) → s ≤ c → f ≡ None → true ≡ keeps (cut_of s f) c
+cut_unlimited s c f h e = sym (ap₂ (λ (b : Bool) (g : Option ℕ). b && below s g c) (le-leb s c h) e)
 
-pub cut_fetched : (s c n : ℕ) (f : Fetch) → s ≤ c → f ≡ AtMost n → ltb (c - s) n ≡ keeps (cut_of s f) c
-cut_fetched s c n f h e = go (ltb (c - s) n) refl ∙ sym (ap₂ (λ (b : Bool) (g : Fetch). b && below s g c) (le-leb s c h) e)
+pub cut_fetched : (s c n : ℕ) (f : Option ℕ) → s ≤ c → f ≡ Some n → ltb (c - s) n ≡ keeps (cut_of s f) c
+cut_fetched s c n f h e = go (ltb (c - s) n) refl ∙ sym (ap₂ (λ (b : Bool) (g : Option ℕ). b && below s g c) (le-leb s c h) e)
   where
     go : (t : Bool) → ltb (c - s) n ≡ t → ltb (c - s) n ≡ ltb c (s + n)
     go true z = z ∙ sym (lt-ltb c (s + n) (omega (arith, ltb-true (c - s) n z)))

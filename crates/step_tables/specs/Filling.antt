@@ -1,6 +1,7 @@
 -- The open streams, filled from the last node to the first. Assumes nothing.
-use Rattle.std.specs.Prelude.{◌≡◌, refl, Bool, true, false, cond, not, ◌&&◌, ◌||◌, ◌⊎◌, List, [], ◌∷◌, ◌++◌, map, ℕ, zero, suc, ◌+◌, ◌-◌, ◌<◌, ◌≤◌, length, get_or, set}
-use Rattle.std.proofs.Common.{sym, ap, ap₂, ◌∙◌, subst, inl, inr, arith, add-one, length-set, get_or-set_same, get_or-set_other}
+use Rattle.std.specs.Prelude.{◌≡◌, refl, Bool, true, false, cond, ◌||◌, ◌⊎◌, List, [], ◌∷◌, ◌++◌, ℕ, zero, suc, ◌+◌, ◌-◌, ◌<◌, ◌≤◌, length, get_or, set, take, drop, replicate}
+use Rattle.std.proofs.Common.{sym, ap, ap₂, ◌∙◌, inl, inr, append_assoc, arith, add-one, length-append, length-set, length-take-le, take-append-drop, drop-cons, get_or-set_same, get_or-set_other}
+use Rattle.std.proofs.lemmas.List.{set_at, length-replicate, replicate_more}
 use Rattle.std.proofs.Math.Decide.{dec_lt}
 use Rattle.step_tables.specs.Choosing.{live_at, any_from, chosen_from}
 
@@ -34,6 +35,20 @@ write_here a p (suc s) fl k h f = go (dec_lt k s) (λ l. write_here a p s fl k l
     go (yes l) i = get_or-set_other (write_tab a p s fl) (a + s) (a + k) (p s) false (λ e. omega arith) ∙ i l
     go (no n) i = let e : k ≡ s = omega arith in ap (λ (j : ℕ). get_or (set (write_tab a p s fl) (a + s) (p s)) (a + j) false) e
         ∙ get_or-set_same (write_tab a p s fl) (a + s) (p s) false (omega (arith, length_write a p s fl)) ∙ ap p (sym e)
+
+-- The same flag s times
+pub write_same : (a : ℕ) (v : Bool) (s : ℕ) (fl : List Bool) → a + s ≤ length fl → take a fl ++ (replicate s v ++ drop (a + s) fl) ≡ write_tab a (λ k. v) s fl
+write_same a v zero fl h = let e : a + 0 ≡ a = omega arith in ap (λ (k : ℕ). take a fl ++ drop k fl) e ∙ take-append-drop a fl
+write_same a v (suc s) fl h =
+    let i : a + suc s ≡ suc (a + s) = omega arith in
+    let k : suc s ≡ s + 1 = omega arith in
+    let long : length (take a fl ++ replicate s v) ≡ a + s = omega (arith, length-append (take a fl) (replicate s v), length-take-le a fl (omega arith), length-replicate s v) in
+    ap₂ (λ (x y : List Bool). take a fl ++ (x ++ y)) (ap (λ (n : ℕ). replicate n v) k ∙ sym (replicate_more s v)) (ap (λ (n : ℕ). drop n fl) i)
+    ∙ ap (λ (x : List Bool). take a fl ++ x) (append_assoc (replicate s v) (v ∷ []) (drop (suc (a + s)) fl))
+    ∙ sym (append_assoc (take a fl) (replicate s v) (v ∷ drop (suc (a + s)) fl))
+    ∙ sym (set_at (take a fl ++ replicate s v) (get_or fl (a + s) false) (drop (suc (a + s)) fl) v (a + s) long)
+    ∙ ap (λ (x : List Bool). set x (a + s) v) (append_assoc (take a fl) (replicate s v) (get_or fl (a + s) false ∷ drop (suc (a + s)) fl)
+    ∙ ap (λ (x : List Bool). take a fl ++ (replicate s v ++ x)) (sym (drop-cons fl (a + s) false (omega arith))) ∙ write_same a v s fl (omega arith))
 
 -- What a node's output stream k gets: its input's flag, or that of all its inputs; g, n: its inputs; w: whether a row waits at a place
 abbrev pub out_flag : Bool → List Bool → (ℕ → Bool) → ℕ → ℕ → ℕ → Bool

@@ -15,6 +15,7 @@ use Rattle.step_tables.specs.Places.{total, inner, is_straight, Node, node_of, n
 use Rattle.step_tables.specs.Shown.{tab_ext, tab_append}
 use Rattle.step_tables.specs.Opened.{Fits, way_fits}
 use Rattle.step_tables.specs.Passes.{node_in, Listed, Laid}
+use Rattle.step_tables.specs.declared.StepNode.{StepNode}
 
 pub length_nodes : (p n a b : ℕ) (f : Plan) → length (nodes_at p n a b f) ≡ size f
 length_nodes p n a b none = refl
@@ -191,7 +192,7 @@ sends_up {N} {p} {n} {a} {b} {k} s (beside {o = o} {c = c} {r = r} h) = go (send
     go (inl w) = inl (w.0, record { from = omega (arith, w.1.from); upto = omega (arith, w.1.upto) })
 
 -- ---- the table of nodes
-module _ (t : List ℕ) (p a b : ℕ) (f : Plan) (listed : Listed t (nodes_at p 0 a b f)) where
+module _ (t : List StepNode) (p a b : ℕ) (f : Plan) (listed : Listed t (nodes_at p 0 a b f)) where
   pub listed_are : tab (size f) (node_in t) ≡ nodes_at p 0 a b f
   listed_are = ap (λ (n : ℕ). tab n (node_in t)) (sym (length_nodes p 0 a b f)) ∙ listed.are
 
@@ -203,7 +204,7 @@ module _ (t : List ℕ) (p a b : ℕ) (f : Plan) (listed : Listed t (nodes_at p 
   pub listed_has : (j : ℕ) → j < size f → Has (node_in t) p 0 a b f j
   listed_has j h = has_node (node_in t) p 0 a b f listed_nodes j (omega arith) (omega arith)
 
-pub laid : (t : List ℕ) (p : ℕ) (f : Plan) (len : ℕ) → Steppable f → Listed t (nodes_at p 0 0 (total (facts f)) f) →
+pub laid : (t : List StepNode) (p : ℕ) (f : Plan) (len : ℕ) → Steppable f → Listed t (nodes_at p 0 0 (total (facts f)) f) →
     total (facts f) + inner f ≤ len → len < 1000000000 → Laid t (size f) len
 laid t p f len s listed h few =
     record {

@@ -9,28 +9,46 @@ use Rattle.step_tables.specs.Filling.{fill_node}
 use Rattle.step_tables.specs.Opened.{fill_all}
 use Rattle.step_tables.specs.Places.{kind_of, Node}
 use Rattle.step_tables.specs.Movers.{may_move, trues}
+use Rattle.step_tables.specs.declared.StepNode.{StepNode}
+use Rattle.step_tables.specs.declared.StepManner.{StepManner}
+use Rattle.step_tables.specs.declared.StepManner.TheVariants.{Still, Passing, Merging, Sorting}
 
--- ---- the table of the nodes: seven numbers for each
-abbrev pub node_in : List ℕ → ℕ → Node
-node_in t j =
+-- ---- the table of the nodes
+-- The number of a manner, as `kind_of` has it
+abbrev pub number_of : StepManner → ℕ
+number_of Still = 0
+number_of Passing = 1
+number_of Merging = 2
+number_of Sorting = 3
+
+-- An entry of the table, as a node
+abbrev pub node_from : StepNode → Node
+node_from x =
     record {
-      kind = get_or t (7 * j) 0;
-      straight_on = eqb (get_or t (7 * j + 1) 0) 1;
-      out = get_or t (7 * j + 2) 0;
-      outs = get_or t (7 * j + 3) 0;
-      inp = get_or t (7 * j + 4) 0;
-      inps = get_or t (7 * j + 5) 0;
-      above = get_or t (7 * j + 6) 0;
+      kind = number_of x.manner;
+      straight_on = x.straight;
+      out = x.out;
+      outs = x.outs;
+      inp = x.inp;
+      inps = x.inps;
+      above = x.above;
     }
 
+-- What stands in the table past its end
+abbrev pub no_node : StepNode
+no_node = record { manner = Still; straight = false; out = 0; outs = 0; inp = 0; inps = 0; above = 0 }
+
+abbrev pub node_in : List StepNode → ℕ → Node
+node_in t j = node_from (get_or t j no_node)
+
 -- The table holds these nodes
-pub record Listed (t : List ℕ) (ns : List Node) : Type 0 where
-  pub room : 7 * length ns ≤ length t
+pub record Listed (t : List StepNode) (ns : List Node) : Type 0 where
+  pub room : length ns ≤ length t
   pub are : tab (length ns) (node_in t) ≡ ns
 
 -- Each node's outputs stand before its inputs, and these among len places
-pub record Laid (t : List ℕ) (n len : ℕ) : Type 0 where
-  pub entries : 7 * n ≤ length t
+pub record Laid (t : List StepNode) (n len : ℕ) : Type 0 where
+  pub entries : n ≤ length t
   pub few : len < 1000000000
   pub before_inputs : (j : ℕ) → j < n → (node_in t j).out + (node_in t j).outs ≤ (node_in t j).inp
   pub among : (j : ℕ) → j < n → (node_in t j).inp + (node_in t j).inps ≤ len
@@ -120,7 +138,7 @@ abbrev pub held_at : List ℕ → ℕ → Bool
 held_at held g = ltb 0 (get_or held g 0)
 
 -- Node j can move; queued: how many rows wait at each node's inputs
-abbrev pub node_may : List ℕ → List Bool → List ℕ → List ℕ → ℕ → Bool
+abbrev pub node_may : List StepNode → List Bool → List ℕ → List ℕ → ℕ → Bool
 node_may t fl held queued j = may_by (node_in t j).kind fl (held_at held) (ltb 0 (get_or queued j 0)) (node_in t j).inp (node_in t j).inps
 
 trues_from : (p : ℕ → Bool) (k n : ℕ) → trues (tab n (λ i. p (k + i))) ≡ length (chosen_from p k n)

@@ -10,6 +10,7 @@ use Rattle.step_tables.specs.Found.{Known}
 use Rattle.step_tables.specs.Shown.{within-true, within_below, within_above, is_within}
 use Rattle.step_tables.specs.Choosing.{waits_at, any_from}
 use Rattle.step_tables.specs.Passes.{node_in, Listed}
+use Rattle.step_tables.specs.declared.StepNode.{StepNode}
 use Rattle.step_tables.specs.Counting.{one, tally_in, many_few, many_set, many_some}
 use Rattle.step_tables.specs.Holding.{fewer, rehold, length-rehold, fewer_is, rehold_is}
 use Rattle.step_tables.specs.Complete.{Complete}
@@ -17,13 +18,13 @@ use Rattle.step_tables.specs.Waiting.{any_waits}
 use Rattle.step_tables.specs.Layout.{Has, has_number, has_inputs, inputs_apart, Sends, sends_up, listed_nodes, listed_has}
 
 -- The count of each node is that of the rows at its inputs
-abbrev pub QueuedAre : List ℕ → ℕ → List ℕ → List ℕ → Type 0
+abbrev pub QueuedAre : List StepNode → ℕ → List ℕ → List ℕ → Type 0
 QueuedAre t n queued places = (j : ℕ) → j < n → get_or queued j 0 ≡ tally_in (node_in t j).inp (node_in t j).inps places
 
-pub queued_few : (t : List ℕ) (n : ℕ) (queued places : List ℕ) → QueuedAre t n queued places → (j : ℕ) → j < n → get_or queued j 0 ≤ length places
+pub queued_few : (t : List StepNode) (n : ℕ) (queued places : List ℕ) → QueuedAre t n queued places → (j : ℕ) → j < n → get_or queued j 0 ≤ length places
 queued_few t n queued places are j h = omega (arith, are j h, many_few (within (node_in t j).inp (node_in t j).inps) places)
 
-pub queued_some : (t : List ℕ) (n : ℕ) (queued places order : List ℕ) → QueuedAre t n queued places → Complete order (length places) →
+pub queued_some : (t : List StepNode) (n : ℕ) (queued places order : List ℕ) → QueuedAre t n queued places → Complete order (length places) →
     Known order (length places) → (j : ℕ) → j < n → any_from (waits_at places order) (node_in t j).inp (node_in t j).inps ≡ ltb 0 (get_or queued j 0)
 queued_some t n queued places order are complete known j h =
     any_waits places order complete known (node_in t j).inp (node_in t j).inps ∙ ap (ltb 0) (sym (are j h))
@@ -48,7 +49,7 @@ requeued_is m u true queued h k z x = rehold_is m u queued h k z x
 requeued_is m u false queued h k z x = omega (arith, fewer_is m queued h z x)
 
 -- Row r goes from one of node m's inputs to place g: one of its outputs, or, where the row is cut, a place past all inputs
-pub record Sent (t : List ℕ) (f : Plan) (places : List ℕ) (m r g : ℕ) (kept : Bool) : Type 0 where
+pub record Sent (t : List StepNode) (f : Plan) (places : List ℕ) (m r g : ℕ) (kept : Bool) : Type 0 where
   pub mover : m < size f
   pub row : r < length places
   pub from : within (node_in t m).inp (node_in t m).inps (get_or places r 0) ≡ true
@@ -69,7 +70,7 @@ only_one {N} {p} {n} {a} {b} {k} {j} hk hj x e = go (ℕ_discrete k j) (dec_lt k
         within_above (N j).inp (N j).inps x (omega (arith, inputs_apart hj hk (omega arith), w.0)) ∙ sym (ne_eqb k j z)
 
 -- p: the number that stands for the node above the roots
-module _ (t : List ℕ) (p : ℕ) (f : Plan) (listed : Listed t (nodes_at p 0 0 (total (facts f)) f)) (past : size f ≤ p) where
+module _ (t : List StepNode) (p : ℕ) (f : Plan) (listed : Listed t (nodes_at p 0 0 (total (facts f)) f)) (past : size f ≤ p) where
   has : (j : ℕ) → j < size f → Has (node_in t) p 0 0 (total (facts f)) f j
   has j h = listed_has t p 0 (total (facts f)) f listed j h
 

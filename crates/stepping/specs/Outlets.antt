@@ -1,9 +1,7 @@
 -- The state of a stepping (02, P3): the rows that wait, and what has come to each output stream. These are definitions.
-use Rattle.std.specs.Prelude.{Bool, true, cond, ◌&&◌, List, [], ◌∷◌, ◌++◌, map, ℕ, suc, ◌+◌, eqb, ltb, leb}
+use Rattle.std.specs.Prelude.{Bool, true, cond, ◌&&◌, List, [], ◌∷◌, ◌++◌, map, ℕ, suc, ◌+◌, eqb, ltb, leb, Option, Some, None}
 use Rattle.row_order.specs.Iso.{Row}
 use Rattle.row_order.specs.Lists.{tab}
-use Rattle.plan.specs.declared.Fetch.{Fetch}
-use Rattle.plan.specs.declared.Fetch.TheVariants.{Unlimited, AtMost}
 use Rattle.semantics.specs.Facts.{Facts}
 use Rattle.semantics.specs.Properties.{Cut}
 use Rattle.semantics.specs.Runs.{Streams}
@@ -43,9 +41,9 @@ spread k (l ∷ ss) = map (place k) l ++ spread (suc k) ss
 
 -- ---- cuts: "A row that fetch or skip cuts moves and vanishes." Each output stream counts the rows that come to it (reading 8)
 
-abbrev pub below : ℕ → Fetch → ℕ → Bool
-below skip Unlimited c = true
-below skip (AtMost n) c = ltb c (skip + n)
+abbrev pub below : ℕ → Option ℕ → ℕ → Bool
+below skip None c = true
+below skip (Some n) c = ltb c (skip + n)
 
 -- Whether a stream to which c rows came keeps the next one
 abbrev pub keeps : Cut → ℕ → Bool

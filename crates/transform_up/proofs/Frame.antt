@@ -1,5 +1,5 @@
 -- The walk of a subtree: its children left to right, then the step.
-use Rattle.std.specs.Prelude.{◌≡◌, refl, true, false, cond, List, [], ◌⊎◌, ℕ, suc, ◌+◌, ◌*◌, ◌-◌, ◌≤◌, ◌<◌, length, get_or, take, drop, set}
+use Rattle.std.specs.Prelude.{◌≡◌, refl, true, false, cond, List, [], ◌⊎◌, ℕ, suc, ◌+◌, ◌*◌, ◌-◌, ◌≤◌, ◌<◌, Result, Ok, Err, length, get_or, take, drop, set}
 use Rattle.std.proofs.Common.{sym, ap₂, ◌∙◌, subst, inl, inr, arith, add-one, drop_of_length-le, drop-cons, length-take-le}
 use Rattle.std.proofs.Math.Path.{ap}
 use Rattle.plan.specs.Forest.{none, tree, size}
@@ -13,7 +13,7 @@ use Rattle.arena.specs.declared.At.{At}
 use Rattle.arena.specs.Laws.{below_at}
 use Rattle.walks.specs.Marks.{Tree, node, plant, op_t, size_t, rebuild, strip, bare, transform_up}
 use Rattle.walks.specs.Terms.{◌⊕◌}
-use Rattle.walks.specs.Trees.{Ok, OkT, FitsA, arity}
+use Rattle.walks.specs.Trees.{OkT, FitsA, arity}
 use Rattle.walks.proofs.Theorems.Common.Trees.{ok_fit, strip-size}
 use Rattle.walks.specs.Trees as walks
 use Rattle.walks.proofs.Theorems.Common.Keeps.{kept_node, like_refl, walk_kept, strip-bare}
@@ -24,7 +24,6 @@ use Rattle.plan_context.specs.Nodes.{Seen, seen}
 use Rattle.plan_updates.specs.Kids.{kids_none, kids_more, kids_forest, plus_none}
 use Rattle.transform_up.specs.declared.Walk.{Walk}
 use Rattle.step_ends.specs.declared.Walked.{Walked}
-use Rattle.step_ends.specs.declared.Walked.TheVariants.{Done, Stopped}
 use Rattle.step_ends.specs.declared.Stop.{Stop}
 use Rattle.step_ends.specs.declared.Stop.TheVariants as stop
 use Rattle.transform_up.specs.Walking.{step_of, may_add}
@@ -132,7 +131,7 @@ module _ (w : Walk) (m₀ : List ℕ) (v i n : ℕ) (c : List ℕ) (p : Walkable
               let s = ap size split in let t = ap size_t same_tree in let b = q.low in let e = d.sum in omega arith
 
     -- a child's walk that stops ends this one
-    pub walking_stops : (s : Stop) (m' : List ℕ) → Outcome (Stopped s) w m u (index (get_or (slot m₀ i).kids j 0)) k m' → Outcome (Stopped s) w m₀ v i n m'
+    pub walking_stops : (s : Stop) (m' : List ℕ) → Outcome (Err s) w m u (index (get_or (slot m₀ i).kids j 0)) k m' → Outcome (Err s) w m₀ v i n m'
     walking_stops stop.TooManyNodes m' e =
         ap (count_of w n) shown.tree
         ∙ going_stop (step_of w) n (decode (slot m₀ i).rec) (strip (forest m₀ ks)) (forest m (take j kids)) k (op_t (tree_of m₀ h))
@@ -161,7 +160,7 @@ module _ (w : Walk) (m₀ : List ℕ) (v i n : ℕ) (c : List ℕ) (p : Walkable
     pub before_is : (was : ℕ) → was ≡ size_t (tree_in m₀ i) → (k + was - n ≡ suc (size (forest m (take a kids)))) × (n ≤ k + was)
     before_is was b = let x = whole.1 in let y = whole-size in let z = strip-size (forest m₀ ks) in (omega arith, omega arith)
 
-    ok_whole : Ok (tree (decode (slot m₀ i).rec) (strip (forest m₀ (slot m₀ i).kids)) none)
+    ok_whole : walks.Ok (tree (decode (slot m₀ i).rec) (strip (forest m₀ (slot m₀ i).kids)) none)
     ok_whole = let o = shown.ok in (o.0, o.1, tt)
 
     ok_open : OkT (node (decode (slot m₀ i).rec) false (forest m (take a kids)))
@@ -172,7 +171,7 @@ module _ (w : Walk) (m₀ : List ℕ) (v i n : ℕ) (c : List ℕ) (p : Walkable
         let fits = ok_fit (tree o g none) ok_whole in
         let kept = kept_node {a = may_add w} {b = true} {h = true} o o false false (bare g) (transform_up (step_of w) g) (like_refl o)
         (subst (λ x. FitsA (arity o) (walks.count x)) (sym s) fits.0) (walk_kept (step_of w) (step_keeps w) g fits.1) in
-        let y = subst (λ x. Ok (tree o x none)) (sym s) ok_whole in
+        let y = subst (λ x. walks.Ok (tree o x none)) (sym s) ok_whole in
         subst (λ x. OkT (node o false x)) (sym whole.0) (kept.ok refl (y.0, y.1))
 
     pub walking_end : (c' : List ℕ) → length c' ≡ length c → (before : ℕ) → before ≡ suc (size (forest m (take a kids)))
@@ -207,14 +206,14 @@ module _ (w : Walk) (m₀ : List ℕ) (v i n : ℕ) (c : List ℕ) (p : Walkable
         (total w (rebuild (decode (slot m₀ i).rec) false (forest m (take a kids))) k))
     stepped-is = ap (count_of w n) shown.tree ∙ ap (λ x. bind x (λ d m. stepped (step_of w) (decode (slot m₀ i).rec) d m (λ t k. counted t k))) answer
 
-    pub walking_done : (m' : List ℕ) (r : Walked) → Finished r w (rebuild (decode (slot m i).rec) false (forest m (take a kids))) k m v m'
+    pub walking_done : (m' : List ℕ) (r : Result Walked Stop) → Finished r w (rebuild (decode (slot m i).rec) false (forest m (take a kids))) k m v m'
         → Outcome r w m₀ v i n m'
     walking_done m' r x = go r (subst (λ s. Finished r w (rebuild (decode s.rec) false (forest m (take a kids))) k m v m') (slot_is j u k kids m q) x)
       where
-        go : (r : Walked) → Finished r w (rebuild (decode (slot m₀ i).rec) false (forest m (take a kids))) k m v m' → Outcome r w m₀ v i n m'
-        go (Stopped stop.TooManyNodes) e = stepped-is ∙ ap (λ z. cond z (stopped TooManyNodes) (counted (step_of w t) (total w t k))) e
-        go (Stopped stop.NoRoom) e = let l = q.made.long in omega arith
-        go (Done used root count) e =
+        go : (r : Result Walked Stop) → Finished r w (rebuild (decode (slot m₀ i).rec) false (forest m (take a kids))) k m v m' → Outcome r w m₀ v i n m'
+        go (Err stop.TooManyNodes) e = stepped-is ∙ ap (λ z. cond z (stopped TooManyNodes) (counted (step_of w t) (total w t k))) e
+        go (Err stop.NoRoom) e = let l = q.made.long in omega arith
+        go (Ok d) e =
             let x = p.part in let y = whole.1 in let c₁ = e.counts in let s = ap size_t e.tree in let ws = whole-size in
             let ss = strip-size (forest m₀ ks) in
             record {
@@ -228,7 +227,7 @@ module _ (w : Walk) (m₀ : List ℕ) (v i n : ℕ) (c : List ℕ) (p : Walkable
                 tree = refl;
                 room = omega arith;
               };
-              low = subst (λ z. (used ≤ tidy_from) ⊎ (used ≤ v + size_t z)) (sym e.tree) e.low;
+              low = subst (λ z. (d.used ≤ tidy_from) ⊎ (d.used ≤ v + size_t z)) (sym e.tree) e.low;
               many = e.most;
               sum = omega arith;
             }

@@ -1,5 +1,5 @@
 -- One node's end: room, the rebuilt record, the step and its end.
-use Rattle.std.specs.Prelude.{◌≡◌, refl, Bool, true, false, ◌&&◌, ◌||◌, List, ◌⊎◌, ℕ, suc, ◌+◌, ◌*◌, ◌-◌, ◌/◌, ◌≤◌, ◌<◌, leb, length}
+use Rattle.std.specs.Prelude.{◌≡◌, refl, Bool, true, false, ◌&&◌, ◌||◌, List, ◌⊎◌, ℕ, suc, ◌+◌, ◌*◌, ◌-◌, ◌/◌, ◌≤◌, ◌<◌, Result, Ok, Err, leb, length}
 use Rattle.std.proofs.Common.{sym, ap, ◌∙◌, subst, inl, inr, arith, lt-ltb, le-ltb, leb-true, leb-false}
 use Rattle.plan.specs.Forest.{size}
 use Rattle.plan_codec.specs.Decode.{decode}
@@ -16,7 +16,7 @@ use Rattle.plan_updates.specs.Rebuilt.{rebuilt_tree, rebuilt_over}
 use Rattle.plan_updates.specs.Opened.{Opened, step_room}
 use Rattle.transform_up.specs.declared.Walk.{Walk}
 use Rattle.step_ends.specs.declared.Walked.{Walked}
-use Rattle.step_ends.specs.declared.Walked.TheVariants.{Done, Stopped}
+use Rattle.step_ends.specs.declared.Stop.{Stop}
 use Rattle.step_ends.specs.declared.Stop.TheVariants.{TooManyNodes, NoRoom}
 use Rattle.transform_up.specs.Walking.{step_of}
 use Rattle.step_ends.specs.Tidying.{tidy_from, full_slots, enough}
@@ -51,10 +51,10 @@ pub record Ends (w : Walk) (t : Tree) (n : ℕ) (m : List ℕ) (v : ℕ) (m' : L
   pub tree : tree_of m' root ≡ step_of w t
   pub low : (used ≤ tidy_from) ⊎ (used ≤ v + size_t (step_of w t))
 
-abbrev pub Finished : Walked → Walk → Tree → ℕ → List ℕ → ℕ → List ℕ → Type 0
-Finished (Done used root count) w t n m v m' = Ends w t n m v m' used root count
-Finished (Stopped TooManyNodes) w t n m v m' = too_many (total w t n) ≡ true
-Finished (Stopped NoRoom) w t n m v m' = length m < full_slots * slot_size
+abbrev pub Finished : Result Walked Stop → Walk → Tree → ℕ → List ℕ → ℕ → List ℕ → Type 0
+Finished (Ok x) w t n m v m' = Ends w t n m v m' x.used x.root x.total
+Finished (Err TooManyNodes) w t n m v m' = too_many (total w t n) ≡ true
+Finished (Err NoRoom) w t n m v m' = length m < full_slots * slot_size
 
 -- ---- room
 
@@ -144,9 +144,9 @@ module _ (m : List ℕ) (v u : ℕ) (ks : List ℕ) (i n before : ℕ) (c : List
         count_is : after m₁ s n before ≡ total w (rebuild (decode (slot m i).rec) false (forest m ks)) n
         count_is = let y = ap size_t stepped_tree in let z = p.counts in omega arith
 
-        pub finish_ended : (y : Walked) (m₂ : List ℕ) → Ended y m₁ v s n before m₂
+        pub finish_ended : (y : Result Walked Stop) (m₂ : List ℕ) → Ended y m₁ v s n before m₂
             → Finished y w (rebuild (decode (slot m i).rec) false (forest m ks)) n m v m₂
-        finish_ended (Done used root count) m₂ e =
+        finish_ended (Ok x) m₂ e =
             let k = e.2 in
             record {
               fits = ap too_many (sym count_is) ∙ le-ltb 126 (after m₁ s n before) (let h = e.0 in let l = e.1 in omega arith);
@@ -157,7 +157,7 @@ module _ (m : List ℕ) (v u : ℕ) (ks : List ℕ) (i n before : ℕ) (c : List
               more = k.more;
               here = k.here;
               tree = k.tree ∙ stepped_tree;
-              low = subst (λ t. (used ≤ tidy_from) ⊎ (used ≤ v + size_t t)) stepped_tree k.low;
+              low = subst (λ t. (x.used ≤ tidy_from) ⊎ (x.used ≤ v + size_t t)) stepped_tree k.low;
             }
-        finish_ended (Stopped TooManyNodes) m₂ e = ap too_many (sym count_is) ∙ lt-ltb 126 (after m₁ s n before) e
-        finish_ended (Stopped NoRoom) m₂ e = absurd e
+        finish_ended (Err TooManyNodes) m₂ e = ap too_many (sym count_is) ∙ lt-ltb 126 (after m₁ s n before) e
+        finish_ended (Err NoRoom) m₂ e = absurd e

@@ -1,5 +1,5 @@
 -- What the walk of a subtree asks and answers, and how far it has come among the children.
-use Rattle.std.specs.Prelude.{◌≡◌, List, ◌⊎◌, ℕ, suc, ◌+◌, ◌*◌, ◌-◌, ◌≤◌, ◌<◌, length, take, drop}
+use Rattle.std.specs.Prelude.{◌≡◌, List, ◌⊎◌, ℕ, suc, ◌+◌, ◌*◌, ◌-◌, ◌≤◌, ◌<◌, Result, Ok, Err, length, take, drop}
 use Rattle.plan.specs.Forest.{size}
 use Rattle.plan.specs.declared.Refusal.TheVariants.{TooManyNodes}
 use Rattle.arena.specs.Arena.{slot_size, slot}
@@ -9,7 +9,7 @@ use Rattle.plan_context.specs.View.{tree_in, tree_of, forest, Arena, Grown}
 use Rattle.plan_updates.specs.Kids.{Kids}
 use Rattle.transform_up.specs.declared.Walk.{Walk}
 use Rattle.step_ends.specs.declared.Walked.{Walked}
-use Rattle.step_ends.specs.declared.Walked.TheVariants.{Done, Stopped}
+use Rattle.step_ends.specs.declared.Stop.{Stop}
 use Rattle.step_ends.specs.declared.Stop.TheVariants as stop
 use Rattle.transform_up.specs.Walking.{step_of}
 use Rattle.transform_up.specs.Counting.{count_tree, Going}
@@ -36,10 +36,10 @@ pub record Walks (w : Walk) (m : List ℕ) (v i n : ℕ) (m' : List ℕ) (used r
   pub sum : count + size_t (tree_in m i) ≡ n + size_t (tree_of m' root)
 
 -- What it answers: the definition's tree and count, its refusal 23, or that there was too little room, which a full arena has
-abbrev pub Outcome : Walked → Walk → List ℕ → ℕ → ℕ → ℕ → List ℕ → Type 0
-Outcome (Done used root count) w m v i n m' = Walks w m v i n m' used root count
-Outcome (Stopped stop.TooManyNodes) w m v i n m' = count_of w n (tree_in m i) ≡ stopped TooManyNodes
-Outcome (Stopped stop.NoRoom) w m v i n m' = length m < full_slots * slot_size
+abbrev pub Outcome : Result Walked Stop → Walk → List ℕ → ℕ → ℕ → ℕ → List ℕ → Type 0
+Outcome (Ok x) w m v i n m' = Walks w m v i n m' x.used x.root x.total
+Outcome (Err stop.TooManyNodes) w m v i n m' = count_of w n (tree_in m i) ≡ stopped TooManyNodes
+Outcome (Err stop.NoRoom) w m v i n m' = length m < full_slots * slot_size
 
 -- The first j children are walked: k nodes in the whole plan
 pub record Walking (w : Walk) (m₀ : List ℕ) (v i n j u k : ℕ) (kids m : List ℕ) : Type 0 where

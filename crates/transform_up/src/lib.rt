@@ -1,6 +1,5 @@
 // The walks that go children before parents: one frame for all of them. "Children before parents, each node once": a walk calls itself on each child's
-// subtree, left to
-// right; then one step; then the nodes of the whole plan are counted.
+// subtree, left to right; then one step; then the nodes of the whole plan are counted.
 #![tactic(auto)]
 
 ghost use Rattle.std.specs.Prelude.{false, suc, ◌+◌};
@@ -57,13 +56,13 @@ fn finish(
     n: usize,
     before: usize,
     c: &mut [u8],
-) -> Walked
+) -> Result<Walked, Stop>
     requires { Finish m.old v u ks.now i n before c.old }
     ensures { Finished result w (rebuild (decode (slot m.old i).rec) false (forest m.old ks.now)) n m.old v
         m.new }
 {
     if !has_room(m.len() / SLOT, u + 2 * before + 10) {
-        return Walked::Stopped(Stop::NoRoom);
+        return Err(Stop::NoRoom);
     }
     let r = read64(record_at(m, i));
     let x = rebuilt(m, &r, ks);
@@ -72,7 +71,14 @@ fn finish(
 }
 
 // The walk of slot i's tree, in an arena with v nodes and a plan of n. The new tree stands behind them or shares them; c is lent.
-pub fn transform_up(w: Walk, m: &mut [u8], v: usize, i: usize, n: usize, c: &mut [u8]) -> Walked
+pub fn transform_up(
+    w: Walk,
+    m: &mut [u8],
+    v: usize,
+    i: usize,
+    n: usize,
+    c: &mut [u8],
+) -> Result<Walked, Stop>
     requires { Walkable m.old v i n c.old }
     ensures { Outcome result w m.old v i n m.new }
 {
@@ -81,18 +87,12 @@ pub fn transform_up(w: Walk, m: &mut [u8], v: usize, i: usize, n: usize, c: &mut
     let mut kids = [0usize; 8];
     let mut u = v;
     let mut k = n;
-    let mut left = count;
-    while 0 < left {
-        let j = count - left;
+    for j in 0..count {
         let h = child(m, i, j);
-        let r = transform_up(w, m, u, h / 2, k, c);
-        let Walked::Done(used, root, total) = r else {
-            return r;
-        };
-        u = used;
-        k = total;
-        kids[j] = root;
-        left -= 1;
+        let walked = transform_up(w, m, u, h / 2, k, c)?;
+        u = walked.used;
+        k = walked.total;
+        kids[j] = walked.root;
     }
     finish(w, m, v, u, &kids[..count], i, k, k + was - n, c)
 }

@@ -15,7 +15,7 @@ pub struct Summary {
     pub fetch: u32,
 }
 
-// The node's own fetch, NO_FETCH for none.
+// The node's own fetch, NO_FETCH for none. Kinds are asked by their numbers here, as the definitions (specs/Own.antt) are: they speak of any 64 bytes.
 fn own_fetch(r: &[u8]) -> u32
     requires { length r.now ≡ 64 }
     ensures { result ≡ fetch_in r.now }

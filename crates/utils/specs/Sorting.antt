@@ -1,5 +1,5 @@
 -- Sorts and merges put above a tree.
-use Rattle.std.specs.Prelude.{◌≡◌, refl, Bool, true, false, cond, ◌&&◌, List, [], ◌∷◌, ◌++◌, ℕ, ◌+◌, ◌*◌, ◌≤◌, ◌<◌, ltb, length}
+use Rattle.std.specs.Prelude.{◌≡◌, refl, Bool, true, false, cond, ◌&&◌, List, [], ◌∷◌, ◌++◌, ℕ, ◌+◌, ◌*◌, ◌≤◌, ◌<◌, ltb, length, Option}
 use Rattle.std.proofs.Common.{sym, ap, ap₂, ◌∙◌, subst, arith}
 use Rattle.row_order.specs.Iso.{Key}
 use Rattle.row_order.proofs.Order.{no_bool}
@@ -7,7 +7,6 @@ use Rattle.row_order.specs.Lists.{All}
 use Rattle.plan.specs.Op.{sort_op, merge_op}
 use Rattle.plan.specs.WellFormed.{fetch_ok, node_ok}
 use Rattle.plan.specs.declared.Distribution.{Distribution}
-use Rattle.plan.specs.declared.Fetch.{Fetch}
 use Rattle.plan_codec.specs.Decode.{decode}
 use Rattle.plan_codec.specs.Encode.{encode}
 use Rattle.semantics.specs.Facts.{Facts, met}
@@ -28,15 +27,15 @@ use Rattle.plan_updates.specs.Opening.{grown_none, grown_more, grown_then}
 use Rattle.plan_updates.specs.Covering.{Under, cover_puts, cover_grown, ok_of}
 
 -- Keys and a fetch that a sort over t can have
-pub record Sortable (t : Tree) (ks : List Key) (f : Fetch) : Type 0 where
+pub record Sortable (t : Tree) (ks : List Key) (f : Option ℕ) : Type 0 where
   pub short : length ks ≤ 8
   pub inside : All (λ k. k.col < (fact t).width) ks
   pub fetch : fetch_ok f ≡ true
 
-pub few_keys : (t : Tree) (k : Keys) (f : Fetch) → Sortable t (keys_of k) f → k.len ≤ 8
+pub few_keys : (t : Tree) (k : Keys) (f : Option ℕ) → Sortable t (keys_of k) f → k.len ≤ 8
 few_keys t k f s = let x = s.short in omega (arith, length_keys k.len k.word)
 
-module _ (m : List ℕ) (u h : ℕ) (ks : List Key) (f : Fetch) (a : Arena m u) (hh : h < 2 * u) (s : Sortable (tree_of m h) ks f) where
+module _ (m : List ℕ) (u h : ℕ) (ks : List Key) (f : Option ℕ) (a : Arena m u) (hh : h < 2 * u) (s : Sortable (tree_of m h) ks f) where
   abbrev T : Tree
   T = tree_of m h
 
@@ -111,7 +110,7 @@ pub under_less : (m : List ℕ) (u h : ℕ) → Under m u h 2 → Under m u h 1
 under_less m u h v = let x = v.room in let y = v.small in let z = v.few in
     record { arena = v.arena; here = v.here; room = omega arith; small = omega arith; few = omega arith }
 
-module _ (d : Distribution) (f : Fetch) (ks : List Key) (t : Tree) where
+module _ (d : Distribution) (f : Option ℕ) (ks : List Key) (t : Tree) where
   abbrev Gathered : Bool → List Key → Tree
   Gathered x l = cover_with false (cond x (new_merge l f ++ new_sort (ltb 1 (fact t).streams) l f) (new_sort (ltb 1 (fact t).streams) l f)) t
 
@@ -125,7 +124,7 @@ module _ (d : Distribution) (f : Fetch) (ks : List Key) (t : Tree) where
   stays true (k ∷ l) e = absurd (e refl (omega arith))
   stays false l e = refl
 
-module _ (m : List ℕ) (u h : ℕ) (ks : List Key) (f : Fetch) (d : Distribution) (v : Under m u h 2) (s : Sortable (tree_of m h) ks f) (b : List ℕ)
+module _ (m : List ℕ) (u h : ℕ) (ks : List Key) (f : Option ℕ) (d : Distribution) (v : Under m u h 2) (s : Sortable (tree_of m h) ks f) (b : List ℕ)
     (t : Tells (tree_of m h) b) (k : Keys) (q : Keyed (fresh_keys (told (loaded b)) [] ks) k)
     (m₁ : List ℕ) (lm : length m₁ ≡ length m) (z : At) (g : Grown m u m₁ z (add_sort_above ks f (tree_of m h)) (u + 1)) (x : Bool)
     (ex : x ≡ ltb 1 (told (loaded b)).streams && is_single d) where

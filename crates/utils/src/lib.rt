@@ -13,13 +13,13 @@ use asked_facts::several_streams;
 use key_lists::Keys;
 use met_orders::{fresh_keys, meets};
 use new_records::{merge_record, sort_record};
-use plan::{Distribution, Fetch};
+use plan::Distribution;
 use plan_context::kept::row;
 use plan_updates::put_over;
 use wanted_inputs::is_single;
 
 // A sort of the keys, less the constants and a column's later repeats, over the tree at h; of no keys, none.
-pub fn add_sort_above(m: &mut [u8], u: usize, h: usize, keys: Keys, fetch: Fetch) -> At
+pub fn add_sort_above(m: &mut [u8], u: usize, h: usize, keys: Keys, fetch: Option<u32>) -> At
     requires { Under m.old u h 1 × Sortable (tree_of m.old h) (keys_of keys) fetch }
     ensures { Grown m.old u m.new result (add_sort_above (keys_of keys) fetch (tree_of m.old h)) (u + 1) }
 {
@@ -38,7 +38,7 @@ pub fn add_sort_above_with_distribution(
     u: usize,
     h: usize,
     keys: Keys,
-    fetch: Fetch,
+    fetch: Option<u32>,
     d: Distribution,
 ) -> At
     requires { Under m.old u h 2 × Sortable (tree_of m.old h) (keys_of keys) fetch }
@@ -57,7 +57,13 @@ pub fn add_sort_above_with_distribution(
 }
 
 // A sort only where the tree's order is not that of the keys already.
-pub fn add_sort_above_with_check(m: &mut [u8], u: usize, h: usize, keys: Keys, fetch: Fetch) -> At
+pub fn add_sort_above_with_check(
+    m: &mut [u8],
+    u: usize,
+    h: usize,
+    keys: Keys,
+    fetch: Option<u32>,
+) -> At
     requires { Under m.old u h 1 × Sortable (tree_of m.old h) (keys_of keys) fetch }
     ensures { Grown m.old u m.new result (add_sort_above_with_check (keys_of keys) fetch (tree_of m.old h)) (u + 1) }
 {

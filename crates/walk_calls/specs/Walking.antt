@@ -1,8 +1,7 @@
 -- From the arena to the answer of a walk.
-use Rattle.std.specs.Prelude.{◌≡◌, refl, Bool, true, false, cond, List, ℕ, ◌≤◌, length}
+use Rattle.std.specs.Prelude.{◌≡◌, refl, Bool, true, false, cond, List, ℕ, ◌≤◌, Err, length}
 use Rattle.std.proofs.Common.{sym, ap, ◌∙◌, subst, arith}
 use Rattle.plan.specs.Forest.{none, size}
-use Rattle.plan.specs.Numbers.{number_of}
 use Rattle.plan.specs.declared.Refusal.TheVariants.{HasPartialSort, TooManyNodes}
 use Rattle.walks.specs.Marks.{Tree, strip, op_t, plant, size_t}
 use Rattle.walks.specs.Counted.{answer_of, bind, Counted, counted, count_up, refused, stopped, answer_to}
@@ -10,17 +9,15 @@ use Rattle.arena.specs.Arena.{index, held}
 use Rattle.plan_context.specs.View.{tree_in, tree_of, Arena}
 use Rattle.plan_context.specs.Records.{plan_t, tree-held}
 use Rattle.transform_up.specs.declared.Walk.{Walk}
-use Rattle.step_ends.specs.declared.Walked.TheVariants as walked
 use Rattle.step_ends.specs.declared.Stop.{Stop}
 use Rattle.step_ends.specs.declared.Stop.TheVariants as stop
 use Rattle.transform_up.specs.Walking.{step_of}
 use Rattle.transform_up.specs.Counting.{count_tree_lem}
 use Rattle.transform_up.specs.Frame.{count_of, Outcome, Walkable, Walks}
-use Rattle.call_parts.specs.declared.Called.{Called}
-use Rattle.call_parts.specs.declared.Called.TheVariants.{Done, NoRoom}
+use Rattle.call_parts.specs.declared.Stop.TheVariants.{Refused}
 use Rattle.call_answers.specs.Answers.{Result, refuses, gives, rewritten}
 use Rattle.call_parts.specs.PartialSorts.{partial_t, partial_plan, plan_size}
-use Rattle.call_parts.specs.Calls.{stopped_as, CalledAs, short_of, Loads}
+use Rattle.call_parts.specs.Calls.{Called, stopped_as, CalledAs, short_of, Loads}
 use Rattle.plan.specs.Op.{Plan}
 
 -- What the call comes to
@@ -74,10 +71,10 @@ module _ (m : List ℕ) (u h : ℕ) (c : List ℕ) (p : Loads m u h c) (m' : Lis
         → CalledAs r (walk_result w (plan_t (tree_of m h))) out out' n
     called r S e out' n x = subst (λ S. CalledAs r S out out' n) (sym e ∙ ap (λ t. walk_result w (plan_t t)) same_tree) x
 
-    pub partial_refused : (b : Bool) → b ≡ partial_t (tree_in m' (index h)) → b ≡ true → (n : ℕ) → n ≡ number_of HasPartialSort
-        → CalledAs (Done n false) (walk_result w (plan_t (tree_of m h))) out out (short_of m)
-    partial_refused b e z n q = called (Done n false) (refuses HasPartialSort) (has_partial w (tree_of m' h) (size_t (tree_of m' h)) refl (sym e ∙ z)) out
-        (short_of m) (q, refl, refl)
+    pub partial_refused : (b : Bool) → b ≡ partial_t (tree_in m' (index h)) → b ≡ true
+        → CalledAs (Err (Refused HasPartialSort)) (walk_result w (plan_t (tree_of m h))) out out (short_of m)
+    partial_refused b e z = called (Err (Refused HasPartialSort)) (refuses HasPartialSort) (has_partial w (tree_of m' h) (size_t (tree_of m' h)) refl (sym e ∙ z)) out
+        (short_of m) (refl, refl, refl)
 
     -- what the walk answers
     module _ (b : Bool) (eb : b ≡ partial_t (tree_in m' (index h))) (z : b ≡ false) (n : ℕ) (en : n ≡ size_t (tree_of m' h)) (m'' : List ℕ)
@@ -93,10 +90,10 @@ module _ (m : List ℕ) (u h : ℕ) (c : List ℕ) (p : Loads m u h c) (m' : Lis
       pub walk_count : (used root count : ℕ) → Walks w m' u (index h) n m'' used root count → (count ≡ size_t (tree_of m'' root)) × (count ≤ 126)
       walk_count used root count d = let s = d.sum in (omega arith, d.many)
 
-      pub walk_stopped : (s : Stop) → Outcome (walked.Stopped s) w m' u (index h) n m'' → (r : Called) → r ≡ stopped_as s
+      pub walk_stopped : (s : Stop) → Outcome (Err s) w m' u (index h) n m'' → (r : Called) → r ≡ stopped_as s
           → CalledAs r (walk_result w (plan_t (tree_of m h))) out out (short_of m)
       walk_stopped stop.TooManyNodes x r e =
           subst (λ r. CalledAs r (walk_result w (plan_t (tree_of m h))) out out (short_of m)) (sym e)
-          (called (Done (number_of TooManyNodes) false) (refuses TooManyNodes) (walk_refuses w (tree_of m' h) n en (sym eb ∙ z) x) out (short_of m)
+          (called (Err (Refused TooManyNodes)) (refuses TooManyNodes) (walk_refuses w (tree_of m' h) n en (sym eb ∙ z) x) out (short_of m)
           (refl, refl, refl))
       walk_stopped stop.NoRoom x r e = subst (λ r. CalledAs r (walk_result w (plan_t (tree_of m h))) out out (short_of m)) (sym e) (refl, omega arith)

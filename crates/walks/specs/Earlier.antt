@@ -1,10 +1,9 @@
 -- Partial sorting as it answered before a sort with nothing left to do stayed: the earlier definition, of document 01, which stands in this file alone; and
 -- what is answered now in its place. These are definitions.
-use Rattle.std.specs.Prelude.{Bool, true, false, cond, List, [], ℕ, zero, suc, ◌-◌, eqb, length}
+use Rattle.std.specs.Prelude.{Bool, true, false, cond, List, [], ℕ, zero, suc, ◌-◌, eqb, length, Option}
 use Rattle.row_order.specs.Iso.{Key}
 use Rattle.plan.specs.Forest.{none, tree}
 use Rattle.plan.specs.Op.{Op, partial_sort, Plan, sort_op}
-use Rattle.plan.specs.declared.Fetch.{Fetch}
 use Rattle.plan.specs.declared.Refusal.TheVariants.{NoSuchNode}
 use Rattle.semantics.specs.Facts.{at0, facts, met}
 use Rattle.semantics.specs.Properties.{any_of, endless}
@@ -18,11 +17,11 @@ pub data EarlierNode : Type 0 where
   became : Op → EarlierNode
 
 -- n: the keys met. With none the sort stayed
-abbrev pub earlier_prefix : Bool → List Key → Fetch → ℕ → Op
+abbrev pub earlier_prefix : Bool → List Key → Option ℕ → ℕ → Op
 earlier_prefix p ks f zero = sort_op p ks f
 earlier_prefix p ks f (suc n) = partial_sort p ks (suc n) f
 
-abbrev pub earlier_of : Bool → List Key → Fetch → ℕ → EarlierNode
+abbrev pub earlier_of : Bool → List Key → Option ℕ → ℕ → EarlierNode
 earlier_of p ks f n = cond (eqb n (length ks)) past_the_end (became (earlier_prefix p ks f n))
 
 abbrev pub earlier_by : Shape → Op → Plan → EarlierNode

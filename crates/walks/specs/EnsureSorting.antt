@@ -1,11 +1,9 @@
 -- enforce_sorting/mod.rs, ensuring: update_sort_ctx_children_data, remove_corresponding_sort_from_sub_plan,
 -- update_child_to_remove_unnecessary_sort, analyze_immediate_sort_removal, ensure_sorting. These are definitions.
-use Rattle.std.specs.Prelude.{Bool, true, false, cond, not, ◌&&◌, ◌||◌, List, [], ◌∷◌, ℕ, suc, eqb, ltb, leb, length}
+use Rattle.std.specs.Prelude.{Bool, true, false, cond, not, ◌&&◌, ◌||◌, List, [], ◌∷◌, ℕ, suc, eqb, ltb, leb, length, Option, Some, None}
 use Rattle.row_order.specs.Iso.{Key}
 use Rattle.plan.specs.Forest.{Forest, none, tree, roots}
 use Rattle.plan.specs.Op.{Op, coalesce, merge_op, global_limit, local_limit, Plan}
-use Rattle.plan.specs.declared.Fetch.{Fetch}
-use Rattle.plan.specs.declared.Fetch.TheVariants.{Unlimited, AtMost}
 use Rattle.semantics.specs.Facts.{met, is_nil, at0, known_order}
 use Rattle.semantics.specs.Properties.{wanted, singles, maintains, is_limit, remark}
 use Rattle.walks.specs.Marks.{Marked, Tree, strip, known, at, node, plant, over, op_t, fact, fetch_t, set_mark, kid0, unmark, any_mark, any_below, Shape, shape, if_sort, if_merge, if_repartition, rebuild, transform_up}
@@ -32,8 +30,8 @@ update_sort_ctx_children_data b t = node (op_t t) b (connected_each t.kids)
 
 -- "If there is existing ordering .. use SortPreservingMergeExec instead of a CoalescePartitionsExec": the known order, in normal
 -- form (reading 7), with the plan's fetch
-abbrev pub single_stream_op : List Key → Fetch → Op
-single_stream_op [] f = coalesce Unlimited
+abbrev pub single_stream_op : List Key → Option ℕ → Op
+single_stream_op [] f = coalesce None
 single_stream_op (k ∷ ks) f = merge_op (k ∷ ks) f
 
 -- s: a single stream is required
@@ -53,9 +51,9 @@ updated_after_removal m c d =
     cond (any_mark c || is_nil (roots c)) (update_sort_ctx_children_data false (rebuild m.op m.mark d)) (rebuild m.op m.mark d)
 
 -- "Do not remove sorts with fetch"
-abbrev pub drop_sort : Fetch → Tree → Tree
-drop_sort Unlimited t = kid0 t t.kids
-drop_sort (AtMost n) t = t
+abbrev pub drop_sort : Option ℕ → Tree → Tree
+drop_sort None t = kid0 t t.kids
+drop_sort (Some n) t = t
 
 abbrev pub remove_by : Shape → Marked → Forest Marked → Forest Marked → Tree
 remove_by s m c d = if_sort s (λ p ks f. drop_sort f (at m c)) (loosen s (updated_after_removal m c d))
@@ -84,26 +82,26 @@ abbrev pub limit_note : Tree → List Key
 limit_note t = known_order (fact t)
 
 -- "If the sort has a fetch, we need to add a limit": 01's trap, a sort's fetch is not lost along with the sort
-abbrev pub limited : Fetch → Tree → Tree → Tree
-limited Unlimited t c = node (op_t c) false (unmark c.kids)
-limited (AtMost n) t c =
-    over (cond (eqb (fact t).streams 1) (global_limit 0 (AtMost n) (limit_note t)) (local_limit (AtMost n) (limit_note t))) false (set_mark false c)
+abbrev pub limited : Option ℕ → Tree → Tree → Tree
+limited None t c = node (op_t c) false (unmark c.kids)
+limited (Some n) t c =
+    over (cond (eqb (fact t).streams 1) (global_limit 0 (Some n) (limit_note t)) (local_limit (Some n) (limit_note t))) false (set_mark false c)
 
 -- "Replace the sort with a sort-preserving merge": 01's trap, of the sort's own keys and not of the known order
-abbrev pub analyze_immediate_sort_removal : Bool → List Key → Fetch → Tree → Tree → Tree
+abbrev pub analyze_immediate_sort_removal : Bool → List Key → Option ℕ → Tree → Tree → Tree
 analyze_immediate_sort_removal p ks f t c = cond (not p && ltb 1 (fact c).streams) (over (merge_op ks f) false (set_mark false c)) (limited f t c)
 
 -- ---- the loop of ensure_sorting over the children
 
 -- ks: the required order, none if empty; b: the node maintains this child's order (asked before its children change, reading 9);
 -- s: it requires a single stream; f: the fetch of a new sort
-abbrev pub ensure_child : List Key → Bool → Bool → Fetch → Tree → Tree
+abbrev pub ensure_child : List Key → Bool → Bool → Option ℕ → Tree → Tree
 ensure_child [] b s f t = cond (is_nil (known_order (fact t)) || not b) (update_child_to_remove_unnecessary_sort s t) t
 ensure_child (k ∷ ks) b s f t =
     cond (met (fact t) (k ∷ ks)) t
     (update_sort_ctx_children_data true (add_sort_above (k ∷ ks) f (cond (is_nil (known_order (fact t))) t (update_child_to_remove_unnecessary_sort s t))))
 
-abbrev pub ensure_each : (ℕ → List Key) → (ℕ → Bool) → (ℕ → Bool) → Fetch → Forest Marked → Forest Marked
+abbrev pub ensure_each : (ℕ → List Key) → (ℕ → Bool) → (ℕ → Bool) → Option ℕ → Forest Marked → Forest Marked
 ensure_each ks b s f none = none
 ensure_each ks b s f (tree m c r) =
     plant (ensure_child (ks 0) (b 0) (s 0) f (at m c)) (ensure_each (λ i. ks (suc i)) (λ i. b (suc i)) (λ i. s (suc i)) f r)
@@ -116,9 +114,9 @@ abbrev pub after_loop : Tree → Tree
 after_loop t = rebuild (op_t t) false (ensured_kids (op_t t) t.kids)
 
 -- "This SortPreservingMergeExec is unnecessary because its input has a single partition."
-abbrev pub unmerged : Fetch → Tree → Tree
-unmerged Unlimited t = kid0 t t.kids
-unmerged (AtMost n) t = node (local_limit (AtMost n) (limit_note t)) false t.kids
+abbrev pub unmerged : Option ℕ → Tree → Tree
+unmerged None t = kid0 t t.kids
+unmerged (Some n) t = node (local_limit (Some n) (limit_note t)) false t.kids
 
 -- ---- ensure_sorting: the step at one node
 

@@ -1,9 +1,8 @@
 -- Marked trees, and the walk that goes children before parents. These are definitions.
-use Rattle.std.specs.Prelude.{Bool, false, ◌||◌, List, [], ◌∷◌, ℕ, zero, suc}
+use Rattle.std.specs.Prelude.{Bool, false, ◌||◌, List, [], ◌∷◌, ℕ, zero, suc, Option}
 use Rattle.row_order.specs.Iso.{Key}
 use Rattle.plan.specs.Forest.{Forest, none, tree, size, map_f}
 use Rattle.plan.specs.Op.{Op, source, filter, projection, union, repartition, coalesce, sort_op, merge_op, global_limit, local_limit, sort_merge_join, hash_join, output_requirement, partial_sort, aggregate, Plan}
-use Rattle.plan.specs.declared.Fetch.{Fetch}
 use Rattle.semantics.specs.Facts.{Facts, facts_op, facts}
 use Rattle.semantics.specs.Properties.{rebuilt, fetch_op, fetches}
 
@@ -73,7 +72,7 @@ abbrev pub fact : {T : Type 0} → PlanContext T → Facts
 fact t = facts_op (op_t t) (known t.kids)
 
 -- The plan's fetch: for a projection its input's (reading 3)
-abbrev pub fetch_t : {T : Type 0} → PlanContext T → Fetch
+abbrev pub fetch_t : {T : Type 0} → PlanContext T → Option ℕ
 fetch_t t = fetch_op (op_t t) (fetches (strip t.kids))
 
 abbrev pub size_t : {T : Type 0} → PlanContext T → ℕ
@@ -110,10 +109,10 @@ any_below (suc n) p = p 0 || any_below n (λ i. p (suc i))
 -- ---- the kinds that the walks treat apart, with their fields
 
 pub data Shape : Type 0 where
-  a_sort : Bool → List Key → Fetch → Shape
-  a_merge : List Key → Fetch → Shape
+  a_sort : Bool → List Key → Option ℕ → Shape
+  a_merge : List Key → Option ℕ → Shape
   a_repartition : Bool → ℕ → Bool → List Key → Shape
-  a_coalesce : Fetch → Shape
+  a_coalesce : Option ℕ → Shape
   another : Shape
 
 abbrev pub shape : Op → Shape
@@ -135,14 +134,14 @@ shape (aggregate ks n) = another
 
 -- One kind's fields, or what holds of every other kind
 
-abbrev pub if_sort : {A : Type 0} → Shape → (Bool → List Key → Fetch → A) → A → A
+abbrev pub if_sort : {A : Type 0} → Shape → (Bool → List Key → Option ℕ → A) → A → A
 if_sort (a_sort p ks f) g x = g p ks f
 if_sort (a_merge ks f) g x = x
 if_sort (a_repartition p n h ks) g x = x
 if_sort (a_coalesce f) g x = x
 if_sort another g x = x
 
-abbrev pub if_merge : {A : Type 0} → Shape → (List Key → Fetch → A) → A → A
+abbrev pub if_merge : {A : Type 0} → Shape → (List Key → Option ℕ → A) → A → A
 if_merge (a_sort p ks f) g x = x
 if_merge (a_merge ks f) g x = g ks f
 if_merge (a_repartition p n h ks) g x = x
@@ -156,7 +155,7 @@ if_repartition (a_repartition p n h ks) g x = g p n h ks
 if_repartition (a_coalesce f) g x = x
 if_repartition another g x = x
 
-abbrev pub if_coalesce : {A : Type 0} → Shape → (Fetch → A) → A → A
+abbrev pub if_coalesce : {A : Type 0} → Shape → (Option ℕ → A) → A → A
 if_coalesce (a_sort p ks f) g x = x
 if_coalesce (a_merge ks f) g x = x
 if_coalesce (a_repartition p n h ks) g x = x

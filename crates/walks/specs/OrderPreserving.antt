@@ -1,11 +1,8 @@
 -- replace_with_order_preserving_variants.rs. These are definitions.
-use Rattle.std.specs.Prelude.{Bool, true, false, cond, not, ◌&&◌, ◌||◌, List, ℕ, suc, get_or}
+use Rattle.std.specs.Prelude.{Bool, true, false, cond, not, ◌&&◌, ◌||◌, List, ℕ, suc, get_or, Option, Some, None, is_some}
 use Rattle.row_order.specs.Iso.{Key}
 use Rattle.plan.specs.Forest.{Forest, none, tree, roots}
 use Rattle.plan.specs.Op.{Op, repartition, coalesce, merge_op, Plan}
-use Rattle.plan.specs.WellFormed.{some_fetch}
-use Rattle.plan.specs.declared.Fetch.{Fetch}
-use Rattle.plan.specs.declared.Fetch.TheVariants.{Unlimited, AtMost}
 use Rattle.semantics.specs.Facts.{Facts, met, is_nil, keeps_order, nothing, at0, known_order}
 use Rattle.semantics.specs.Properties.{wanted, maintains, cuts, any_of, endless, is_final}
 use Rattle.walks.specs.Marks.{Marked, Tree, strip, known, at, node, plant, op_t, fact, kid0, unmark, any_mark, head_mark, Shape, shape, if_sort, if_merge, if_repartition, if_coalesce, rebuild, transform_up}
@@ -33,7 +30,7 @@ initiates o fs = (is_repartition o && not (maintains o fs 0)) || (is_coalesce_pa
 -- children[0] has none: where it has one, some child has one, and the mark is true anyway
 abbrev pub carries : Op → Forest Marked → Bool
 carries o c =
-    cond (is_nil (roots c) || (is_coalesce_partitions o && some_fetch (cuts o).fetch)) false (any_mark c || initiates o (known c))
+    cond (is_nil (roots c) || (is_coalesce_partitions o && is_some (cuts o).fetch)) false (any_mark c || initiates o (known c))
 
 abbrev pub carry_each : Forest Marked → Forest Marked
 carry_each none = none
@@ -49,30 +46,30 @@ mark_first b none = none
 mark_first b (tree m c r) = tree (record { op = m.op; mark = b }) c r
 
 -- "replace it with a SortPreservingMergeExec if appropriate": of the child's known order, in normal form (reading 7)
-abbrev pub merge_over : Bool → Fetch → Marked → Forest Marked → Tree
+abbrev pub merge_over : Bool → Option ℕ → Marked → Forest Marked → Tree
 merge_over spm f m d =
     cond (spm && not (is_nil (known_order (at0 (known d))))) (node (merge_op (known_order (at0 (known d))) f) false (mark_first true d))
     (rebuild m.op false d)
 
 -- "A fetched coalesce selects rows in arrival order": it stays, and nothing below it is entered
-abbrev pub preserve_coalesce : Fetch → Bool → Fetch → Marked → Forest Marked → Forest Marked → Tree
-preserve_coalesce Unlimited spm f m c d = merge_over spm f m d
-preserve_coalesce (AtMost n) spm f m c d = node m.op false c
+abbrev pub preserve_coalesce : Option ℕ → Bool → Option ℕ → Marked → Forest Marked → Forest Marked → Tree
+preserve_coalesce None spm f m c d = merge_over spm f m d
+preserve_coalesce (Some n) spm f m c d = node m.op false c
 
 -- with_preserve_order, on a new repartition: the mark stays where it counts. Whether the old one maintains is asked before its
 -- children change (reading 9)
-abbrev pub preserve_by : Shape → Bool → Bool → Fetch → Marked → Forest Marked → Forest Marked → Tree
+abbrev pub preserve_by : Shape → Bool → Bool → Option ℕ → Marked → Forest Marked → Forest Marked → Tree
 preserve_by s spr spm f m c d =
     let kept : Tree = rebuild m.op false d in
     if_repartition s (λ p n h ks. cond (not (keeps_order p (at0 (known c))) && spr) (rebuild (repartition true n h ks) false (mark_first true d)) kept)
     (if_coalesce s (λ g. preserve_coalesce g spm f m c d) kept)
 
-abbrev pub preserve_each : Bool → Bool → Fetch → Forest Marked → Forest Marked
+abbrev pub preserve_each : Bool → Bool → Option ℕ → Forest Marked → Forest Marked
 preserve_each spr spm f none = none
 preserve_each spr spm f (tree m c r) =
     plant (cond m.mark (preserve_by (shape m.op) spr spm f m c (preserve_each spr spm f c)) (at m c)) (preserve_each spr spm f r)
 
-abbrev pub plan_with_order_preserving_variants : Bool → Bool → Fetch → Tree → Tree
+abbrev pub plan_with_order_preserving_variants : Bool → Bool → Option ℕ → Tree → Tree
 plan_with_order_preserving_variants spr spm f t = preserve_by (shape (op_t t)) spr spm f t.top t.kids (preserve_each spr spm f t.kids)
 
 -- ---- plan_with_order_breaking_variants: a node m over c, whose entered children became d
@@ -108,7 +105,7 @@ pub record Settings : Type 0 where
 abbrev pub use_order_preserving_variant : Settings → List Key → Tree → Tree → Bool
 use_order_preserving_variant s ks t c = s.prefer || (any_of (endless (strip t.kids)) && is_final (fact c) ks)
 
-abbrev pub alternate_plan : Settings → List Key → Fetch → Tree → Tree → Tree
+abbrev pub alternate_plan : Settings → List Key → Option ℕ → Tree → Tree → Tree
 alternate_plan s ks f t c =
     plan_with_order_preserving_variants (s.spr || use_order_preserving_variant s ks t c) (s.spm || use_order_preserving_variant s ks t c) f c
 

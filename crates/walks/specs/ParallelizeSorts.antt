@@ -1,12 +1,10 @@
 -- enforce_sorting/mod.rs, parallelizing: update_coalesce_ctx_children, remove_bottleneck_in_subplan, get_sort_exprs,
 -- parallelize_sorts. These are definitions.
-use Rattle.std.specs.Prelude.{Bool, true, false, cond, not, ◌&&◌, ◌||◌, List, ℕ, suc, eqb, leb, length}
+use Rattle.std.specs.Prelude.{Bool, true, false, cond, not, ◌&&◌, ◌||◌, List, ℕ, suc, eqb, leb, length, Option, is_some}
 use Rattle.std.specs.Bool.{beq}
 use Rattle.row_order.specs.Iso.{Key}
 use Rattle.plan.specs.Forest.{Forest, none, tree, roots}
 use Rattle.plan.specs.Op.{Op, coalesce, merge_op, Plan}
-use Rattle.plan.specs.WellFormed.{some_fetch}
-use Rattle.plan.specs.declared.Fetch.{Fetch}
 use Rattle.semantics.specs.Facts.{prefixb, is_nil, at0}
 use Rattle.semantics.specs.Properties.{singles, cuts}
 use Rattle.walks.specs.Marks.{Marked, Tree, strip, known, at, plant, over, op_t, fact, set_mark, kid0, head_mark, Shape, shape, if_sort, if_merge, if_repartition, if_coalesce, rebuild, transform_up}
@@ -21,7 +19,7 @@ any_mark_at p (tree m c r) = (m.mark && p 0) || any_mark_at (λ i. p (suc i)) r
 
 -- "A fetched coalesce selects rows before the sort": it is no bottleneck
 abbrev pub bottleneck : Op → Bool
-bottleneck o = is_coalesce_partitions o && not (some_fetch (cuts o).fetch)
+bottleneck o = is_coalesce_partitions o && not (is_some (cuts o).fetch)
 
 -- The mark of a node o over c
 abbrev pub update_coalesce_ctx_children : Op → Forest Marked → Bool
@@ -99,11 +97,11 @@ without_self t = kid0 (remove_bottleneck_in_subplan t) (bottlenecks_removed t)
 -- ---- parallelize_sorts: the step at one node
 
 -- get_sort_exprs: the keys and fetch of a sort or a merge, as written (reading 7); or what holds of every other kind
-abbrev pub get_sort_exprs : {A : Type 0} → Shape → (List Key → Fetch → A) → A → A
+abbrev pub get_sort_exprs : {A : Type 0} → Shape → (List Key → Option ℕ → A) → A → A
 get_sort_exprs s g x = if_sort s (λ p ks f. g ks f) (if_merge s g x)
 
 -- "replace the CoalescePartitionsExec + SortExec cascade with a SortExec + SortPreservingMergeExec cascade"
-abbrev pub cascade : List Key → Fetch → Tree → Tree
+abbrev pub cascade : List Key → Option ℕ → Tree → Tree
 cascade ks f t = cond (leb (fact t).streams 1) (over (merge_op ks f) false (add_sort_above_with_check ks f (without_self t))) t
 
 abbrev pub parallel_by : Shape → Tree → Tree

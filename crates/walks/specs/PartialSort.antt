@@ -1,9 +1,8 @@
 -- enforce_sorting/mod.rs, replace_with_partial_sort: it works on one node. These are definitions.
-use Rattle.std.specs.Prelude.{Bool, cond, ◌||◌, List, [], ◌∷◌, ◌++◌, ℕ, zero, suc, ◌-◌, eqb, ltb, length}
+use Rattle.std.specs.Prelude.{Bool, cond, ◌||◌, List, [], ◌∷◌, ◌++◌, ℕ, zero, suc, ◌-◌, eqb, ltb, length, Option}
 use Rattle.row_order.specs.Iso.{Key}
 use Rattle.plan.specs.Forest.{none, tree, size}
 use Rattle.plan.specs.Op.{Op, sort_op, partial_sort, Plan}
-use Rattle.plan.specs.declared.Fetch.{Fetch}
 use Rattle.semantics.specs.Facts.{Facts, met, facts, at0}
 use Rattle.semantics.specs.Properties.{any_of, endless}
 use Rattle.walks.specs.Marks.{Shape, shape, if_sort}
@@ -15,7 +14,7 @@ common_prefix_length F done (k ∷ ks) = cond (met F (done ++ (k ∷ []))) (suc 
 
 -- n: the keys met. With none of them the sort stays (reading 11), and with all: "partial sorting of such a sort answers the tree unchanged" (02, P2);
 -- the Rust indexes past the end there
-abbrev pub partial_of : Bool → List Key → Fetch → ℕ → Op
+abbrev pub partial_of : Bool → List Key → Option ℕ → ℕ → Op
 partial_of p ks f n = cond (eqb n 0 || eqb n (length ks)) (sort_op p ks f) (partial_sort p ks n f)
 
 -- 01, 'The four walks': it "returns a non-sort or a bounded child unchanged"

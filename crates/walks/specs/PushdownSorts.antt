@@ -3,14 +3,12 @@
 -- children; the visits of the nodes that a step adds, two at most, are written out in it. These are definitions.
 -- That this is the Rust's transform_down is proved: crate push_literal has the Rust's own form, and `accepted_is_literal` (SameAnswers) says
 -- that the two answer the same, 23 and 25 included. So `peak` and `quiet`, by which Counted counts a visit's steps, need not be believed.
-use Rattle.std.specs.Prelude.{Bool, true, false, cond, ◌||◌, List, [], ◌++◌, ℕ, suc, get_or}
+use Rattle.std.specs.Prelude.{Bool, true, false, cond, ◌||◌, List, [], ◌++◌, ℕ, suc, get_or, Option, None}
 use Rattle.row_order.specs.Iso.{Key}
 use Rattle.plan.specs.Forest.{Forest, none, tree}
 use Rattle.plan.specs.Op.{Op, Plan, sort_op}
 use Rattle.plan.specs.declared.Distribution.{Distribution}
 use Rattle.plan.specs.declared.Distribution.TheVariants.{Unspecified}
-use Rattle.plan.specs.declared.Fetch.{Fetch}
-use Rattle.plan.specs.declared.Fetch.TheVariants.{Unlimited}
 use Rattle.semantics.specs.Facts.{at0, compatible, Facts, facts, facts_op, is_nil, met, nf, known_order}
 use Rattle.semantics.specs.Properties.{dist_of, fetches, fetch_op, fresh_keys, rebuilt, sort_dist, wanted}
 use Rattle.walks.specs.Marks.{cover, if_sort, kid0, Marked, node, plant, rebuild, Shape, shape, strip, Tree}
@@ -42,10 +40,10 @@ with_own_distribution o i = asked (record { order = default_requirements.order; 
 
 -- assign_initial_requirements, of child number i of a node o over c
 abbrev pub assign_initial_requirements : Op → Plan → ℕ → Visit
-assign_initial_requirements o c i = asked (record { order = wanted o i; fetch = get_or (fetches c) i Unlimited; dist = dist_of o i })
+assign_initial_requirements o c i = asked (record { order = wanted o i; fetch = get_or (fetches c) i None; dist = dist_of o i })
 
 -- "child.data.distribution_requirement = stronger_distribution(..)": orders ks, fetch f and distribution d for the children of o
-abbrev pub hand_down : (ℕ → List Key) → Fetch → Distribution → Op → ℕ → Visit
+abbrev pub hand_down : (ℕ → List Key) → Option ℕ → Distribution → Op → ℕ → Visit
 hand_down ks f d o i = asked (record { order = ks i; fetch = f; dist = stronger_distribution d (dist_of o i) })
 
 -- ---- a decision
@@ -80,47 +78,47 @@ new_ordering F ks = nf F [] (fresh_keys F [] ks)
 -- ---- pushdown_sorts_helper at a sort p ks f over c, visited with q
 
 -- sort_ordering: in normal form (reading 7)
-abbrev pub sort_ordering : Bool → List Key → Fetch → Plan → List Key
+abbrev pub sort_ordering : Bool → List Key → Option ℕ → Plan → List Key
 sort_ordering p ks f c = known_order (facts_op (sort_op p ks f) (facts c))
 
 -- No order is required: "just propagate the stricter fetch and ordering requirements". Its child's distribution stays: of the root's
 -- child what assign_initial_requirements gave it, else none
-abbrev pub sort_unasked : Bool → List Key → Fetch → Visit → Plan → Decision
+abbrev pub sort_unasked : Bool → List Key → Option ℕ → Visit → Plan → Decision
 sort_unasked p ks f q c =
     removed (sort_op p ks f)
     (below_sort (record { order = sort_ordering p ks f c; fetch = min_fetch f q.req.fetch; dist = cond q.root (sort_dist p) Unspecified }))
 
 -- "Sort was unnecessary, just propagate the stricter fetch and ordering requirements. Reset distribution to Unspecified"
-abbrev pub sort_unnecessary : Bool → List Key → Fetch → Visit → Plan → Decision
+abbrev pub sort_unnecessary : Bool → List Key → Option ℕ → Visit → Plan → Decision
 sort_unnecessary p ks f q c =
     let own : List Key = sort_ordering p ks f c in
     let stricter : List Key = cond (compatible (at0 (facts c)) own q.req.order) own q.req.order in
     removed (sort_op p ks f) (below_sort (record { order = stricter; fetch = min_fetch f q.req.fetch; dist = Unspecified }))
 
 -- "The sort was imposing a different ordering": a sort of the required order in its place, and the old order goes on
-abbrev pub sort_replaced : Bool → List Key → Fetch → Visit → Plan → Decision
+abbrev pub sort_replaced : Bool → List Key → Option ℕ → Visit → Plan → Decision
 sort_replaced p ks f q c =
     replaced (sort_above_with_distribution (at0 (facts c)) q.req.order q.req.fetch q.req.dist) (sort_op p ks f)
     (below_sort (record { order = sort_ordering p ks f c; fetch = f; dist = Unspecified }))
 
 -- The same where a merge comes too: `children[0]` is the new sort there (reading 8). Its visit finds another order required again,
 -- the old one: it puts a sort of that in its place, and its own order goes on
-abbrev pub sort_replaced_twice : Bool → List Key → Fetch → Visit → Plan → Decision
+abbrev pub sort_replaced_twice : Bool → List Key → Option ℕ → Visit → Plan → Decision
 sort_replaced_twice p ks f q c =
     let C : Facts = at0 (facts c) in
     replaced (merge_above C q.req.order q.req.fetch ++ sort_above_with_distribution C (sort_ordering p ks f c) f Unspecified) (sort_op p ks f)
     (below_sort (record { order = new_ordering C q.req.order; fetch = q.req.fetch; dist = Unspecified }))
 
-abbrev pub sort_differs : Bool → List Key → Fetch → Visit → Plan → Decision
+abbrev pub sort_differs : Bool → List Key → Option ℕ → Visit → Plan → Decision
 sort_differs p ks f q c = cond (needs_merge (at0 (facts c)) q.req.dist) (sort_replaced_twice p ks f q c) (sort_replaced p ks f q c)
 
 -- satisfy_parent, or parent_is_stricter
-abbrev pub sort_asked : Bool → List Key → Fetch → Visit → Plan → Decision
+abbrev pub sort_asked : Bool → List Key → Option ℕ → Visit → Plan → Decision
 sort_asked p ks f q c =
     let F : Facts = facts_op (sort_op p ks f) (facts c) in
     cond (met F q.req.order || compatible F q.req.order (known_order F)) (sort_unnecessary p ks f q c) (sort_differs p ks f q c)
 
-abbrev pub decide_sort : Bool → List Key → Fetch → Visit → Plan → Decision
+abbrev pub decide_sort : Bool → List Key → Option ℕ → Visit → Plan → Decision
 decide_sort p ks f q c = cond (is_nil q.req.order) (sort_unasked p ks f q c) (sort_asked p ks f q c)
 
 -- ---- pushdown_sorts_helper at another node o over c, visited with q

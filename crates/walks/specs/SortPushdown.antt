@@ -1,18 +1,16 @@
 -- sort_pushdown.rs, first part: what is required of a node, and how a requirement goes past it: min_fetch, stronger_distribution,
 -- expr_source_side, try_pushdown_requirements_to_join, handle_hash_join, handle_custom_pushdown, handle_projection_pushdown,
 -- handle_aggregate_pushdown, pushdown_would_violate_requirements, pushdown_requirement_to_children. These are definitions.
-use Rattle.std.specs.Prelude.{Bool, true, false, cond, not, ◌&&◌, ◌||◌, List, [], ◌∷◌, map, ℕ, zero, suc, ◌+◌, ◌-◌, min, eqb, ltb, leb, length, get_or}
+use Rattle.std.specs.Prelude.{Bool, true, false, cond, not, ◌&&◌, ◌||◌, List, [], ◌∷◌, map, ℕ, zero, suc, ◌+◌, ◌-◌, min, eqb, ltb, leb, length, get_or, Option, Some, None, is_some}
 use Rattle.row_order.specs.Iso.{Key}
 use Rattle.plan.specs.Forest.{roots}
 use Rattle.plan.specs.Op.{Op, source, filter, projection, union, repartition, coalesce, sort_op, merge_op, global_limit, local_limit, sort_merge_join, hash_join, output_requirement, partial_sort, aggregate, Plan}
 use Rattle.plan.specs.Numbers.{code}
-use Rattle.plan.specs.WellFormed.{every, some_fetch, columns_of}
+use Rattle.plan.specs.WellFormed.{every, columns_of}
 use Rattle.plan.specs.declared.JoinType.{JoinType}
 use Rattle.plan.specs.declared.JoinType.TheVariants.{Inner, Left, Right, Full, LeftSemi, LeftAnti, RightSemi, RightAnti}
 use Rattle.plan.specs.declared.Distribution.{Distribution}
 use Rattle.plan.specs.declared.Distribution.TheVariants.{Unspecified, Single, Keyed}
-use Rattle.plan.specs.declared.Fetch.{Fetch}
-use Rattle.plan.specs.declared.Fetch.TheVariants.{Unlimited, AtMost}
 use Rattle.semantics.specs.Facts.{Facts, cl, with_column, eq_key, met, compatible, drop_repeats, ordered, reorder, lowest, is_nil, smj_kept, join_order, at0, at1, facts_op, known_order}
 use Rattle.semantics.specs.Properties.{wanted, maintains, cardinality_equal, supports_limit_pushdown}
 use Rattle.walks.specs.Marks.{any_below}
@@ -21,18 +19,18 @@ use Rattle.walks.specs.Marks.{any_below}
 
 pub record ParentRequirements : Type 0 where
   pub order : List Key
-  pub fetch : Fetch
+  pub fetch : Option ℕ
   pub dist : Distribution
 
 -- 01: "Default of ParentRequirements: no order, no fetch, no distribution."
 abbrev pub default_requirements : ParentRequirements
-default_requirements = record { order = []; fetch = Unlimited; dist = Unspecified }
+default_requirements = record { order = []; fetch = None; dist = Unspecified }
 
 -- 01, 'Worked on paper': "fetch 3 with 5: 3; 3 with none: 3; none with none: none"
-abbrev pub min_fetch : Fetch → Fetch → Fetch
-min_fetch Unlimited g = g
-min_fetch (AtMost m) Unlimited = AtMost m
-min_fetch (AtMost m) (AtMost n) = AtMost (min m n)
+abbrev pub min_fetch : Option ℕ → Option ℕ → Option ℕ
+min_fetch None g = g
+min_fetch (Some m) None = Some m
+min_fetch (Some m) (Some n) = Some (min m n)
 
 -- "keyed {1} with keyed {2}: {1}; with single: single"
 abbrev pub stronger_distribution : Distribution → Distribution → Distribution
@@ -226,13 +224,13 @@ abbrev pub all_below : ℕ → (ℕ → Bool) → Bool
 all_below n p = not (any_below n (λ i. not (p i)))
 
 -- "If there is a limit on the parent plan we cannot push it down through operators that change the cardinality."
-abbrev pub fetch_blocks : Op → Fetch → Bool
-fetch_blocks o f = some_fetch f && not (supports_limit_pushdown o && cardinality_equal o)
+abbrev pub fetch_blocks : Op → Option ℕ → Bool
+fetch_blocks o f = is_some f && not (supports_limit_pushdown o && cardinality_equal o)
 
 -- "Push down through operator with fetch when: requirement is aligned with output ordering, it preserves ordering during execution";
 -- own: the plan's own fetch; n: its children
-abbrev pub through_fetch : Op → Fetch → ℕ → List Facts → Bool
-through_fetch o own n fs = some_fetch own && (supports_limit_pushdown o && all_below n (maintains o fs))
+abbrev pub through_fetch : Op → Option ℕ → ℕ → List Facts → Bool
+through_fetch o own n fs = is_some own && (supports_limit_pushdown o && all_below n (maintains o fs))
 
 -- child_required, the requirement in the child's columns: remapped past a projection
 abbrev pub child_required : Op → List Facts → List Key → Pushed
@@ -241,6 +239,6 @@ child_required o fs parent = cond (eqb (code o) 3) (push_by_kind o fs parent) (g
 abbrev pub handle_fetch : Op → Facts → List Facts → List Key → Pushed
 handle_fetch o F fs parent = cond (is_nil (known_order F) || compatible F parent (known_order F)) (child_required o fs parent) stop
 
-abbrev pub pushdown_requirement_to_children : Op → Fetch → ℕ → List Facts → List Key → Fetch → Pushed
+abbrev pub pushdown_requirement_to_children : Op → Option ℕ → ℕ → List Facts → List Key → Option ℕ → Pushed
 pushdown_requirement_to_children o own n fs parent f =
     cond (fetch_blocks o f) stop (cond (through_fetch o own n fs) (handle_fetch o (facts_op o fs) fs parent) (push_by_kind o fs parent))

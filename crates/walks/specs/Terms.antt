@@ -1,13 +1,12 @@
 -- The words that the theorems on the walks are stated in: skeletons, limits added, what cuts nothing off, sorts of all-constant keys, the sizes after
 -- each step, sorts that have nothing left to do, answers.
 -- These are definitions.
-use Rattle.std.specs.Prelude.{◌≡◌, Bool, true, false, cond, not, ◌&&◌, ◌||◌, List, [], ◌∷◌, ◌++◌, ℕ, suc, ◌+◌, ◌-◌, leb, length}
+use Rattle.std.specs.Prelude.{◌≡◌, Bool, true, false, cond, not, ◌&&◌, ◌||◌, List, [], ◌∷◌, ◌++◌, ℕ, suc, ◌+◌, ◌-◌, leb, length, Option}
 use Rattle.row_order.specs.Iso.{Key}
 use Rattle.plan.specs.Forest.{Forest, none, size, tree}
 use Rattle.plan.specs.Op.{Op, Plan, sort_op}
 use Rattle.plan.specs.Numbers.{code}
 use Rattle.plan.specs.WellFormed.{every, width}
-use Rattle.plan.specs.declared.Fetch.{Fetch}
 use Rattle.plan.specs.declared.Refusal.TheVariants.{ConstantSort, HasPartialSort, TooManyNodes}
 use Rattle.semantics.specs.Facts.{at0, Facts, facts, met}
 use Rattle.semantics.specs.Properties.{any_of, endless, is_limit, simple_op}
@@ -99,7 +98,7 @@ sizes_down a q (tree o c r) =
 pub record SortedAlready (n : ℕ) (f : Plan) : Type 0 where
   pub preserve : Bool
   pub keys : List Key
-  pub fetch : Fetch
+  pub fetch : Option ℕ
   pub child : Plan
   pub right : Plan
   pub here : from_node n f ≡ tree (sort_op preserve keys fetch) child right

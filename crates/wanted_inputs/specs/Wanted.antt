@@ -1,5 +1,5 @@
 -- What a record says that its node wants of its children, as the code reads it. Assumes nothing.
-use Rattle.std.specs.Prelude.{◌≡◌, refl, List, [], ◌∷◌, map, ℕ, zero, suc, ◌+◌, ◌*◌, ◌≤◌, length, get_or, take}
+use Rattle.std.specs.Prelude.{◌≡◌, refl, List, [], ◌∷◌, map, ℕ, zero, suc, ◌+◌, ◌*◌, ◌≤◌, length, get_or, take, Option, None}
 use Rattle.std.proofs.Common.{sym, ap, ◌∙◌, subst, arith, length-drop, get_or-drop, length-take-le}
 use Rattle.std.proofs.lemmas.List.{length-map}
 use Rattle.row_order.specs.Iso.{Key}
@@ -14,8 +14,6 @@ use Rattle.semantics.specs.Properties.{right_key, join_keys, wanted, by_side, co
 use Rattle.plan_codec.specs.Decode.{decode, distribution_of, from_bytes, operator_of}
 use Rattle.plan_codec.proofs.Keys.{on_keys, on_columns}
 use Rattle.key_lists.specs.declared.Keys.{Keys}
-use Rattle.key_lists.specs.declared.Order.{Order}
-use Rattle.key_lists.specs.declared.Order.TheVariants.{Unordered}
 use Rattle.key_lists.specs.Keys as held
 use Rattle.key_lists.specs.Lists.{length_keys}
 use Rattle.record_fields.specs.Fields.{packed_keys, packed_right_keys}
@@ -82,26 +80,26 @@ prefix_inside r p e = p.prefix e
 
 -- ---- orders of the first child, and of the others
 
-pub first_order : (ks : List Key) (j : ℕ) (o : Order) → j ≡ 0 → held.Ordered ks o → held.Ordered (get_or (ks ∷ []) j []) o
+pub first_order : (ks : List Key) (j : ℕ) (o : Option Keys) → j ≡ 0 → held.Ordered ks o → held.Ordered (get_or (ks ∷ []) j []) o
 first_order ks zero o e h = h
 first_order ks (suc j) o e h = absurd (omega arith)
 
-pub no_first : (ks : List Key) (j : ℕ) → (j ≡ 0 → ⊥) → held.Ordered (get_or (ks ∷ []) j []) Unordered
+pub no_first : (ks : List Key) (j : ℕ) → (j ≡ 0 → ⊥) → held.Ordered (get_or (ks ∷ []) j []) None
 no_first ks zero e = absurd (e refl)
 no_first ks (suc j) e = record { is = refl; real = tt }
 
-pub left_order_lem : (on : List On) (ks : List Key) (j : ℕ) (o : Order) → j ≡ 0 → ks ≡ map (λ k. k.key) on → held.Ordered ks o
+pub left_order_lem : (on : List On) (ks : List Key) (j : ℕ) (o : Option Keys) → j ≡ 0 → ks ≡ map (λ k. k.key) on → held.Ordered ks o
     → held.Ordered (get_or (join_keys on) j []) o
 left_order_lem on ks zero o e d h = subst (λ l. held.Ordered l o) d h
 left_order_lem on ks (suc j) o e d h = absurd (omega arith)
 
-pub right_order_lem : (on : List On) (ks : List Key) (j : ℕ) (o : Order) → j ≡ 1 → ks ≡ map right_key on → held.Ordered ks o
+pub right_order_lem : (on : List On) (ks : List Key) (j : ℕ) (o : Option Keys) → j ≡ 1 → ks ≡ map right_key on → held.Ordered ks o
     → held.Ordered (get_or (join_keys on) j []) o
 right_order_lem on ks zero o e d h = absurd (omega arith)
 right_order_lem on ks (suc zero) o e d h = subst (λ l. held.Ordered l o) d h
 right_order_lem on ks (suc (suc j)) o e d h = absurd (omega arith)
 
-pub no_side_lem : (on : List On) (j : ℕ) → (j ≡ 0 → ⊥) → (j ≡ 1 → ⊥) → held.Ordered (get_or (join_keys on) j []) Unordered
+pub no_side_lem : (on : List On) (j : ℕ) → (j ≡ 0 → ⊥) → (j ≡ 1 → ⊥) → held.Ordered (get_or (join_keys on) j []) None
 no_side_lem on zero a b = absurd (a refl)
 no_side_lem on (suc zero) a b = absurd (b refl)
 no_side_lem on (suc (suc j)) a b = record { is = refl; real = tt }
@@ -109,13 +107,13 @@ no_side_lem on (suc (suc j)) a b = record { is = refl; real = tt }
 -- ---- the wanted order, by the kind
 
 module _ (r : List ℕ) (k : Kind) (e : kind_of (get_or r 0 0) ≡ k) (j : ℕ) where
-  pub wants_this : (o : Order) → held.Ordered (wanted (operator_of k (from_bytes r)) j) o → held.Ordered (wanted (decode r) j) o
+  pub wants_this : (o : Option Keys) → held.Ordered (wanted (operator_of k (from_bytes r)) j) o → held.Ordered (wanted (decode r) j) o
   wants_this o h = subst (λ p. held.Ordered (wanted p j) o) (sym (op_of r k e)) h
 
-  pub wants_none : [] ≡ wanted (operator_of k (from_bytes r)) j → held.Ordered (wanted (decode r) j) Unordered
-  wants_none d = wants_this Unordered (record { is = d; real = tt })
+  pub wants_none : [] ≡ wanted (operator_of k (from_bytes r)) j → held.Ordered (wanted (decode r) j) None
+  wants_none d = wants_this None (record { is = d; real = tt })
 
   -- the keys ks, of the first child
-  pub wants_first : (ks ls : List Key) (o : Order) → ks ≡ ls → get_or (ls ∷ []) j [] ≡ wanted (operator_of k (from_bytes r)) j
+  pub wants_first : (ks ls : List Key) (o : Option Keys) → ks ≡ ls → get_or (ls ∷ []) j [] ≡ wanted (operator_of k (from_bytes r)) j
       → held.Ordered (get_or (ks ∷ []) j []) o → held.Ordered (wanted (decode r) j) o
   wants_first ks ls o d x h = wants_this o (subst (λ l. held.Ordered l o) (ap (λ l. get_or (l ∷ []) j []) d ∙ x) h)

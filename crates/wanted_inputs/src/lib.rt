@@ -12,7 +12,7 @@ ghost use Rattle.record_fields.specs.Proper.{pairs_of, Proper};
 
 use byte_rows::wide;
 use key_list_algebra::column_set;
-use key_lists::{Keys, Order, front, order_of};
+use key_lists::{Keys, front, order_of};
 use plan::{Distribution, Kind};
 use record_fields::{KIND, ROLE, TAIL, kind_of, preserves};
 use record_keys::{key_list, right_key_list};
@@ -20,18 +20,18 @@ use record_keys::{key_list, right_key_list};
 // ---- wanted orders
 
 // The keys, of the first child.
-fn of_first(keys: Keys, j: usize) -> Order
+fn of_first(keys: Keys, j: usize) -> Option<Keys>
     requires { keys.len ≤ 8 }
     ensures { Ordered (get_or (keys_of keys ∷ []) j []) result }
 {
     if j == 0 {
         return order_of(keys);
     }
-    Order::Unordered
+    None
 }
 
 // A sort-merge join's keys on both sides.
-fn of_side(r: &[u8], j: usize) -> Order
+fn of_side(r: &[u8], j: usize) -> Option<Keys>
     requires { Proper r.now × (kind_of (get_or r.now 0 0) ≡ kinds.SortMergeJoin) }
     ensures { Ordered (get_or (node.join_keys (pairs_of r.now)) j []) result }
 {
@@ -41,31 +41,29 @@ fn of_side(r: &[u8], j: usize) -> Order
     if j == 1 {
         return order_of(right_key_list(r));
     }
-    Order::Unordered
+    None
 }
 
 // The order that the node wants of child j.
-pub fn wanted_order(r: &[u8], j: usize) -> Order
+pub fn wanted_order(r: &[u8], j: usize) -> Option<Keys>
     requires { Proper r.now }
     ensures { Ordered (node.wanted (decode r.now) j) result }
 {
-    let kind = kind_of(r[KIND]);
-    match kind {
-        Kind::Source => Order::Unordered,
-        Kind::Filter => Order::Unordered,
-        Kind::Projection => Order::Unordered,
-        Kind::Union => Order::Unordered,
-        Kind::Repartition => Order::Unordered,
-        Kind::Coalesce => Order::Unordered,
-        Kind::Sort => Order::Unordered,
-        Kind::Merge => of_first(key_list(r), j),
-        Kind::GlobalLimit => Order::Unordered,
-        Kind::LocalLimit => Order::Unordered,
+    match kind_of(r[KIND]) {
+        Kind::Source
+        | Kind::Filter
+        | Kind::Projection
+        | Kind::Union
+        | Kind::Repartition
+        | Kind::Coalesce
+        | Kind::Sort
+        | Kind::GlobalLimit
+        | Kind::LocalLimit
+        | Kind::HashJoin
+        | Kind::Aggregate => None,
+        Kind::Merge | Kind::OutputRequirement => of_first(key_list(r), j),
         Kind::SortMergeJoin => of_side(r, j),
-        Kind::HashJoin => Order::Unordered,
-        Kind::OutputRequirement => of_first(key_list(r), j),
         Kind::PartialSort => of_first(front(key_list(r), wide(r[ROLE])), j),
-        Kind::Aggregate => Order::Unordered,
     }
 }
 
@@ -121,23 +119,21 @@ pub fn wanted_distribution(r: &[u8], j: usize) -> Distribution
     requires { Proper r.now }
     ensures { result ≡ node.dist_of (decode r.now) j }
 {
-    let kind = kind_of(r[KIND]);
-    match kind {
-        Kind::Source => Distribution::Unspecified,
-        Kind::Filter => Distribution::Unspecified,
-        Kind::Projection => Distribution::Unspecified,
-        Kind::Union => Distribution::Unspecified,
-        Kind::Repartition => Distribution::Unspecified,
-        Kind::Coalesce => Distribution::Unspecified,
-        Kind::Sort => sort_distribution(preserves(r)),
-        Kind::Merge => Distribution::Unspecified,
+    match kind_of(r[KIND]) {
+        Kind::Source
+        | Kind::Filter
+        | Kind::Projection
+        | Kind::Union
+        | Kind::Repartition
+        | Kind::Coalesce
+        | Kind::Merge
+        | Kind::LocalLimit
+        | Kind::Aggregate => Distribution::Unspecified,
+        Kind::Sort | Kind::PartialSort => sort_distribution(preserves(r)),
         Kind::GlobalLimit => Distribution::Single,
-        Kind::LocalLimit => Distribution::Unspecified,
         Kind::SortMergeJoin => by_side(r, j),
         Kind::HashJoin => left_single(j),
         Kind::OutputRequirement => distribution_from(r[ROLE], scan::get32(r, TAIL)),
-        Kind::PartialSort => sort_distribution(preserves(r)),
-        Kind::Aggregate => Distribution::Unspecified,
     }
 }
 

@@ -1,6 +1,5 @@
 use native.Mathlib.Omega.{arith}
-use Prim.Native.Nat.{◌-◌}
-use lib.ListN.{length, length-set}
+use lib.ListN.{length-set}
 use Rattle.arena.specs.Held.{numbers_none, numbers_more, numbers_end}
 use Rattle.arena.proofs.put_numbers.Goals as goal
 

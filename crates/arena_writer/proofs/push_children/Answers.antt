@@ -36,4 +36,4 @@ pub shape_of-w : goal.shape_of-w
 shape_of-w c = c.loop-j.invariant.wide
 
 pub returns : goal.returns
-returns c = let l = c.loop-j in pushed_end _ _ _ l.j l.top l.w c.loop-j-test.false l.invariant
+returns c = let l = c.loop-j in pushed_end _ _ _ l.j l.top l.w (omega arith) l.invariant

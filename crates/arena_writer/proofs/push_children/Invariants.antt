@@ -4,6 +4,3 @@ use Rattle.arena_writer.proofs.push_children.Given as goal
 
 abbrev pub invariant-loop-j : goal.invariant-loop-j
 invariant-loop-j l = Pushed (slot l.m l.k).kids l.t l.initial.w l.j l.top l.w
-
-abbrev pub decreases-loop-j : goal.decreases-loop-j
-decreases-loop-j l = l.j

@@ -1,6 +1,5 @@
 use native.Mathlib.Omega.{arith}
 use mathlib.Core.Path.{refl, sym, ◌∙◌}
-use Prim.Native.Nat.{◌-◌}
 use lib.ListN.{replicate, length-set, length-take, length-drop}
 use Rattle.plan_writer.specs.Laws.{blocks_end}
 use Rattle.arena_writer.specs.Streams.{streamed_start, streamed_more}

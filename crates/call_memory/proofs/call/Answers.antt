@@ -7,7 +7,7 @@ use Rattle.call_memory.specs.Memory.{inside, outside}
 use Rattle.call_memory.proofs.call.Goals as goal
 
 pub returns-then-blocks : goal.returns-then-blocks
-returns-then-blocks c = outside (result_of c.args.k) c.args.plan.now c.args.out.now _ (c.number.ensures ∙ ap number_of c.refusal_of.ensures) c.if-blocks.true
+returns-then-blocks c = outside (result_of c.args.k) c.args.plan.now c.args.out.now _ (c.number_of.ensures ∙ ap number_of c.refusal_of.ensures) c.if-blocks.true
 
 pub overflow_sub-last : goal.overflow_sub-last
 overflow_sub-last c = let i = (inside (block_count c.args.plan.now) c.if-blocks.false).0 in omega arith

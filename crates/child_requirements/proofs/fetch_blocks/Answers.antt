@@ -3,5 +3,5 @@ use mathlib.Core.Bool.{not, ◌&&◌}
 use Rattle.child_requirements.proofs.fetch_blocks.Goals as goal
 
 pub returns : goal.returns
-returns c = ap₂ ◌&&◌ c.some_fetch.ensures
+returns c = ap₂ ◌&&◌ c.is_some.ensures
     (ap not (ap₂ ◌&&◌ c.supports_limit_pushdown.ensures c.cardinality_equal.ensures))

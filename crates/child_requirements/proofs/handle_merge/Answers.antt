@@ -10,11 +10,11 @@ returns-in_default c = λ m. merge_stop (told c.args.own.now) (keys_of c.args.pa
 pub returns-then-compatible : goal.returns-then-compatible
 returns-then-compatible c = λ m. merge_goes (told c.args.own.now)
     (keys_of c.args.parent) _ _ m
-    c.known_order.ensures c.in-By.is _
+    c.known_order.ensures c.in-Some.is _
     c.compatible.ensures c.if-compatible.true _ (c.handle_custom_pushdown.ensures m)
 
 pub returns : goal.returns
 returns c = λ m. merge_differs (told c.args.own.now)
     (keys_of c.args.parent) _ _ m
-    c.known_order.ensures c.in-By.is _ c.compatible.ensures
+    c.known_order.ensures c.in-Some.is _ c.compatible.ensures
     c.if-compatible.false

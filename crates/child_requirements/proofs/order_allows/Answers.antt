@@ -10,4 +10,4 @@ returns-in_default c = order_allows_none (told c.args.own.now) (keys_of c.args.p
 pub returns : goal.returns
 returns c = order_allows_some (told c.args.own.now)
     (keys_of c.args.parent) _ _ c.known_order.ensures
-    c.in-By.is _ c.compatible.ensures
+    c.in-Some.is _ c.compatible.ensures

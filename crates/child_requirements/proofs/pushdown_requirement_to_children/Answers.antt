@@ -2,7 +2,7 @@ use mathlib.Core.Path.{sym, ◌∙◌, subst}
 use Rattle.plan_codec.specs.Decode.{decode}
 use Rattle.key_lists.specs.Keys.{keys_of}
 use Rattle.push_requirements.specs.Pushing.{HandsOn}
-use Rattle.push_requirements.specs.declared.Pushed.TheVariants.{Stop}
+use Rattle.std.specs.Prelude.{None}
 use Rattle.push_requirements.specs.Answers.{cond_yes, cond_no}
 use Rattle.child_requirements.specs.Children.{limit_of, of_like}
 use Rattle.semantics.specs.Facts as sem
@@ -16,8 +16,8 @@ pub returns-then-fetch_blocks : goal.returns-then-fetch_blocks
 returns-then-fetch_blocks c = λ o fs ts m s e. let n = decode c.args.r.now in
     let ps = keys_of c.args.parent in
     of_like n o fs m _ _ _ s ts c.args.limit e ps
-    c.args.fetch Stop
-    (cond_yes m (walk.fetch_blocks n c.args.fetch) walk.stop _ Stop
+    c.args.fetch None
+    (cond_yes m (walk.fetch_blocks n c.args.fetch) walk.stop _ None
     (sym c.fetch_blocks.ensures ∙ c.if-fetch_blocks.true) tt)
 
 pub through_fetch-requires : goal.through_fetch-requires

@@ -10,4 +10,4 @@ returns-in_default c = violates_none (decode c.args.r.now) (keys_of c.args.paren
 pub returns : goal.returns
 returns c = violates_some (decode c.args.r.now)
     (keys_of c.args.parent) _ _ c.wanted_order.ensures
-    c.in-By.is _ c.none_equal.ensures
+    c.in-Some.is _ c.none_equal.ensures

@@ -1,4 +1,4 @@
-use mathlib.Core.Path.{sym, ap, ap₂}
+use mathlib.Core.Path.{◌∙◌, sym, ap, ap₂}
 use Rattle.class_tables.specs.Tables.{at}
 use mathlib.Core.Bool.{Bool, ◌&&◌}
 use lib.Dec.{eqb}
@@ -11,5 +11,6 @@ returns-then-low c = ap₂ ◌&&◌ (sym (rw (c.low.ensures, c.low-2.ensures) at
 
 pub returns-else-low : goal.returns-else-low
 returns-else-low c = let s = c.args in
-    ap (λ (x : Bool). x && eqb (at s.b.now s.i) (at s.b.now s.c))
+    ne_eqb _ _ c.if-low.false
+    ∙ ap (λ (x : Bool). x && eqb (at s.b.now s.i) (at s.b.now s.c))
     (sym (rw (c.low.ensures, c.low-2.ensures) at (ne_eqb _ _ c.if-low.false)))

@@ -1,13 +1,8 @@
 use mathlib.Core.Path.{◌≡◌}
 use mathlib.Core.Bool.{true}
-use Prim.Native.Nat.{◌≤◌, ◌-◌}
-use lib.ListN.{length}
 use Rattle.plan_format.specs.LastPass.{column_ok}
 use Rattle.scan.specs.Bytes.{all_below}
 use Rattle.column_rules.proofs.columns_ok.Given as goal
 
 abbrev pub invariant-loop-i : goal.invariant-loop-i
-invariant-loop-i l = (l.i ≤ length l.l) × (all_below (column_ok l.l l.limit) l.i ≡ true)
-
-abbrev pub decreases-loop-i : goal.decreases-loop-i
-decreases-loop-i l = length l.l - l.i
+invariant-loop-i l = all_below (column_ok l.l l.limit) l.i ≡ true

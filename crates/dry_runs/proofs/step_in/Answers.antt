@@ -9,8 +9,8 @@ use Rattle.dry_runs.proofs.step_in.Goals as goal
 pub run-requires : goal.run-requires
 run-requires c = let a = c.args in let p = c.requires in begun a.plan.now a.n a.rows.now a.m.now a.u a.slots.now a.nodes.now a.gone (length a.places.now) (length a.held.now) (length a.flags.now) a.counts.now p.0 p.1 p.4 p.3.past p.3.few c.load.new.cells c.load.new.nulls c.load.new.widths c.load.new.places c.load.new.order c.load.new.held c.load.new.queued c.load.ensures
 
-pub bounds-nodes-3 : goal.bounds-nodes-3
-bounds-nodes-3 c = let a = c.args in let p = c.requires in root_inside (plan_of a.plan.now) a.nodes.now p.0.well p.1.listed
+pub bounds-nodes-0 : goal.bounds-nodes-0
+bounds-nodes-0 c = let a = c.args in let p = c.requires in root_inside (plan_of a.plan.now) a.nodes.now p.0.well p.1.listed
 
 pub deliver-requires : goal.deliver-requires
 deliver-requires c = let a = c.args in let p = c.requires in let x = ended a.plan.now a.n a.rows.now a.m.now a.u a.slots.now a.nodes.now a.gone (length a.places.now) (length a.held.now) (length a.flags.now) a.counts.now p.0 p.1 p.4 p.3.past p.3.few c.load.new.cells c.load.new.nulls c.load.new.widths c.load.new.places c.load.new.order c.load.new.held c.load.new.queued c.load.ensures a.choices.now c.run.new.cells c.run.new.nulls c.run.new.widths c.run.new.places c.run.new.order c.run.new.counts c.run.new.held c.run.new.queued c.run.ensures in (x.known, x.room, omega (arith, c.run.auto.order, c.load.auto.order, p.2.order_long, p.0.few_rows), omega (arith, root_streams_lem (plan_of a.plan.now) a.nodes.now p.0.well p.1.listed, few_streams (plan_of a.plan.now) p.0.well))

@@ -6,7 +6,6 @@ use lib.Seq.{length-take-le}
 use Rattle.plan_codec.specs.Decode.{decode}
 use Rattle.semantics.specs.Properties.{wanted, singles}
 use Rattle.key_lists.specs.Keys.{Ordered}
-use Rattle.arena.specs.Arena.{slot}
 use Rattle.walks.specs.OutputRequirements.{output_fetch}
 use Rattle.sort_connection.specs.Standing.{view, slot_room, own_proper}
 use Rattle.plan_updates.specs.ChildLoop.{node_room, few_kids, kid_there}
@@ -29,18 +28,18 @@ child_count-n-requires c = slot_room c.args.m.now c.args.u c.args.h (standing c.
 
 pub loop-j-init : goal.loop-j-init
 loop-j-init c = let g = going-none c.args.m.now c.args.u c.args.h c.requires (replicate 8 0) refl in
-    (c.child_count-n.ensures ∙ (few_kids c.requires.arena c.requires.here g.made).1, omega arith, g)
+    (c.child_count-n.ensures ∙ (few_kids c.requires.arena c.requires.here g.made).1, g)
 
 pub child-k-requires : goal.child-k-requires
-child-k-requires c = let l = c.loop-j in let i₀ = l.invariant.0 in let i₁ = l.invariant.1 in let x = c.loop-j-test.true in
-    let f = few_kids c.requires.arena c.requires.here l.invariant.2.made in let f₀ = f.0 in let f₁ = f.1 in let wd = l.invariant.2.made.wide in
-    (node_room c.requires.arena c.requires.here l.invariant.2.made, omega arith, f.0)
+child-k-requires c = let l = c.loop-j in let i₀ = l.invariant.0 in let x = c.loop-j-test.true in
+    let f = few_kids c.requires.arena c.requires.here l.invariant.1.made in let f₀ = f.0 in let f₁ = f.1 in let wd = l.invariant.1.made.wide in
+    (node_room c.requires.arena c.requires.here l.invariant.1.made, omega arith, f.0)
 
 pub maintains_child-keeps-requires : goal.maintains_child-keeps-requires
-maintains_child-keeps-requires c = let l = c.loop-j in let i₀ = l.invariant.0 in let i₁ = l.invariant.1 in let x = c.loop-j-test.true in (
-  still c.args.m.now c.args.u c.args.h c.requires l.j l.w l.kids l.m l.invariant.2,
+maintains_child-keeps-requires c = let l = c.loop-j in let i₀ = l.invariant.0 in let x = c.loop-j-test.true in (
+  still c.args.m.now c.args.u c.args.h c.requires l.j l.w l.kids l.m l.invariant.1,
   kid_there c.requires.arena c.requires.here
-      l.invariant.2.made (omega arith),
+      l.invariant.1.made (omega arith),
 )
 
 pub wants_single-single-requires : goal.wants_single-single-requires
@@ -55,8 +54,8 @@ wanted_order-order-requires c = own_proper c.args.m.now c.args.u c.args.h (stand
 
 pub ensure_child-a-requires : goal.ensure_child-a-requires
 ensure_child-a-requires c = let l = c.loop-j in let i₀ = l.invariant.0 in
-    let i₁ = l.invariant.1 in let x = c.loop-j-test.true in
-    child_asks c.args.m.now c.args.u c.args.h c.requires l.j l.w l.kids l.m l.invariant.2 (omega arith) _
+    let x = c.loop-j-test.true in
+    child_asks c.args.m.now c.args.u c.args.h c.requires l.j l.w l.kids l.m l.invariant.1 (omega arith) _
     c.child-k.ensures _
     (subst (λ y. Ordered (wanted (decode y) l.j) c.wanted_order-order.result)
     (c.read64-r.ensures
@@ -71,28 +70,19 @@ ensure_child-a-requires c = let l = c.loop-j in let i₀ = l.invariant.0 in
 
 pub offset_bounds-kids-j : goal.offset_bounds-kids-j
 offset_bounds-kids-j c = let l = c.loop-j in let i₀ = l.invariant.0 in
-    let i₁ = l.invariant.1 in let x = c.loop-j-test.true in
-    let f = few_kids c.requires.arena c.requires.here l.invariant.2.made in let f₀ = f.0 in let f₁ = f.1 in let wd = l.invariant.2.made.wide in omega arith
+    let x = c.loop-j-test.true in
+    let f = few_kids c.requires.arena c.requires.here l.invariant.1.made in let f₀ = f.0 in let f₁ = f.1 in let wd = l.invariant.1.made.wide in omega arith
 
 pub bounds-kids-j : goal.bounds-kids-j
 bounds-kids-j c = let l = c.loop-j in let i₀ = l.invariant.0 in
-    let i₁ = l.invariant.1 in let x = c.loop-j-test.true in
-    let f = few_kids c.requires.arena c.requires.here l.invariant.2.made in let f₀ = f.0 in let f₁ = f.1 in let wd = l.invariant.2.made.wide in omega arith
-
-pub overflow_add-j : goal.overflow_add-j
-overflow_add-j c = let l = c.loop-j in let i₀ = l.invariant.0 in
-    let i₁ = l.invariant.1 in let x = c.loop-j-test.true in
-    let f = few_kids c.requires.arena c.requires.here l.invariant.2.made in let f₀ = f.0 in let f₁ = f.1 in let wd = l.invariant.2.made.wide in omega arith
-
-pub loop-j-smaller : goal.loop-j-smaller
-loop-j-smaller c = let x = c.loop-j-test.true in omega arith
+    let x = c.loop-j-test.true in
+    let f = few_kids c.requires.arena c.requires.here l.invariant.1.made in let f₀ = f.0 in let f₁ = f.1 in let wd = l.invariant.1.made.wide in omega arith
 
 pub loop-j-preserved : goal.loop-j-preserved
 loop-j-preserved c = let l = c.loop-j in let i₀ = l.invariant.0 in
-    let i₁ = l.invariant.1 in let x = c.loop-j-test.true in (
+    let x = c.loop-j-test.true in (
       i₀,
-      omega arith,
-      going_more c.args.m.now c.args.u c.args.h c.requires l.j l.w l.kids l.m l.invariant.2 (omega arith) _
+      going_more c.args.m.now c.args.u c.args.h c.requires l.j l.w l.kids l.m l.invariant.1 (omega arith) _
           c.child-k.ensures _
           (subst (λ y. Ordered (wanted (decode y) l.j) c.wanted_order-order.result)
           (c.read64-r.ensures ∙ c.record_at.ensures) c.wanted_order-order.ensures) _
@@ -105,27 +95,26 @@ loop-j-preserved c = let l = c.loop-j in let i₀ = l.invariant.0 in
     )
 
 pub slice_bounds-kids-end : goal.slice_bounds-kids-end
-slice_bounds-kids-end c = let l = c.loop-j in let i₀ = l.invariant.0 in let i₁ = l.invariant.1 in let x = c.loop-j-test.false in
-    let f = few_kids c.requires.arena c.requires.here l.invariant.2.made in let f₀ = f.0 in let f₁ = f.1 in let wd = l.invariant.2.made.wide in omega arith
+slice_bounds-kids-end c = let l = c.loop-j in let i₀ = l.invariant.0 in let x = c.loop-j-test.false in
+    let f = few_kids c.requires.arena c.requires.here l.invariant.1.made in let f₀ = f.0 in let f₁ = f.1 in let wd = l.invariant.1.made.wide in omega arith
 
 pub slice_bounds-finish-end-2 : goal.slice_bounds-finish-end-2
-slice_bounds-finish-end-2 c = let l = c.loop-j in let i₀ = l.invariant.0 in let i₁ = l.invariant.1 in let x = c.loop-j-test.false in
-    let f = few_kids c.requires.arena c.requires.here l.invariant.2.made in let f₀ = f.0 in let f₁ = f.1 in let wd = l.invariant.2.made.wide in
+slice_bounds-finish-end-2 c = let l = c.loop-j in let i₀ = l.invariant.0 in let x = c.loop-j-test.false in
+    let f = few_kids c.requires.arena c.requires.here l.invariant.1.made in let f₀ = f.0 in let f₁ = f.1 in let wd = l.invariant.1.made.wide in
     sym (length-take-le _ l.kids (omega arith))
 
 pub finish-requires : goal.finish-requires
-finish-requires c = let l = c.loop-j in let i₀ = l.invariant.0 in let i₁ = l.invariant.1 in let x = c.loop-j-test.false in
-    going_ends c.args.m.now c.args.u c.args.h c.requires l.j l.w l.kids l.m l.invariant.2 _ (omega arith) i₀ _
+finish-requires c = let l = c.loop-j in let i₀ = l.invariant.0 in let x = c.loop-j-test.false in
+    going_ends c.args.m.now c.args.u c.args.h c.requires l.j l.w l.kids l.m l.invariant.1 _ (omega arith) i₀ _
     (c.read64-r.ensures
     ∙ c.record_at.ensures)
 
 pub shape_of-m : goal.shape_of-m
-shape_of-m c = c.finish.auto.m ∙ c.loop-j.invariant.2.made.long
+shape_of-m c = c.finish.auto.m ∙ c.loop-j.invariant.1.made.long
 
 pub returns : goal.returns
-returns c = let l = c.loop-j in let i₀ = l.invariant.0 in let i₁ = l.invariant.1 in
-    let x = c.loop-j-test.false in
-    end_grown c.args.m.now c.args.u c.args.h c.requires l.j l.w l.kids l.m l.invariant.2 _ (omega arith) i₀ _
+returns c = let l = c.loop-j in let i₀ = l.invariant.0 in let x = c.loop-j-test.false in
+    end_grown c.args.m.now c.args.u c.args.h c.requires l.j l.w l.kids l.m l.invariant.1 _ (omega arith) i₀ _
     (c.read64-r.ensures
     ∙ c.record_at.ensures) _ _
     c.finish.ensures

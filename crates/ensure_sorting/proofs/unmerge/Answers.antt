@@ -18,16 +18,16 @@ keys-requires c = end_proper c.args.m.now c.args.u c.args.h c.args.r.now c.args.
 pub put-requires : goal.put-requires
 put-requires c = limit_puts c.args.m.now c.args.u c.args.h c.args.r.now c.args.ks.now c.requires.0 c.requires.1 _
     c.fetch_field-fetch.ensures
-    (sym c.some_fetch.ensures
-    ∙ c.if-some_fetch.true) c.requires.2 _
+    (sym c.is_some.ensures
+    ∙ c.if-is_some.true) c.requires.2 _
     c.row.ensures.1 _ c.keys.ensures _
     c.normal_form-note.ensures _ c.local_limit_record-x.ensures
 
-pub returns-then-some_fetch : goal.returns-then-some_fetch
-returns-then-some_fetch c = limit_grown c.args.m.now c.args.u c.args.h c.args.r.now c.args.ks.now c.requires.0 c.requires.1 _
+pub returns-then-is_some : goal.returns-then-is_some
+returns-then-is_some c = limit_grown c.args.m.now c.args.u c.args.h c.args.r.now c.args.ks.now c.requires.0 c.requires.1 _
     c.fetch_field-fetch.ensures
-    (sym c.some_fetch.ensures
-    ∙ c.if-some_fetch.true) c.requires.2 _
+    (sym c.is_some.ensures
+    ∙ c.if-is_some.true) c.requires.2 _
     c.row.ensures.1 _
     c.keys.ensures _ c.normal_form-note.ensures _
     c.local_limit_record-x.ensures _ _ c.put.ensures
@@ -37,4 +37,4 @@ bounds-ks-0-2 c = merge_some c.args.m.now c.args.u c.args.h c.args.r.now c.args.
 
 pub returns : goal.returns
 returns c = goes_grown c.args.m.now c.args.u c.args.h c.args.r.now c.args.ks.now c.requires.0 c.requires.1 _
-    c.fetch_field-fetch.ensures (sym c.some_fetch.ensures ∙ c.if-some_fetch.false)
+    c.fetch_field-fetch.ensures (sym c.is_some.ensures ∙ c.if-is_some.false)

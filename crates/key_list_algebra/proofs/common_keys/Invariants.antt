@@ -1,14 +1,7 @@
-use mathlib.Core.Path.{◌≡◌}
-use Prim.Native.Nat.{◌+◌, ◌-◌, ◌≤◌}
-use lib.ListN.{length}
-use Rattle.semantics.specs.Facts.{common}
-use Rattle.key_lists.specs.Keys.{keys_in}
-use Rattle.key_list_algebra.specs.Comparing as compare
+use Rattle.std.specs.Iterator.Adapters.{zip_first, zip_second}
+use Rattle.key_lists.specs.Keys.{keys_left, keys_of}
+use Rattle.key_list_algebra.specs.Comparing.{Sharing}
 use Rattle.key_list_algebra.proofs.common_keys.Given as goal
 
-abbrev pub invariant-loop-left : goal.invariant-loop-left
-invariant-loop-left l = (l.left ≤ l.initial.left)
-    × ((l.initial.left - l.left) + compare.more l.left l.a l.more l.b ≡ length (common (keys_in l.initial.left l.initial.a) (keys_in l.initial.more l.initial.b)))
-
-abbrev pub decreases-loop-left : goal.decreases-loop-left
-decreases-loop-left l = l.left
+abbrev pub invariant-loop-a : goal.invariant-loop-a
+invariant-loop-a l = Sharing l.p (keys_of l.fn.q) l.n (keys_left (zip_first l.a-iterator)) (keys_left (zip_second l.a-iterator))

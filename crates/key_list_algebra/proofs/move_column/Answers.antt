@@ -1,7 +1,7 @@
 use native.Mathlib.Omega.{arith}
 use mathlib.Core.Path.{sym, ◌∙◌, ap, subst⁻¹}
 use lib.Dec.{T}
-use lib.IntN.{ℤ, pos, ◌+ℤ◌, nat_abs}
+use lib.IntN.{pos, ◌+ℤ◌, nat_abs}
 use lib.Signed.{non_neg}
 use mir.Syntax.{w64}
 use mir.Val.{SFits, Fits}

@@ -1,10 +1,7 @@
 use mathlib.Core.Path.{◌≡◌}
-use Prim.Native.Nat.{◌-◌}
-use Rattle.key_list_algebra.specs.Comparing as compare
+use Rattle.semantics.specs.Facts.{prefixb}
+use Rattle.key_lists.specs.Keys.{keys_left, keys_of}
 use Rattle.key_list_algebra.proofs.prefix.Given as goal
 
-abbrev pub invariant-loop-left : goal.invariant-loop-left
-invariant-loop-left l = compare.left l.left l.a l.more l.b ≡ compare.left l.initial.left l.initial.a l.initial.more l.initial.b
-
-abbrev pub decreases-loop-left : goal.decreases-loop-left
-decreases-loop-left l = l.left
+abbrev pub invariant-loop-a : goal.invariant-loop-a
+invariant-loop-a l = prefixb (keys_left l.a-iterator) (keys_left l.others) ≡ prefixb (keys_of l.fn.p) (keys_of l.fn.q)

@@ -6,4 +6,4 @@ returns-in_default c = let s = c.args in none-met s.b.now s.o c.in_default.is
 
 pub returns : goal.returns
 returns c = let s = c.args in
-    some_met s.b.now s.o _ c.meets.result c.in-By.is c.meets.ensures
+    some_met s.b.now s.o _ c.meets.result c.in-Some.is c.meets.ensures

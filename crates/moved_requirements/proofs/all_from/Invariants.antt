@@ -1,9 +1,8 @@
 use mathlib.Core.Path.{◌≡◌}
-use Rattle.moved_requirements.specs.Moving.{all_from}
+use Rattle.std.specs.Prelude.{leb}
+use Rattle.plan.specs.WellFormed.{every}
+use Rattle.key_lists.specs.Keys.{keys_left, keys_of}
 use Rattle.moved_requirements.proofs.all_from.Given as goal
 
-abbrev pub invariant-loop-left : goal.invariant-loop-left
-invariant-loop-left l = all_from l.off l.left l.rest ≡ all_from l.off l.initial.left l.initial.rest
-
-abbrev pub decreases-loop-left : goal.decreases-loop-left
-decreases-loop-left l = l.left
+abbrev pub invariant-loop-key : goal.invariant-loop-key
+invariant-loop-key l = every (λ k. leb l.off k.col) (keys_left l.key-iterator) ≡ every (λ k. leb l.off k.col) (keys_of l.fn.keys)

@@ -1,9 +1,7 @@
 use mathlib.Core.Path.{◌≡◌}
-use Rattle.moved_requirements.specs.Moving.{unequal}
+use Rattle.key_lists.specs.Keys.{keys_left, keys_of}
+use Rattle.walks.specs.SortPushdown.{none_equal}
 use Rattle.moved_requirements.proofs.none_equal.Given as goal
 
-abbrev pub invariant-loop-left : goal.invariant-loop-left
-invariant-loop-left l = unequal l.left l.a l.more l.b ≡ unequal l.initial.left l.initial.a l.initial.more l.initial.b
-
-abbrev pub decreases-loop-left : goal.decreases-loop-left
-decreases-loop-left l = l.left
+abbrev pub invariant-loop-a : goal.invariant-loop-a
+invariant-loop-a l = none_equal (keys_left l.a-iterator) (keys_left l.others) ≡ none_equal (keys_of l.fn.p) (keys_of l.fn.q)

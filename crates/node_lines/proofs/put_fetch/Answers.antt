@@ -8,4 +8,4 @@ pub returns-in_default : goal.returns-in_default
 returns-in_default c = put_as (ap fetch_text (sym c.in_default.is)) (put_most 20 (omega arith) c.put.ensures)
 
 pub returns : goal.returns
-returns c = put_as (ap fetch_text (sym c.in-AtMost.is)) c.put_number.ensures
+returns c = put_as (ap fetch_text (sym c.in-Some.is)) c.put_number.ensures

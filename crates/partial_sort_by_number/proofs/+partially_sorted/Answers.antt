@@ -37,8 +37,8 @@ child-k-requires t c = kid_asks c.args.m.now c.args.u c.args.h (standing c.args.
     (step_low c.args.m.now c.args.u c.args.h c.requires c.args.n c.if-n-eq0.false _
     c.locate-p.ensures _ c.child_count.ensures c.if-j-child_count.false)
 
-pub partially_sorted-below-requires : goal.partially_sorted-below-requires
-partially_sorted-below-requires t c = let q = step_asks c.args.m.now c.args.u c.args.h c.requires c.args.n
+pub partially_sorted-requires : goal.partially_sorted-requires
+partially_sorted-requires t c = let q = step_asks c.args.m.now c.args.u c.args.h c.requires c.args.n
     c.if-n-eq0.false _ c.locate-p.ensures _
     c.child_count.ensures c.if-j-child_count.false _ c.child-k.ensures in let q₀ = q.0 in
     let g = c.decreases in (omega arith, q.1)
@@ -50,29 +50,29 @@ put_child-top-requires t c = step_puts c.args.m.now c.args.u c.args.h c.requires
     c.child_count.ensures
     c.if-j-child_count.false _
     c.child-k.ensures _ _
-    c.partially_sorted-below.ensures
-    c.partially_sorted-below.auto.m _ c.in-Becomes.is
+    c.partially_sorted.ensures
+    c.partially_sorted.auto.m _ c.in_ok-below.was
 
-pub shape_of-m-in-NoSuchNode : goal.shape_of-m-in-NoSuchNode
-shape_of-m-in-NoSuchNode t c = c.partially_sorted-below.auto.m
+pub shape_of-m-in_err-below : goal.shape_of-m-in_err-below
+shape_of-m-in_err-below t c = c.partially_sorted.auto.m
 
-pub returns-in-NoSuchNode : goal.returns-in-NoSuchNode
-returns-in-NoSuchNode t c = step_missing c.args.m.now c.args.u c.args.h c.requires c.args.n
+pub returns-in_err-below : goal.returns-in_err-below
+returns-in_err-below t c = rw c.from_residual.ensures (step_missing c.args.m.now c.args.u c.args.h c.requires c.args.n
     c.if-n-eq0.false _
     c.locate-p.ensures _
     c.child_count.ensures
     c.if-j-child_count.false _ c.child-k.ensures _ _
-    c.partially_sorted-below.ensures c.in-NoSuchNode.is
+    c.partially_sorted.ensures c.in_err-below.was)
 
-pub shape_of-m-in-Becomes : goal.shape_of-m-in-Becomes
-shape_of-m-in-Becomes t c = c.put_child-top.auto.m
-    ∙ c.partially_sorted-below.auto.m
+pub shape_of-m : goal.shape_of-m
+shape_of-m t c = c.put_child-top.auto.m
+    ∙ c.partially_sorted.auto.m
 
-pub returns-in-Becomes : goal.returns-in-Becomes
-returns-in-Becomes t c = step_became c.args.m.now c.args.u c.args.h c.requires c.args.n
+pub returns : goal.returns
+returns t c = step_became c.args.m.now c.args.u c.args.h c.requires c.args.n
     c.if-n-eq0.false _ c.locate-p.ensures _ c.child_count.ensures
     c.if-j-child_count.false _
     c.child-k.ensures _ _
-    c.partially_sorted-below.ensures
-    c.partially_sorted-below.auto.m _
-    c.in-Becomes.is _ _ c.put_child-top.ensures
+    c.partially_sorted.ensures
+    c.partially_sorted.auto.m _
+    c.in_ok-below.was _ _ c.put_child-top.ensures

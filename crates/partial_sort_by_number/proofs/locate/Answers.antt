@@ -1,7 +1,6 @@
 use native.Mathlib.Omega.{arith}
 use mathlib.Core.Path.{ap, ◌∙◌}
 use Prim.Native.Nat.{◌-◌}
-use Rattle.arena.specs.Arena.{slot}
 use Rattle.walks.specs.Marks.{size_t}
 use Rattle.plan_context.specs.View.{tree_of}
 use Rattle.sort_connection.specs.Standing.{view, slot_room, is_here, kid_asks, kid_standing}
@@ -15,36 +14,25 @@ pub loop-j-init : goal.loop-j-init
 loop-j-init c = (c.child_count-c.ensures ∙ (view c.args.m.now c.args.u c.args.h c.requires).count, passing_none c.args.m.now c.args.h c.args.n)
 
 pub child-requires : goal.child-requires
-child-requires c = let l = c.loop-j in let i₀ = l.invariant.0 in let x = c.loop-j-test.true in
+child-requires c = let l = c.loop-j in let i₀ = l.invariant.0 in
     kid_asks c.args.m.now c.args.u c.args.h c.requires l.j (omega arith)
 
 pub nodes-s-requires : goal.nodes-s-requires
 nodes-s-requires c = let l = c.loop-j in let i₀ = l.invariant.0 in
-    let x = c.loop-j-test.true in
     is_here c.args.m.now c.args.u _ (kid_standing c.args.m.now c.args.u c.args.h c.requires l.j (omega arith) _ c.child.ensures)
 
 pub returns-then-left-s : goal.returns-then-left-s
 returns-then-left-s c = let l = c.loop-j in let i₀ = l.invariant.0 in
-    let x = c.loop-j-test.true in
     passing_found c.args.m.now c.args.h c.args.n l.j l.left l.invariant.1 (omega arith) _
     (c.nodes-s.ensures ∙ ap (λ k. size_t (tree_of c.args.m.now k)) c.child.ensures) c.if-left-s.true
 
-pub overflow_add-j : goal.overflow_add-j
-overflow_add-j c = let l = c.loop-j in let i₀ = l.invariant.0 in
-    let x = c.loop-j-test.true in omega arith
-
-pub loop-j-smaller : goal.loop-j-smaller
-loop-j-smaller c = let l = c.loop-j in let i₀ = l.invariant.0 in
-    let x = c.loop-j-test.true in omega arith
-
 pub loop-j-preserved : goal.loop-j-preserved
-loop-j-preserved c = let l = c.loop-j in let i₀ = l.invariant.0 in
-    let x = c.loop-j-test.true in (
-      i₀,
-      passing_more c.args.m.now c.args.h c.args.n l.j l.left l.invariant.1 (omega arith) _
-          (c.nodes-s.ensures ∙ ap (λ k. size_t (tree_of c.args.m.now k)) c.child.ensures) (let z = c.if-left-s.false in omega arith),
-    )
+loop-j-preserved c = let l = c.loop-j in let i₀ = l.invariant.0 in (
+  i₀,
+  passing_more c.args.m.now c.args.h c.args.n l.j l.left l.invariant.1 (omega arith) _
+      (c.nodes-s.ensures ∙ ap (λ k. size_t (tree_of c.args.m.now k)) c.child.ensures) (let z = c.if-left-s.false in omega arith),
+)
 
 pub returns : goal.returns
-returns c = let l = c.loop-j in let i₀ = l.invariant.0 in let x = c.loop-j-test.false in
+returns c = let l = c.loop-j in let i₀ = l.invariant.0 in
     passing_end c.args.m.now c.args.h c.args.n l.j l.left _ l.invariant.1 i₀ (omega arith)

@@ -1,5 +1,4 @@
 use mathlib.Core.Path.{◌≡◌}
-use Prim.Native.Nat.{◌-◌}
 use lib.ListN.{length}
 use Rattle.arena.specs.Arena.{index, slot}
 use Rattle.partial_sort_by_number.specs.ByNumber.{Copying}
@@ -7,6 +6,3 @@ use Rattle.partial_sort_by_number.proofs.with_child.Given as goal
 
 abbrev pub invariant-loop-l : goal.invariant-loop-l
 invariant-loop-l l = (l.c ≡ length (slot l.m (index l.h)).kids) × Copying (slot l.m (index l.h)).kids l.l l.out
-
-abbrev pub decreases-loop-l : goal.decreases-loop-l
-decreases-loop-l l = l.c - l.l

@@ -37,26 +37,26 @@ write_out-requires c = let p = c.requires.0 in let w = c.requires.1 in let m = c
     let out = c.args.out.now in
     let t = c.settle_all in
     let m' = t.new.m in let l = t.auto.m in let a = t.ensures.0 in let f = t.ensures.1 in
-    let y = c.partially_sorted in let b = c.in-Becomes.a in
-    let d = subst (λ o. AnswersPartial m' u y.new.m h n o) c.in-Becomes.is y.ensures in
+    let y = c.partially_sorted in let b = c.in-Some.a in
+    let d = subst (λ o. AnswersPartial m' u y.new.m h n o) c.in-Some.is y.ensures in
     let q = partial_count m u h p w m' l a f _ c.nodes-k.ensures n out
     y.new.m b d in (arena_loaded y.new.m b.used d.arena, d.low, q.0, q.1)
 
-pub returns-in-NoSuchNode : goal.returns-in-NoSuchNode
-returns-in-NoSuchNode c = let p = c.requires.0 in let w = c.requires.1 in let m = c.args.m.now in let u = c.args.u in let h = c.args.h in let n = c.args.n in
+pub returns-in-None : goal.returns-in-None
+returns-in-None c = let p = c.requires.0 in let w = c.requires.1 in let m = c.args.m.now in let u = c.args.u in let h = c.args.h in let n = c.args.n in
     let out = c.args.out.now in let t = c.settle_all in
     let m' = t.new.m in let l = t.auto.m in let a = t.ensures.0 in let f = t.ensures.1 in
     let y = c.partially_sorted in
     partial_refuses m u h p w m' l a f _ c.nodes-k.ensures n out refusals.NoSuchNode
-    (subst (λ o. AnswersPartial m' u y.new.m h n o) c.in-NoSuchNode.is y.ensures).0 _ c.number.ensures
+    (subst (λ o. AnswersPartial m' u y.new.m h n o) c.in-None.is y.ensures).0
 
-pub returns-in-Becomes : goal.returns-in-Becomes
-returns-in-Becomes c = let p = c.requires.0 in let w = c.requires.1 in let m = c.args.m.now in let u = c.args.u in
+pub returns-in-Some : goal.returns-in-Some
+returns-in-Some c = let p = c.requires.0 in let w = c.requires.1 in let m = c.args.m.now in let u = c.args.u in
     let h = c.args.h in let n = c.args.n in let out = c.args.out.now in
     let t = c.settle_all in let m' = t.new.m in let l = t.auto.m in let a = t.ensures.0 in let f = t.ensures.1 in
     let y = c.partially_sorted in
-    let b = c.in-Becomes.a in
-    let d = subst (λ o. AnswersPartial m' u y.new.m h n o) c.in-Becomes.is y.ensures in
+    let b = c.in-Some.a in
+    let d = subst (λ o. AnswersPartial m' u y.new.m h n o) c.in-Some.is y.ensures in
     partial_wrote m u h p w m' l a f _
     c.nodes-k.ensures n out y.new.m b d
     c.write_out.result c.write_out.new.out c.write_out.ensures

@@ -31,4 +31,4 @@ pub shape_of-out : goal.shape_of-out
 shape_of-out c = c.loop-i.invariant.long
 
 pub returns : goal.returns
-returns c = listed_all c.loop-i-test.false c.loop-i.invariant
+returns c = listed_all (omega arith) c.loop-i.invariant

@@ -9,11 +9,8 @@ use Rattle.plan_format.specs.Reading.{children_at}
 use Rattle.plan_passes.specs.Laws.{Pass}
 use Rattle.plan_passes.proofs.records_of.Given as goal
 
-abbrev pub invariant-loop-i : goal.invariant-loop-i
-invariant-loop-i l =
-    Pass (children_at l.s) l.m l.i l.have l.enough
-    × (l.kinds && all_below (λ i'. kind_ok (record_at l.s i')) l.i ≡ all_below (λ i'. kind_ok (record_at l.s i')) l.m)
-    × (l.rules && all_below (λ i'. record_ok (record_at l.s i')) l.i ≡ all_below (λ i'. record_ok (record_at l.s i')) l.m)
-
-abbrev pub decreases-loop-i : goal.decreases-loop-i
-decreases-loop-i l = l.i
+abbrev pub invariant-loop-j : goal.invariant-loop-j
+invariant-loop-j l =
+    Pass (children_at l.s) l.m l.j l.have l.enough
+    × (l.kinds && all_below (λ i'. kind_ok (record_at l.s i')) l.j ≡ all_below (λ i'. kind_ok (record_at l.s i')) l.m)
+    × (l.rules && all_below (λ i'. record_ok (record_at l.s i')) l.j ≡ all_below (λ i'. record_ok (record_at l.s i')) l.m)

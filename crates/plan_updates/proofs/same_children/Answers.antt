@@ -1,7 +1,7 @@
 use native.Mathlib.Omega.{arith}
 use mathlib.Core.Path.{sym, ◌∙◌, subst}
-use Prim.Native.Nat.{◌+◌, ◌-◌}
-use lib.ListN.{length, get_or}
+use Prim.Native.Nat.{◌+◌}
+use lib.ListN.{get_or}
 use Rattle.arena.specs.Arena.{slot}
 use Rattle.plan_updates.specs.Again.{Comparing, comparing_none, comparing_more, comparing_all}
 use mathlib.Core.Bool.{◌&&◌}
@@ -25,4 +25,4 @@ loop-j-preserved c = let q = length_kids c.args.m.now c.args.i in
 
 pub returns : goal.returns
 returns c = let q = length_kids c.args.m.now c.args.i in
-    comparing_all _ _ c.loop-j.j c.loop-j.all (c.requires.1 ∙ sym q) c.loop-j-test.false c.loop-j.invariant
+    comparing_all _ _ c.loop-j.j c.loop-j.all (c.requires.1 ∙ sym q) (omega arith) c.loop-j.invariant

@@ -1,6 +1,5 @@
 use native.Mathlib.Omega.{arith}
 use mathlib.Core.Path.{◌≡◌, sym, ap, ap₂, ◌∙◌}
-use Prim.Native.Nat.{◌-◌}
 use lib.ListN.{length}
 use Rattle.plan_updates.specs.Again.{same, comparing_none, comparing_more, comparing_all}
 use Rattle.plan_updates.proofs.same_record.Goals as goal
@@ -26,6 +25,6 @@ loop-j-preserved c = let la : length c.read64-a.result ≡ 64 = ap length c.read
 pub returns : goal.returns
 returns c = let la : length c.read64-a.result ≡ 64 =
     ap length c.read64-a.ensures ∙ c.requires.2 in let lb : length c.read64-b.result ≡ 64 =
-    ap length (c.read64-b.ensures ∙ c.record_at.ensures) ∙ c.requires.1 in let t = c.loop-j-test.false in
+    ap length (c.read64-b.ensures ∙ c.record_at.ensures) ∙ c.requires.1 in
     comparing_all _ _ c.loop-j.j c.loop-j.all (la ∙ sym lb) (omega arith) c.loop-j.invariant
     ∙ ap₂ same c.read64-a.ensures (c.read64-b.ensures ∙ c.record_at.ensures)

@@ -1,5 +1,4 @@
 use native.Mathlib.Omega.{arith}
-use native.Mathlib.Omega.{arith}
 use Rattle.plan_context.specs.Laws.{here}
 use Rattle.call_parts.specs.Filing.{arena_loaded}
 use Rattle.push_calls.specs.Pushing.{few, pushable, partial_refused, push_no_room, as_read}
@@ -9,7 +8,7 @@ pub has_partial_sort-requires : goal.has_partial_sort-requires
 has_partial_sort-requires c = let t = c.settle_all in let x = c.requires.here in (arena_loaded t.new.m c.args.u t.ensures.0, omega arith)
 
 pub returns-then-has_partial_sort : goal.returns-then-has_partial_sort
-returns-then-has_partial_sort c = let t = c.settle_all in partial_refused c.args.m.now c.args.u c.args.h c.requires t.new.m t.ensures.0 t.ensures.1 _ c.has_partial_sort.ensures c.if-has_partial_sort.true _ c.number.ensures c.args.out.now 0
+returns-then-has_partial_sort c = let t = c.settle_all in partial_refused c.args.m.now c.args.u c.args.h c.requires t.new.m t.ensures.0 t.ensures.1 _ c.has_partial_sort.ensures c.if-has_partial_sort.true c.args.out.now 0
 
 pub nodes-n-requires : goal.nodes-n-requires
 nodes-n-requires c = let t = c.settle_all in here t.new.m c.args.u c.args.h t.ensures.0 c.requires.here

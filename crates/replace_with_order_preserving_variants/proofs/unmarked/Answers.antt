@@ -3,7 +3,7 @@ use mathlib.Core.Path.{refl, sym, ◌∙◌}
 use mathlib.Core.Bool.{false}
 use Prim.Native.Nat.{◌-◌}
 use lib.ListN.{replicate}
-use Rattle.arena.specs.Arena.{marked, slot}
+use Rattle.arena.specs.Arena.{marked}
 use Rattle.order_preservation_marks.specs.Nodes.{shown, child_asks, kid_below}
 use Rattle.order_preservation_marks.specs.Marking.{nothing_left, cutting_none, cutting_room, cutting_more, cutting_all}
 use Rattle.replace_with_order_preserving_variants.proofs.unmarked.Goals as goal
@@ -34,14 +34,6 @@ bounds-kids-j c = let m = c.args.m.now in let i = c.args.i in let a = c.requires
     let l = c.loop-j in let e = l.invariant.0 in let q = l.invariant.1 in
     let y = cutting_room m i (λ k. false) a l.j l.kids q (let x = c.loop-j-test.true in omega arith) in let z = q.made.wide in
     omega arith
-
-pub overflow_add-j : goal.overflow_add-j
-overflow_add-j c = let m = c.args.m.now in let i = c.args.i in let a = c.requires in
-    let l = c.loop-j in let e = l.invariant.0 in let q = l.invariant.1 in
-    let y = cutting_room m i (λ k. false) a l.j l.kids q (let x = c.loop-j-test.true in omega arith) in omega arith
-
-pub loop-j-smaller : goal.loop-j-smaller
-loop-j-smaller c = let x = c.loop-j-test.true in omega arith
 
 pub loop-j-preserved : goal.loop-j-preserved
 loop-j-preserved c = let m = c.args.m.now in let i = c.args.i in let a = c.requires in

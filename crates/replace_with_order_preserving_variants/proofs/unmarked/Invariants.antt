@@ -8,6 +8,3 @@ use Rattle.replace_with_order_preserving_variants.proofs.unmarked.Given as goal
 
 abbrev pub invariant-loop-j : goal.invariant-loop-j
 invariant-loop-j l = (l.n ≡ length (slot l.m l.i).kids) × Cutting l.m l.i (λ k. false) l.j l.kids
-
-abbrev pub decreases-loop-j : goal.decreases-loop-j
-decreases-loop-j l = l.n - l.j

@@ -1,6 +1,4 @@
 use native.Mathlib.Omega.{arith}
-use Prim.Native.Nat.{◌-◌}
-use mathlib.Core.Bool.{true}
 use Rattle.scan.specs.Below.{all_none}
 use Rattle.row_bytes.specs.Rows.{row_set, row_cell, row_end, column_more}
 use Rattle.std.proofs.Common.{ap}
@@ -13,7 +11,7 @@ returns-then-not-set_fits c = let a = c.args in row_set a.s.now a.at a.w c.get32
 
 -- src/lib.rt:42:5
 pub loop-c-init : goal.loop-c-init
-loop-c-init c = (omega arith, all_none _)
+loop-c-init c = (all_none _)
 
 -- src/lib.rt:43:13
 pub cell_fits-requires : goal.cell_fits-requires
@@ -25,8 +23,8 @@ returns-then-not-cell_fits c = let a = c.args in row_cell a.s.now a.at a.w c.get
 
 -- src/lib.rt:42:5
 pub loop-c-preserved : goal.loop-c-preserved
-loop-c-preserved c = (omega arith, column_more _ _ _ c.loop-c.c _ c.loop-c.invariant.1 c.cell_fits.ensures (ap not c.if-not-cell_fits.false))
+loop-c-preserved c = (column_more _ _ _ c.loop-c.c _ c.loop-c.invariant c.cell_fits.ensures (ap not c.if-not-cell_fits.false))
 
 -- src/lib.rt:33:1
 pub returns : goal.returns
-returns c = let a = c.args in row_end a.s.now a.at a.w c.get32-nulls.result c.loop-c.c _ c.get32-nulls.ensures c.set_fits.ensures (ap not c.if-not-set_fits.false) (omega arith) (omega arith) c.loop-c.invariant.1
+returns c = let a = c.args in row_end a.s.now a.at a.w c.get32-nulls.result c.loop-c.c _ c.get32-nulls.ensures c.set_fits.ensures (ap not c.if-not-set_fits.false) (omega arith) (omega arith) c.loop-c.invariant

@@ -1,3 +1,4 @@
+use Prim.Native.Nat.{◌-◌}
 use mathlib.Core.Path.{◌≡◌}
 use mathlib.Core.Bool.{true}
 use Rattle.plan.specs.WellFormed.{every}
@@ -6,8 +7,5 @@ use Rattle.row_bytes.specs.Streams.{alike, streams_fit}
 use Rattle.row_bytes.specs.Constants.{agrees}
 use Rattle.row_bytes.proofs.source_agrees.Given as goal
 
-abbrev pub invariant-loop-left : goal.invariant-loop-left
-invariant-loop-left l = (streams_fit l.s l.a (alike l.left l.w) ≡ true) × (every (every (agrees (row_at l.s l.first l.w) l.c)) (streams_at l.s l.a (alike l.left l.w)) ≡ every (every (agrees (row_at l.s l.first l.w) l.c)) (streams_at l.s l.at (alike l.k l.w)))
-
-abbrev pub decreases-loop-left : goal.decreases-loop-left
-decreases-loop-left l = l.left
+abbrev pub invariant-loop : goal.invariant-loop
+invariant-loop l = (streams_fit l.s l.a (alike (l.k - l.counter) l.w) ≡ true) × (every (every (agrees (row_at l.s l.first l.w) l.c)) (streams_at l.s l.a (alike (l.k - l.counter) l.w)) ≡ every (every (agrees (row_at l.s l.first l.w) l.c)) (streams_at l.s l.at (alike l.k l.w)))

@@ -1,12 +1,10 @@
 use Prim.Native.Nat.{◌≤◌, ◌+◌}
+use Prim.Native.Nat.{◌-◌}
 use mathlib.Core.Path.{◌≡◌}
 use mathlib.Core.Bool.{true}
 use Rattle.stepping.specs.RowBytes.{rows_together}
 use Rattle.row_bytes.specs.Streams.{alike, streams_fit}
 use Rattle.row_bytes.proofs.source_count.Given as goal
 
-abbrev pub invariant-loop-left : goal.invariant-loop-left
-invariant-loop-left l = (l.rows ≤ l.a) × (streams_fit l.s l.a (alike l.left l.w) ≡ true) × (l.rows + rows_together l.s l.a (alike l.left l.w) ≡ rows_together l.s l.at (alike l.k l.w))
-
-abbrev pub decreases-loop-left : goal.decreases-loop-left
-decreases-loop-left l = l.left
+abbrev pub invariant-loop : goal.invariant-loop
+invariant-loop l = (l.rows ≤ l.a) × (streams_fit l.s l.a (alike (l.k - l.counter) l.w) ≡ true) × (l.rows + rows_together l.s l.a (alike (l.k - l.counter) l.w) ≡ rows_together l.s l.at (alike l.k l.w))

@@ -1,6 +1,5 @@
 use native.Mathlib.Omega.{arith}
-use Prim.Native.Nat.{◌+◌, ◌*◌, ◌-◌}
-use mathlib.Core.Bool.{true}
+use Prim.Native.Nat.{◌+◌, ◌*◌}
 use Rattle.scan.specs.Below.{all_none}
 use Rattle.row_bytes.specs.Rows.{few_bytes, row_inside, stream_short, stream_cut, stream_row, stream_end_lem, row_more}
 use Rattle.std.proofs.Common.{ap}
@@ -25,7 +24,7 @@ returns-then-s-end c = let a = c.args in stream_cut a.s.now a.at a.w c.get32-n.r
 
 -- src/lib.rt:66:5
 pub loop-i-init : goal.loop-i-init
-loop-i-init c = (omega arith, all_none _)
+loop-i-init c = (all_none _)
 
 -- src/lib.rt:67:34
 pub overflow_mul-i : goal.overflow_mul-i
@@ -45,8 +44,8 @@ returns-then-not-row_fits c = let a = c.args in stream_row a.s.now a.at a.w c.ge
 
 -- src/lib.rt:66:5
 pub loop-i-preserved : goal.loop-i-preserved
-loop-i-preserved c = let a = c.args in (omega arith, row_more a.s.now a.at a.w c.loop-i.i _ c.loop-i.invariant.1 c.row_fits.ensures (ap not c.if-not-row_fits.false))
+loop-i-preserved c = let a = c.args in (row_more a.s.now a.at a.w c.loop-i.i _ c.loop-i.invariant c.row_fits.ensures (ap not c.if-not-row_fits.false))
 
 -- src/lib.rt:52:1
 pub returns : goal.returns
-returns c = let a = c.args in stream_end_lem a.s.now a.at a.w c.get32-n.result c.loop-i.i (omega arith) c.get32-n.ensures (omega arith) (omega arith) (omega arith) c.loop-i.invariant.1
+returns c = let a = c.args in stream_end_lem a.s.now a.at a.w c.get32-n.result c.loop-i.i (omega arith) c.get32-n.ensures (omega arith) (omega arith) (omega arith) c.loop-i.invariant

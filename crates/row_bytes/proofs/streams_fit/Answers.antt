@@ -1,5 +1,5 @@
 use native.Mathlib.Omega.{arith}
-use Prim.Native.Nat.{◌≤◌, ◌-◌}
+use Prim.Native.Nat.{◌≤◌}
 use mathlib.Core.Path.{refl}
 use lib.ListN.{get_or}
 use Rattle.row_bytes.specs.Rows.{streams_fail, streams_more, streams_end_lem, stream_inside}
@@ -9,7 +9,7 @@ use Rattle.row_bytes.proofs.streams_fit.Goals as goal
 
 -- src/lib.rt:85:5
 pub loop-j-init : goal.loop-j-init
-loop-j-init c = (omega arith, omega arith, refl)
+loop-j-init c = (omega arith, refl)
 
 -- src/lib.rt:87:13
 pub stream_fits-requires : goal.stream_fits-requires
@@ -17,7 +17,7 @@ stream_fits-requires c = (c.requires c.loop-j.j (omega arith), omega arith)
 
 -- src/lib.rt:88:13
 pub returns-then-not-stream_fits : goal.returns-then-not-stream_fits
-returns-then-not-stream_fits c = let a = c.args in streams_fail a.s.now a.widths.now c.loop-j.at c.loop-j.j _ (omega arith) c.loop-j.invariant.2 c.stream_fits.ensures (ap not c.if-not-stream_fits.true)
+returns-then-not-stream_fits c = let a = c.args in streams_fail a.s.now a.widths.now c.loop-j.at c.loop-j.j _ (omega arith) c.loop-j.invariant.1 c.stream_fits.ensures (ap not c.if-not-stream_fits.true)
 
 -- src/lib.rt:90:17
 pub get32-n-requires : goal.get32-n-requires
@@ -45,8 +45,8 @@ overflow_add-at-in-loop-j-2 c = let a = c.args in let w = get_or a.widths.now c.
 
 -- src/lib.rt:85:5
 pub loop-j-preserved : goal.loop-j-preserved
-loop-j-preserved c = let a = c.args in let w = get_or a.widths.now c.loop-j.j 0 in let i = stream_inside a.s.now c.loop-j.at (get_or a.widths.now c.loop-j.j 0) c.get32-n.result _ c.stream_fits.ensures (ap not c.if-not-stream_fits.false) c.get32-n.ensures in let l : get_or a.widths.now c.loop-j.j 0 ≤ 32 = c.requires c.loop-j.j (omega arith) in (omega arith, omega (arith, i.1), streams_more a.s.now a.widths.now c.loop-j.at c.loop-j.j c.get32-n.result _ (omega arith) c.loop-j.invariant.2 c.stream_fits.ensures (ap not c.if-not-stream_fits.false) c.get32-n.ensures)
+loop-j-preserved c = let a = c.args in let w = get_or a.widths.now c.loop-j.j 0 in let i = stream_inside a.s.now c.loop-j.at (get_or a.widths.now c.loop-j.j 0) c.get32-n.result _ c.stream_fits.ensures (ap not c.if-not-stream_fits.false) c.get32-n.ensures in let l : get_or a.widths.now c.loop-j.j 0 ≤ 32 = c.requires c.loop-j.j (omega arith) in (omega (arith, i.1), streams_more a.s.now a.widths.now c.loop-j.at c.loop-j.j c.get32-n.result _ (omega arith) c.loop-j.invariant.1 c.stream_fits.ensures (ap not c.if-not-stream_fits.false) c.get32-n.ensures)
 
 -- src/lib.rt:79:1
 pub returns : goal.returns
-returns c = let a = c.args in streams_end_lem a.s.now a.widths.now c.loop-j.at c.loop-j.j (omega arith) c.loop-j.invariant.2
+returns c = let a = c.args in streams_end_lem a.s.now a.widths.now c.loop-j.at c.loop-j.j (omega arith) c.loop-j.invariant.1

@@ -1,11 +1,7 @@
-use Prim.Native.Nat.{◌≤◌, ◌-◌}
 use mathlib.Core.Path.{◌≡◌}
 use lib.ListN.{length, take}
 use Rattle.row_order.specs.Lists.{tab}
 use Rattle.row_reader.proofs.number_rows.Given as goal
 
 abbrev pub invariant-loop-i : goal.invariant-loop-i
-invariant-loop-i l = (l.i ≤ length l.order) × (length l.order ≡ length l.initial.order) × (take l.i l.order ≡ tab l.i (λ k. k))
-
-abbrev pub decreases-loop-i : goal.decreases-loop-i
-decreases-loop-i l = length l.order - l.i
+invariant-loop-i l = (length l.order ≡ length l.initial.order) × (take l.i l.order ≡ tab l.i (λ k. k))

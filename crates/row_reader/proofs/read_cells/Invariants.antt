@@ -1,4 +1,4 @@
-use Prim.Native.Nat.{◌≤◌, ◌+◌, ◌-◌}
+use Prim.Native.Nat.{◌+◌}
 use mathlib.Core.Path.{◌≡◌}
 use mathlib.Core.List.{◌++◌}
 use lib.ListN.{length, take}
@@ -6,7 +6,4 @@ use Rattle.stepping.specs.RowBytes.{numbers_at}
 use Rattle.row_reader.proofs.read_cells.Given as goal
 
 abbrev pub invariant-loop-c : goal.invariant-loop-c
-invariant-loop-c l = (l.c ≤ l.w) × (length l.cells ≡ length l.initial.cells) × (take (l.b + l.c) l.cells ≡ take l.b l.initial.cells ++ numbers_at l.rows l.at l.c)
-
-abbrev pub decreases-loop-c : goal.decreases-loop-c
-decreases-loop-c l = l.w - l.c
+invariant-loop-c l = (length l.cells ≡ length l.initial.cells) × (take (l.b + l.c) l.cells ≡ take l.b l.initial.cells ++ numbers_at l.rows l.at l.c)

@@ -1,5 +1,5 @@
 use native.Mathlib.Omega.{arith}
-use Prim.Native.Nat.{◌+◌, ◌*◌, ◌<◌, ◌-◌}
+use Prim.Native.Nat.{◌+◌, ◌<◌}
 use mathlib.Core.Path.{ap, ◌∙◌}
 use lib.ListN.{length}
 use Rattle.row_order.specs.Lists.{tab}
@@ -13,7 +13,7 @@ use Rattle.row_reader.proofs.read_rows.Goals as goal
 use Rattle.row_reader.proofs.read_rows.Goals.{In-loop-j}
 
 out-in : (c : In-loop-j) →
-    7 * c.loop-j.j + 2 < length c.args.nodes.now
+    c.loop-j.j < length c.args.nodes.now
 out-in c =
     out_inside c.args.plan.now c.args.n c.args.nodes.now c.loop-j.invariant.taken c.requires.3 c.loop-j.j c.loop-j-test.true
 
@@ -23,16 +23,10 @@ loop-j-init c = let a = c.args in let p = c.requires in
     (taken _ _ (p.0, p.1) (record { below = λ i g. omega (arith, c.type_inv.plan i) })) p.2 p.3
 
 pub streams_of-k-requires : goal.streams_of-k-requires
-streams_of-k-requires c = inside _ _ c.loop-j.invariant.taken c.loop-j.j c.loop-j-test.true
+streams_of-k-requires c = inside _ _ c.loop-j.invariant.taken c.loop-j.j (omega arith)
 
 pub byte_of-w-requires : goal.byte_of-w-requires
-byte_of-w-requires c = (inside _ _ c.loop-j.invariant.taken c.loop-j.j c.loop-j-test.true, omega arith)
-
-pub overflow_mul-out : goal.overflow_mul-out
-overflow_mul-out c = omega (arith, out-in (goal.at.overflow_mul-out c).In-loop-j)
-
-pub overflow_add-out : goal.overflow_add-out
-overflow_add-out c = omega (arith, out-in (goal.at.overflow_add-out c).In-loop-j)
+byte_of-w-requires c = (inside _ _ c.loop-j.invariant.taken c.loop-j.j (omega arith), omega arith)
 
 pub offset_bounds-nodes-j : goal.offset_bounds-nodes-j
 offset_bounds-nodes-j c = omega (arith, out-in (goal.at.offset_bounds-nodes-j c).In-loop-j)
@@ -41,7 +35,7 @@ pub bounds-nodes-j : goal.bounds-nodes-j
 bounds-nodes-j c = out-in (goal.at.bounds-nodes-j c).In-loop-j
 
 pub read_source-r-requires : goal.read_source-r-requires
-read_source-r-requires c = let a = c.args in let l = c.loop-j in let h = c.loop-j-test.true in
+read_source-r-requires c = let a = c.args in let l = c.loop-j in let h : l.j < a.n = omega arith in
     let ek = c.streams_of-k.ensures in let ew = c.byte_of-w.ensures in
     let k = c.streams_of-k.result in let w = c.byte_of-w.result in
     let T = tables a.cells.now a.nulls.now a.widths.now a.places.now in (
@@ -53,7 +47,7 @@ read_source-r-requires c = let a = c.args in let l = c.loop-j in let h = c.loop-
     )
 
 pub source_end-at-requires : goal.source_end-at-requires
-source_end-at-requires c = let a = c.args in let l = c.loop-j in let h = c.loop-j-test.true in
+source_end-at-requires c = let a = c.args in let l = c.loop-j in let h : l.j < a.n = omega arith in
     let ek = c.streams_of-k.ensures in let ew = c.byte_of-w.ensures in
     let k = c.streams_of-k.result in let w = c.byte_of-w.result in
     let T = tables a.cells.now a.nulls.now a.widths.now a.places.now in (
@@ -63,7 +57,7 @@ source_end-at-requires c = let a = c.args in let l = c.loop-j in let h = c.loop-
 
 pub loop-j-preserved : goal.loop-j-preserved
 loop-j-preserved c = let a = c.args in let l = c.loop-j in
-    let h = c.loop-j-test.true in
+    let h : l.j < a.n = omega arith in
     let ek = c.streams_of-k.ensures in let ew = c.byte_of-w.ensures in
     let k = c.streams_of-k.result in let w = c.byte_of-w.result in
     let z = c.read_source-r.new in let q = c.read_source-r.auto in
@@ -96,5 +90,5 @@ pub returns : goal.returns
 returns c = let a = c.args in
     let l = c.loop-j in let p = c.requires in
     let T = tables a.cells.now a.nulls.now a.widths.now a.places.now in
-    all_read a.plan.now a.n a.nodes.now a.rows.now T l.invariant _ c.loop-j-test.false p.5
+    all_read a.plan.now a.n a.nodes.now a.rows.now T l.invariant _ (omega arith) p.5
     (c.number_rows.ensures ∙ ap (λ n. tab n (λ i. i)) p.6)

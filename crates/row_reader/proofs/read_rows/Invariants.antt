@@ -1,5 +1,3 @@
-use Prim.Native.Nat.{◌-◌}
-use Rattle.row_order.specs.Lists.{tab}
 use Rattle.row_reader.specs.Reading.{tables}
 use Rattle.row_reader.specs.Plans.{InPlan}
 use Rattle.row_reader.proofs.read_rows.Given as goal
@@ -7,6 +5,3 @@ use Rattle.row_reader.proofs.read_rows.Given as goal
 abbrev pub invariant-loop-j : goal.invariant-loop-j
 invariant-loop-j l =
     InPlan l.plan l.n l.nodes l.rows (tables l.initial.cells l.initial.nulls l.initial.widths l.initial.places) l.r l.at l.j (tables l.cells l.nulls l.widths l.places)
-
-abbrev pub decreases-loop-j : goal.decreases-loop-j
-decreases-loop-j l = l.n - l.j

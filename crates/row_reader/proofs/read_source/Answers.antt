@@ -1,4 +1,5 @@
-use Prim.Native.Nat.{◌+◌, ◌-◌}
+use native.Mathlib.Omega.{arith}
+use Prim.Native.Nat.{◌+◌, ◌<◌}
 use mathlib.Core.Path.{refl}
 use Rattle.scan.specs.Bytes.{le32}
 use Rattle.row_reader.specs.Reading.{tables, AsLong, space_for}
@@ -11,7 +12,7 @@ loop-j-init c = let a = c.args in let T = tables a.cells.now a.nulls.now a.width
 
 pub read_stream-q-requires : goal.read_stream-q-requires
 read_stream-q-requires c = let a = c.args in let l = c.loop-j in
-    let h = c.loop-j-test.true in
+    let h : l.j < a.k = omega arith in
     let T = tables a.cells.now a.nulls.now a.widths.now a.places.now in (
       c.requires.0,
       stream_here a.rows.now a.at a.w a.k a.out a.r T l.invariant h,
@@ -24,7 +25,7 @@ stream_end-a-requires c = let a = c.args in
     let T = tables a.cells.now a.nulls.now a.widths.now a.places.now in (
       c.requires.0,
       stream_here a.rows.now a.at a.w a.k a.out a.r T c.loop-j.invariant
-          c.loop-j-test.true,
+          (omega arith),
     )
 
 pub loop-j-preserved : goal.loop-j-preserved
@@ -35,7 +36,7 @@ loop-j-preserved c = let a = c.args in let l = c.loop-j in
     let S = tables z.cells z.nulls z.widths z.places in
     let long : AsLong S U = record { numbers = k.cells; sets = k.nulls; widths_there = k.widths; places_there = k.places } in
     source_more a.rows.now a.at a.w a.k a.out a.r T l.invariant {S = S} c.read_stream-q.result c.stream_end-a.result
-    c.loop-j-test.true c.stream_end-a.ensures c.read_stream-q.ensures.0 c.read_stream-q.ensures.1 long
+    (omega arith) c.stream_end-a.ensures c.read_stream-q.ensures.0 c.read_stream-q.ensures.1 long
 
 pub shape_of-cells : goal.shape_of-cells
 shape_of-cells c = c.loop-j.invariant.long.numbers
@@ -52,4 +53,4 @@ shape_of-places c = c.loop-j.invariant.long.places_there
 pub returns : goal.returns
 returns c = let a = c.args in let l = c.loop-j in
     let T = tables a.cells.now a.nulls.now a.widths.now a.places.now in
-    source_all a.rows.now a.at a.w a.k a.out a.r T l.invariant c.loop-j-test.false
+    source_all a.rows.now a.at a.w a.k a.out a.r T l.invariant (omega arith)

@@ -1,5 +1,5 @@
 use native.Mathlib.Omega.{arith}
-use Prim.Native.Nat.{ℕ, ◌-◌}
+use Prim.Native.Nat.{ℕ}
 use Rattle.step_tables.specs.Places.{on_place}
 use Rattle.step_tables.specs.Rows.{row_in}
 use Rattle.row_writer.specs.Streams.{streamed_none, streamed_length, streamed_room, streamed_more, streamed_all}

@@ -1,4 +1,3 @@
-use Prim.Native.Nat.{◌-◌}
 use Rattle.step_tables.specs.Places.{on_place}
 use Rattle.step_tables.specs.Rows.{row_in}
 use Rattle.row_writer.specs.Streams.{Streamed}
@@ -6,6 +5,3 @@ use Rattle.row_writer.proofs.put_streams.Given as goal
 
 abbrev pub invariant-loop-k : goal.invariant-loop-k
 invariant-loop-k l = Streamed (λ i. on_place (row_in l.cells l.nulls l.widths) l.places i l.order) l.n l.initial.out l.k l.at l.out
-
-abbrev pub decreases-loop-k : goal.decreases-loop-k
-decreases-loop-k l = l.n - l.k

@@ -1,9 +1,8 @@
 -- Aggregates, by computation: what one knows, maintains, fetches, and that it is unbounded over an unbounded child (02, P1).
-use Rattle.std.specs.Prelude.{◌≡◌, refl, true, false, List, [], ◌∷◌, map, ℕ}
+use Rattle.std.specs.Prelude.{◌≡◌, refl, true, false, List, [], ◌∷◌, map, ℕ, Some, None}
 use Rattle.plan.specs.Forest.{none, tree}
 use Rattle.plan.specs.Op.{projection, sort_op, aggregate, Plan}
 use Rattle.plan.specs.Samples.{up, by, source_of}
-use Rattle.plan.specs.declared.Fetch.TheVariants.{Unlimited, AtMost}
 use Rattle.semantics.specs.Facts.{Facts, at0, facts}
 use Rattle.semantics.specs.Properties.{endless, fetches, maintains}
 
@@ -34,7 +33,7 @@ over f = tree (aggregate (by 0) 1) f none
 
 pub others :
     (maintains (aggregate (by 0) 1) (facts (tree (source_of 2 1 0 [] false) none none)) 0 ≡ false)
-    × (fetches (over (tree (sort_op false (by 0) (AtMost 3)) child none)) ≡ Unlimited ∷ [])
+    × (fetches (over (tree (sort_op false (by 0) (Some 3)) child none)) ≡ None ∷ [])
     × (endless (over child) ≡ false ∷ [])
     × (endless (over (tree (source_of 2 1 0 [] true) none none)) ≡ true ∷ [])
 others = (refl, refl, refl, refl)

@@ -1,7 +1,7 @@
 -- Small tables, by computation, that pin what 01 says of rows and nodes and no theorem rests on: the SQL join of each type, the pairing of
 -- streams, cuts, which kinds let a limit pass or keep the number of rows, whose order a node maintains, wanted orders, boundedness, and
 -- distributions.
-use Rattle.std.specs.Prelude.{◌≡◌, refl, Bool, true, false, List, [], ◌∷◌, map, ℕ, pos}
+use Rattle.std.specs.Prelude.{◌≡◌, refl, Bool, true, false, List, [], ◌∷◌, map, ℕ, pos, Some, None}
 use Rattle.row_order.specs.Iso.{null, num, Row, Key}
 use Rattle.plan.specs.Forest.{none, tree}
 use Rattle.plan.specs.Op.{On, Op, filter, projection, union, repartition, coalesce, sort_op, merge_op, global_limit, local_limit, sort_merge_join, hash_join, output_requirement, partial_sort, aggregate, Plan}
@@ -9,7 +9,6 @@ use Rattle.plan.specs.Samples.{up, source_of}
 use Rattle.plan.specs.declared.JoinType.{JoinType}
 use Rattle.plan.specs.declared.JoinType.TheVariants.{Inner, Left, Right, Full, LeftSemi, LeftAnti, RightSemi, RightAnti}
 use Rattle.plan.specs.declared.Distribution.TheVariants.{Unspecified, Single, Keyed}
-use Rattle.plan.specs.declared.Fetch.TheVariants.{Unlimited, AtMost}
 use Rattle.semantics.specs.Facts.{Facts, is_nil, counts, keeps_order, at0, facts}
 use Rattle.semantics.specs.Properties.{wanted, cuts, maintains, supports_limit_pushdown, cardinality_equal, endless, endless_op, dist_of, singles, simple_op}
 use Rattle.semantics.specs.Check.{check}
@@ -52,24 +51,24 @@ like_numbered_lem = (refl, refl)
 -- every kind with a fetch cuts by it, kind 13 too; skip cuts before fetch (reading 18)
 abbrev cutting : List Op
 cutting =
-    coalesce (AtMost 1) ∷ sort_op false (up 0 ∷ []) (AtMost 1) ∷ merge_op (up 0 ∷ []) (AtMost 1) ∷ global_limit 0 (AtMost 1) [] ∷ local_limit (AtMost 1) []
-    ∷ output_requirement [] Unspecified (AtMost 1)
-    ∷ partial_sort false (up 0 ∷ up 1 ∷ []) 1 (AtMost 1) ∷ []
+    coalesce (Some 1) ∷ sort_op false (up 0 ∷ []) (Some 1) ∷ merge_op (up 0 ∷ []) (Some 1) ∷ global_limit 0 (Some 1) [] ∷ local_limit (Some 1) []
+    ∷ output_requirement [] Unspecified (Some 1)
+    ∷ partial_sort false (up 0 ∷ up 1 ∷ []) 1 (Some 1) ∷ []
 
 pub cut_off :
     (map (λ o. cut_rows (cuts o) (row 1 ∷ row 2 ∷ row 3 ∷ [])) cutting ≡ (row 1 ∷ []) ∷ (row 1 ∷ []) ∷ (row 1 ∷ []) ∷ (row 1 ∷ []) ∷ (row 1 ∷ [])
     ∷ (row 1 ∷ []) ∷ (row 1 ∷ []) ∷ [])
-    × (cut_rows (cuts (global_limit 1 (AtMost 1) [])) (row 1 ∷ row 2 ∷ row 3 ∷ []) ≡ row 2 ∷ [])
-    × (cut_rows (cuts (global_limit 1 Unlimited [])) (row 1 ∷ row 2 ∷ row 3 ∷ []) ≡ row 2 ∷ row 3 ∷ [])
+    × (cut_rows (cuts (global_limit 1 (Some 1) [])) (row 1 ∷ row 2 ∷ row 3 ∷ []) ≡ row 2 ∷ [])
+    × (cut_rows (cuts (global_limit 1 None [])) (row 1 ∷ row 2 ∷ row 3 ∷ []) ≡ row 2 ∷ row 3 ∷ [])
 cut_off = (refl, refl, refl)
 
 -- one node of each kind, in the order of their numbers
 abbrev pub kinds : List Op
 kinds =
-    source_of 2 1 0 [] false ∷ filter ∷ projection (0 ∷ []) ∷ union ∷ repartition false 2 false [] ∷ coalesce Unlimited ∷ sort_op false (up 0 ∷ []) Unlimited
-    ∷ merge_op (up 0 ∷ []) Unlimited
-    ∷ global_limit 0 Unlimited [] ∷ local_limit (AtMost 1) [] ∷ sort_merge_join Inner by_first ∷ hash_join Inner by_first ∷ output_requirement [] Single Unlimited
-    ∷ partial_sort false (up 0 ∷ up 1 ∷ []) 1 Unlimited ∷ aggregate (up 0 ∷ []) 1 ∷ []
+    source_of 2 1 0 [] false ∷ filter ∷ projection (0 ∷ []) ∷ union ∷ repartition false 2 false [] ∷ coalesce None ∷ sort_op false (up 0 ∷ []) None
+    ∷ merge_op (up 0 ∷ []) None
+    ∷ global_limit 0 None [] ∷ local_limit (Some 1) [] ∷ sort_merge_join Inner by_first ∷ hash_join Inner by_first ∷ output_requirement [] Single None
+    ∷ partial_sort false (up 0 ∷ up 1 ∷ []) 1 None ∷ aggregate (up 0 ∷ []) 1 ∷ []
 
 -- no other kind cuts, nor does one of these without a fetch: of two rows only the local limit's fetch takes one
 abbrev two : List Row
@@ -89,7 +88,7 @@ limit_pushdown = refl
 
 -- who keeps the number of rows: projection, and coalesce and merge without a fetch
 pub cardinality : (map cardinality_equal kinds ≡ false ∷ false ∷ true ∷ false ∷ false ∷ true ∷ false ∷ true ∷ false ∷ false ∷ false ∷ false ∷ false ∷ false
-    ∷ false ∷ []) × (map cardinality_equal (coalesce (AtMost 1) ∷ merge_op (up 0 ∷ []) (AtMost 1) ∷ []) ≡ false ∷ false ∷ [])
+    ∷ false ∷ []) × (map cardinality_equal (coalesce (Some 1) ∷ merge_op (up 0 ∷ []) (Some 1) ∷ []) ≡ false ∷ false ∷ [])
 cardinality = (refl, refl)
 
 -- a source known ks, endless if u, and its right siblings
@@ -140,9 +139,9 @@ crossed = record { key = up 0; other = 1 } ∷ record { key = down 1; other = 0 
 
 pub wanted_orders_lem :
     (map (wanted (sort_merge_join Inner crossed)) (0 ∷ 1 ∷ 2 ∷ []) ≡ (up 0 ∷ down 1 ∷ []) ∷ (up 1 ∷ down 0 ∷ []) ∷ [] ∷ [])
-    × (map (wanted (merge_op (down 0 ∷ []) Unlimited)) (0 ∷ 1 ∷ []) ≡ (down 0 ∷ []) ∷ [] ∷ [])
-    × (map (wanted (output_requirement (down 0 ∷ []) Single Unlimited)) (0 ∷ 1 ∷ []) ≡ (down 0 ∷ []) ∷ [] ∷ [])
-    × (map (wanted (partial_sort false (down 0 ∷ up 1 ∷ []) 1 Unlimited)) (0 ∷ 1 ∷ []) ≡ (down 0 ∷ []) ∷ [] ∷ [])
+    × (map (wanted (merge_op (down 0 ∷ []) None)) (0 ∷ 1 ∷ []) ≡ (down 0 ∷ []) ∷ [] ∷ [])
+    × (map (wanted (output_requirement (down 0 ∷ []) Single None)) (0 ∷ 1 ∷ []) ≡ (down 0 ∷ []) ∷ [] ∷ [])
+    × (map (wanted (partial_sort false (down 0 ∷ up 1 ∷ []) 1 None)) (0 ∷ 1 ∷ []) ≡ (down 0 ∷ []) ∷ [] ∷ [])
     × (map (λ o. is_nil (wanted o 0)) kinds ≡ true ∷ true ∷ true ∷ true ∷ true ∷ true ∷ true ∷ false ∷ true ∷ true ∷ false ∷ true ∷ true ∷ false ∷ true ∷ [])
 wanted_orders_lem = (refl, refl, refl, refl, refl)
 
@@ -162,8 +161,8 @@ bounded_kinds = (refl, refl)
 
 -- a limit bounds; kind 13 does not, whatever its fetch
 pub unbounded : (endless (tree filter (scan [] true none) none) ≡ true ∷ [])
-    × (endless (tree (local_limit (AtMost 1) []) (scan [] true none) none) ≡ false ∷ [])
-    × (endless (tree (output_requirement [] Single (AtMost 1)) (scan [] true none) none) ≡ true ∷ [])
+    × (endless (tree (local_limit (Some 1) []) (scan [] true none) none) ≡ false ∷ [])
+    × (endless (tree (output_requirement [] Single (Some 1)) (scan [] true none) none) ≡ true ∷ [])
 unbounded = (refl, refl, refl)
 
 -- wanted distributions of the first and the second child; a sort with the preserve mark wants none
@@ -172,7 +171,7 @@ pub distributions :
     × (map (dist_of (hash_join Inner by_first)) (0 ∷ 1 ∷ []) ≡ Single ∷ Unspecified ∷ [])
     × (map (λ o. dist_of o 0) kinds ≡ Unspecified ∷ Unspecified ∷ Unspecified ∷ Unspecified ∷ Unspecified ∷ Unspecified ∷ Single ∷ Unspecified ∷ Single
     ∷ Unspecified ∷ Keyed 1 ∷ Single ∷ Single ∷ Single ∷ Unspecified ∷ [])
-    × (map (λ o. dist_of o 0) (sort_op true (up 0 ∷ []) Unlimited ∷ partial_sort true (up 0 ∷ up 1 ∷ []) 1 Unlimited ∷ []) ≡ Unspecified ∷ Unspecified ∷ [])
+    × (map (λ o. dist_of o 0) (sort_op true (up 0 ∷ []) None ∷ partial_sort true (up 0 ∷ up 1 ∷ []) 1 None ∷ []) ≡ Unspecified ∷ Unspecified ∷ [])
 distributions = (refl, refl, refl, refl)
 
 -- of which of these a single stream is wanted. not: keyed streams count as one

@@ -1,7 +1,7 @@
 -- The facts of small plans, by computation (01, 'Facts of a node'), kind by kind and join type by join type. A fact that is left out is no
 -- unsound fact, so no theorem on rows would miss it: these tables would. 'not:' names the wrong definition that a row tells from the right one.
 -- The aggregate's are in Aggregates.
-use Rattle.std.specs.Prelude.{◌≡◌, refl, Bool, true, false, List, [], ◌∷◌, map, ℕ}
+use Rattle.std.specs.Prelude.{◌≡◌, refl, Bool, true, false, List, [], ◌∷◌, map, ℕ, Some, None}
 use Rattle.row_order.specs.Iso.{Key}
 use Rattle.plan.specs.Forest.{none, tree}
 use Rattle.plan.specs.Op.{On, Op, filter, projection, union, repartition, coalesce, sort_op, merge_op, global_limit, local_limit, sort_merge_join, hash_join, output_requirement, partial_sort, Plan}
@@ -9,7 +9,6 @@ use Rattle.plan.specs.Samples.{up, source_of}
 use Rattle.plan.specs.declared.JoinType.{JoinType}
 use Rattle.plan.specs.declared.JoinType.TheVariants.{Inner, Left, Right, Full, LeftSemi, LeftAnti, RightSemi, RightAnti}
 use Rattle.plan.specs.declared.Distribution.TheVariants.{Unspecified}
-use Rattle.plan.specs.declared.Fetch.TheVariants.{Unlimited, AtMost}
 use Rattle.semantics.specs.Facts.{Facts, at0, facts}
 
 -- facts with so many columns and streams, these constants and lowest columns, and this order
@@ -59,11 +58,11 @@ kept n ks = told 3 n (false ∷ true ∷ false ∷ []) (0 ∷ 1 ∷ 0 ∷ []) ks
 
 abbrev passing : List Op
 passing =
-    filter ∷ repartition true 3 false [] ∷ repartition false 3 true (up 0 ∷ []) ∷ coalesce Unlimited ∷ sort_op true (up 2 ∷ up 1 ∷ []) Unlimited
-    ∷ sort_op false (up 2 ∷ up 1 ∷ []) Unlimited
-    ∷ merge_op (up 2 ∷ up 1 ∷ []) Unlimited ∷ global_limit 0 (AtMost 1) [] ∷ local_limit (AtMost 1) [] ∷ output_requirement (up 1 ∷ []) Unspecified Unlimited
-    ∷ partial_sort true (up 2 ∷ up 1 ∷ []) 1 Unlimited
-    ∷ partial_sort false (up 2 ∷ up 1 ∷ []) 1 Unlimited ∷ []
+    filter ∷ repartition true 3 false [] ∷ repartition false 3 true (up 0 ∷ []) ∷ coalesce None ∷ sort_op true (up 2 ∷ up 1 ∷ []) None
+    ∷ sort_op false (up 2 ∷ up 1 ∷ []) None
+    ∷ merge_op (up 2 ∷ up 1 ∷ []) None ∷ global_limit 0 (Some 1) [] ∷ local_limit (Some 1) [] ∷ output_requirement (up 1 ∷ []) Unspecified None
+    ∷ partial_sort true (up 2 ∷ up 1 ∷ []) 1 None
+    ∷ partial_sort false (up 2 ∷ up 1 ∷ []) 1 None ∷ []
 
 -- over two streams. not: one of these loses constants or classes; a partial sort knows no order; a filter, a limit of each stream or kind 13 loses the order
 pub of_two_streams : map (λ o. of (over o (triple 2 none))) passing

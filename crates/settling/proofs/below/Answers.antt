@@ -29,9 +29,6 @@ overflow_add-s c = let m = c.args.m.now in
     let w = drop-size m (slot m i).kids (c.loop-j.j - 1) in let z = (shown m i a).small in
     omega arith
 
-pub loop-j-smaller : goal.loop-j-smaller
-loop-j-smaller c = let t = c.loop-j-test.true in omega arith
-
 pub loop-j-preserved : goal.loop-j-preserved
 loop-j-preserved c = let m = c.args.m.now in
     let i = c.args.i in summing_more m (slot m i).kids c.loop-j.j
@@ -41,4 +38,4 @@ loop-j-preserved c = let m = c.args.m.now in
     c.loop-j.invariant
 
 pub returns : goal.returns
-returns c = summing_all _ _ c.loop-j.j c.loop-j.s c.loop-j-test.false c.loop-j.invariant
+returns c = summing_all _ _ c.loop-j.j c.loop-j.s (omega arith) c.loop-j.invariant

@@ -1,10 +1,6 @@
-use Prim.Native.Nat.{◌-◌}
 use Rattle.arena.specs.Arena.{slot}
 use Rattle.plan_context.specs.Summaries.{Summing}
 use Rattle.settling.proofs.below.Given as goal
 
 abbrev pub invariant-loop-j : goal.invariant-loop-j
 invariant-loop-j l = Summing l.m (slot l.m l.i).kids l.j l.s
-
-abbrev pub decreases-loop-j : goal.decreases-loop-j
-decreases-loop-j l = l.j

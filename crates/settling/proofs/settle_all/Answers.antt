@@ -1,5 +1,4 @@
 use native.Mathlib.Omega.{arith}
-use Prim.Native.Nat.{◌-◌}
 use Rattle.settling.specs.Reading.{settling_none, settling_asks, settling_more, settling_all}
 use Rattle.settling.proofs.settle_all.Goals as goal
 
@@ -9,9 +8,6 @@ loop-i-init c = settling_none c.args.m.now c.args.u c.requires
 pub settle-requires : goal.settle-requires
 settle-requires c = settling_asks c.args.m.now c.args.u c.requires c.loop-i.i c.loop-i.m c.loop-i-test.true
     c.loop-i.invariant
-
-pub loop-i-smaller : goal.loop-i-smaller
-loop-i-smaller c = let t = c.loop-i-test.true in omega arith
 
 pub loop-i-preserved : goal.loop-i-preserved
 loop-i-preserved c = settling_more c.args.m.now c.args.u c.requires c.loop-i.i
@@ -23,4 +19,4 @@ shape_of-m c = c.loop-i.invariant.long
 
 pub returns : goal.returns
 returns c = settling_all c.args.m.now c.args.u c.requires c.loop-i.i c.loop-i.m
-    c.loop-i-test.false c.loop-i.invariant
+    (omega arith) c.loop-i.invariant

@@ -9,21 +9,21 @@ use Rattle.plan_context.specs.Facts.{united_last, united_fits, united_more, unit
 use Rattle.settling.specs.Settling.{shown}
 use Rattle.settling.proofs.united.Goals as goal
 
-pub child_count-j-requires : goal.child_count-j-requires
-child_count-j-requires c = c.requires.0.room
+pub child_count-last-requires : goal.child_count-last-requires
+child_count-last-requires c = c.requires.0.room
 
-pub overflow_sub-j : goal.overflow_sub-j
-overflow_sub-j c = let m = c.args.m.now in let i = c.args.i in let a = c.requires.0 in let n = (shown m i a).count in
-    let e = c.child_count-j.ensures in let z = c.requires.1 in omega arith
+pub overflow_sub-last : goal.overflow_sub-last
+overflow_sub-last c = let m = c.args.m.now in let i = c.args.i in let a = c.requires.0 in let n = (shown m i a).count in
+    let e = c.child_count-last.ensures in let z = c.requires.1 in omega arith
 
 pub child_facts-f-requires : goal.child_facts-f-requires
 child_facts-f-requires c = let m = c.args.m.now in let i = c.args.i in let a = c.requires.0 in let n = (shown m i a).count in
-    let e = c.child_count-j.ensures in let z = c.requires.1 in (a, omega arith)
+    let e = c.child_count-last.ensures in let z = c.requires.1 in (a, omega arith)
 
 pub loop-j-init : goal.loop-j-init
 loop-j-init c = let m = c.args.m.now in let i = c.args.i in let a = c.requires.0 in let n = (shown m i a).count in
-    let e = c.child_count-j.ensures in let z = c.requires.1 in
-    united_last (known (forest m (slot m i).kids)) c.child_count-j.result c.child_facts-f.result
+    let e = c.child_count-last.ensures in let z = c.requires.1 in
+    united_last (known (forest m (slot m i).kids)) c.child_count-last.result c.child_facts-f.result
     (e ∙ n ∙ sym (length_facts m (slot m i).kids)) (omega arith) c.child_facts-f.ensures
 
 pub child_facts-a-requires : goal.child_facts-a-requires
@@ -37,9 +37,6 @@ union_facts-f-requires c = let m = c.args.m.now in let i = c.args.i in
     c.loop-j-test.true c.child_facts-a.ensures c.loop-j.invariant (omega arith) in
     (c.child_facts-a.ensures.usable.fine, c.loop-j.invariant.says.fine, omega arith)
 
-pub loop-j-smaller : goal.loop-j-smaller
-loop-j-smaller c = let t = c.loop-j-test.true in omega arith
-
 pub loop-j-preserved : goal.loop-j-preserved
 loop-j-preserved c = let m = c.args.m.now in let i = c.args.i in
     united_more (known (forest m (slot m i).kids)) c.loop-j.j c.loop-j.f
@@ -47,4 +44,4 @@ loop-j-preserved c = let m = c.args.m.now in let i = c.args.i in
     c.union_facts-f.result c.union_facts-f.ensures
 
 pub returns : goal.returns
-returns c = united_all _ c.loop-j.j c.loop-j.f c.loop-j-test.false c.loop-j.invariant
+returns c = united_all _ c.loop-j.j c.loop-j.f (omega arith) c.loop-j.invariant

@@ -6,6 +6,3 @@ use Rattle.settling.proofs.united.Given as goal
 
 abbrev pub invariant-loop-j : goal.invariant-loop-j
 invariant-loop-j l = United (known (forest l.m (slot l.m l.i).kids)) l.j l.f
-
-abbrev pub decreases-loop-j : goal.decreases-loop-j
-decreases-loop-j l = l.j

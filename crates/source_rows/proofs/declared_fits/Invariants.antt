@@ -1,4 +1,3 @@
-use Prim.Native.Nat.{◌≤◌, ◌-◌}
 use mathlib.Core.Path.{◌≡◌}
 use mathlib.Core.Bool.{true}
 use Rattle.plan_codec.specs.Reading.{plan_of}
@@ -10,7 +9,4 @@ use Rattle.source_rows.specs.Declared.{kept_from}
 use Rattle.source_rows.proofs.declared_fits.Given as goal
 
 abbrev pub invariant-loop-j : goal.invariant-loop-j
-invariant-loop-j l = (l.j ≤ l.n) × Taken l.plan l.n × (streams_ok l.rows l.at (widths_from l.plan l.n l.j) ≡ true) × (kept_from l.rows l.at (ops_from l.plan l.n l.j) ≡ sources_ok (rows_in (plan_of l.plan) l.rows) (plan_of l.plan))
-
-abbrev pub decreases-loop-j : goal.decreases-loop-j
-decreases-loop-j l = l.n - l.j
+invariant-loop-j l = Taken l.plan l.n × (streams_ok l.rows l.at (widths_from l.plan l.n l.j) ≡ true) × (kept_from l.rows l.at (ops_from l.plan l.n l.j) ≡ sources_ok (rows_in (plan_of l.plan) l.rows) (plan_of l.plan))

@@ -1,4 +1,4 @@
-use Prim.Native.Nat.{◌≤◌, ◌-◌}
+use Prim.Native.Nat.{◌≤◌}
 use mathlib.Core.Path.{◌≡◌}
 use lib.ListN.{length}
 use Rattle.plan_codec.specs.Reading.{plan_of}
@@ -8,7 +8,4 @@ use Rattle.source_rows.specs.Sources.{widths_from}
 use Rattle.source_rows.proofs.form_fits.Given as goal
 
 abbrev pub invariant-loop-j : goal.invariant-loop-j
-invariant-loop-j l = (l.j ≤ l.n) × (l.at ≤ length l.rows) × Taken l.plan l.n × (streams_ok l.rows l.at (widths_from l.plan l.n l.j) ≡ form_ok (plan_of l.plan) l.rows)
-
-abbrev pub decreases-loop-j : goal.decreases-loop-j
-decreases-loop-j l = l.n - l.j
+invariant-loop-j l = (l.at ≤ length l.rows) × Taken l.plan l.n × (streams_ok l.rows l.at (widths_from l.plan l.n l.j) ≡ form_ok (plan_of l.plan) l.rows)

@@ -1,4 +1,4 @@
-use Prim.Native.Nat.{◌≤◌, ◌-◌, ◌+◌}
+use Prim.Native.Nat.{◌≤◌, ◌+◌}
 use mathlib.Core.Path.{◌≡◌}
 use mathlib.Core.Bool.{true}
 use mathlib.Core.List.{[]}
@@ -11,7 +11,4 @@ use Rattle.source_rows.specs.Sources.{widths_from}
 use Rattle.source_rows.proofs.rows_given.Given as goal
 
 abbrev pub invariant-loop-j : goal.invariant-loop-j
-invariant-loop-j l = (l.j ≤ l.n) × (l.at ≤ length l.rows) × Taken l.plan l.n × (streams_ok l.rows l.at (widths_from l.plan l.n l.j) ≡ true) × (l.count ≤ l.at) × (l.count + rows_together l.rows l.at (widths_from l.plan l.n l.j) ≡ rows_together l.rows 0 (stream_widths (sources_of (plan_of l.plan) [])))
-
-abbrev pub decreases-loop-j : goal.decreases-loop-j
-decreases-loop-j l = l.n - l.j
+invariant-loop-j l = (l.at ≤ length l.rows) × Taken l.plan l.n × (streams_ok l.rows l.at (widths_from l.plan l.n l.j) ≡ true) × (l.count ≤ l.at) × (l.count + rows_together l.rows l.at (widths_from l.plan l.n l.j) ≡ rows_together l.rows 0 (stream_widths (sources_of (plan_of l.plan) [])))

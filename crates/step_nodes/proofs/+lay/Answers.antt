@@ -5,10 +5,9 @@ use lib.Seq.{take-set-le}
 use Rattle.arena.specs.Arena.{slot}
 use Rattle.plan_context.specs.Laws.{here}
 use Rattle.step_tables.specs.Places.{node_of}
-use Rattle.step_nodes.specs.Layout.{}
 use Rattle.step_nodes.specs.Rows.{row_front}
 use Rattle.step_nodes.specs.Laying.{op_in, below_in, in_room, shown, child_asks, child_lower, child_there, stands_first, going-none, LayingKids, room_is, kid_asks, kid_adds, kid_next, kids_all}
-use Prim.Native.Nat.{◌+◌, ◌*◌, ◌-◌, ◌<◌}
+use Prim.Native.Nat.{◌+◌, ◌-◌, ◌<◌}
 use Rattle.step_nodes.proofs.+lay.Goals as goal
 
 pub put_node-inps-requires : goal.put_node-inps-requires
@@ -32,8 +31,8 @@ bounds-slots-n t c = let m = c.args.m.now in let u = c.args.u in let i = c.args.
     let room = room_is m u i d l t₀ s₀ p n a b t₀ s₀ w in let r₀ = room.0 in let r₁ = room.1 in let r₂ = room.2 in
     omega arith
 
-pub child_count-kids-requires : goal.child_count-kids-requires
-child_count-kids-requires t c = let m = c.args.m.now in let u = c.args.u in let i = c.args.i in let w = c.requires.0 in
+pub child_count-k-end-requires : goal.child_count-k-end-requires
+child_count-k-end-requires t c = let m = c.args.m.now in let u = c.args.u in let i = c.args.i in let w = c.requires.0 in
     let d = w.arena in let l = c.requires.1 in let t₀ = c.args.table.now in let s₀ = c.args.slots.now in let n = c.args.n in
     let a = c.args.a in let b = c.args.b in let p = c.args.above in
     let room = room_is m u i d l t₀ s₀ p n a b t₀ s₀ w in let r₀ = room.0 in let r₁ = room.1 in let r₂ = room.2 in
@@ -59,8 +58,6 @@ loop-k-init t c = let m = c.args.m.now in let u = c.args.u in let i = c.args.i i
     let a = c.args.a in let b = c.args.b in let p = c.args.above in
     let room = room_is m u i d l t₀ s₀ p n a b t₀ s₀ w in let r₀ = room.0 in let r₁ = room.1 in let r₂ = room.2 in
     let x = c.put_node-inps in let T = x.new.table in let S = set s₀ n i in let L = x.auto.table in let M = length-set s₀ n i in (
-      c.child_count-kids.ensures,
-      omega arith,
       refl,
       refl,
       subst (λ z. LayingKids m u i T S p n a b 0 T S (n + 1) (b + z) b) (sym x.ensures.0)
@@ -72,7 +69,7 @@ child-c-requires t c = let m = c.args.m.now in let u = c.args.u in let i = c.arg
     let d = w.arena in let l = c.requires.1 in let t₀ = c.args.table.now in let s₀ = c.args.slots.now in let n = c.args.n in
     let a = c.args.a in let b = c.args.b in let p = c.args.above in
     let room = room_is m u i d l t₀ s₀ p n a b t₀ s₀ w in let r₀ = room.0 in let r₁ = room.1 in let r₂ = room.2 in
-    let q = c.loop-k in let i₀ = q.invariant.0 in let k = c.loop-k-test.true in
+    let q = c.loop-k in let e₀ = c.child_count-k-end.ensures in let k = c.loop-k-test.true in
     child_asks m u i d l q.k (omega arith)
 
 pub lay-r-requires : goal.lay-r-requires
@@ -81,7 +78,7 @@ lay-r-requires t c = let m = c.args.m.now in let u = c.args.u in let i = c.args.
     let a = c.args.a in let b = c.args.b in let p = c.args.above in
     let room = room_is m u i d l t₀ s₀ p n a b t₀ s₀ w in let r₀ = room.0 in let r₁ = room.1 in let r₂ = room.2 in
     let x = c.put_node-inps in let T = x.new.table in let S = set s₀ n i in let L = x.auto.table in let M = length-set s₀ n i in
-    let q = c.loop-k in let i₀ = q.invariant.0 in let i₁ = q.invariant.1 in let i₂ = q.invariant.2 in let i₃ = q.invariant.3 in let g = q.invariant.4 in
+    let q = c.loop-k in let e₀ = c.child_count-k-end.ensures in let i₂ = q.invariant.0 in let i₃ = q.invariant.1 in let g = q.invariant.2 in
     let k = c.loop-k-test.true in let y = (shown m u i d l).count in let k₁ : q.k < length (slot m i).kids = omega arith in
     let j = c.child-c in let z = child_lower m u i d l q.k k₁ j.result j.ensures in let v = c.requires in (
       omega arith,
@@ -97,7 +94,7 @@ row-requires t c = let m = c.args.m.now in let u = c.args.u in let i = c.args.i 
     let d = w.arena in let l = c.requires.1 in let t₀ = c.args.table.now in let s₀ = c.args.slots.now in let n = c.args.n in
     let a = c.args.a in let b = c.args.b in let p = c.args.above in
     let room = room_is m u i d l t₀ s₀ p n a b t₀ s₀ w in let r₀ = room.0 in let r₁ = room.1 in let r₂ = room.2 in
-    let q = c.loop-k in let i₀ = q.invariant.0 in let i₁ = q.invariant.1 in let i₂ = q.invariant.2 in let i₃ = q.invariant.3 in let g = q.invariant.4 in
+    let q = c.loop-k in let e₀ = c.child_count-k-end.ensures in let i₂ = q.invariant.0 in let i₃ = q.invariant.1 in let g = q.invariant.2 in
     let k = c.loop-k-test.true in let y = (shown m u i d l).count in let k₁ : q.k < length (slot m i).kids = omega arith in
     let j = c.child-c in here m u j.result d (child_there m u i d l q.k k₁ j.result j.ensures)
 
@@ -110,23 +107,11 @@ overflow_add-out t c = let m = c.args.m.now in let u = c.args.u in let i = c.arg
     let a = c.args.a in let b = c.args.b in let p = c.args.above in
     let room = room_is m u i d l t₀ s₀ p n a b t₀ s₀ w in let r₀ = room.0 in let r₁ = room.1 in let r₂ = room.2 in
     let x = c.put_node-inps in let T = x.new.table in let S = set s₀ n i in let L = x.auto.table in let M = length-set s₀ n i in
-    let q = c.loop-k in let i₀ = q.invariant.0 in let i₁ = q.invariant.1 in let i₂ = q.invariant.2 in let i₃ = q.invariant.3 in let g = q.invariant.4 in
+    let q = c.loop-k in let e₀ = c.child_count-k-end.ensures in let i₂ = q.invariant.0 in let i₃ = q.invariant.1 in let g = q.invariant.2 in
     let k = c.loop-k-test.true in let y = (shown m u i d l).count in let k₁ : q.k < length (slot m i).kids = omega arith in
     let j = c.child-c in
     let z = kid_adds m u i d l T S p n a b t₀ s₀ w q.k k₁ j.result j.ensures q.table q.slots q.next q.free q.out g c.streams-out.result
     (c.streams-out.ensures ∙ ap (λ F. F.streams) c.row.ensures.1.is) in omega arith
-
-pub overflow_add-k : goal.overflow_add-k
-overflow_add-k t c = let m = c.args.m.now in let u = c.args.u in let i = c.args.i in let w = c.requires.0 in
-    let d = w.arena in let l = c.requires.1 in let t₀ = c.args.table.now in let s₀ = c.args.slots.now in let n = c.args.n in
-    let a = c.args.a in let b = c.args.b in let p = c.args.above in
-    let room = room_is m u i d l t₀ s₀ p n a b t₀ s₀ w in let r₀ = room.0 in let r₁ = room.1 in let r₂ = room.2 in
-    let q = c.loop-k in let i₀ = q.invariant.0 in let i₁ = q.invariant.1 in let i₂ = q.invariant.2 in let i₃ = q.invariant.3 in let g = q.invariant.4 in
-    let k = c.loop-k-test.true in let y = (shown m u i d l).count in let k₁ : q.k < length (slot m i).kids = omega arith in
-    let f = (shown m u i d l).few in omega arith
-
-pub loop-k-smaller : goal.loop-k-smaller
-loop-k-smaller t c = let k = c.loop-k-test.true in omega arith
 
 pub loop-k-preserved : goal.loop-k-preserved
 loop-k-preserved t c = let m = c.args.m.now in let u = c.args.u in let i = c.args.i in let w = c.requires.0 in
@@ -134,11 +119,9 @@ loop-k-preserved t c = let m = c.args.m.now in let u = c.args.u in let i = c.arg
     let a = c.args.a in let b = c.args.b in let p = c.args.above in
     let room = room_is m u i d l t₀ s₀ p n a b t₀ s₀ w in let r₀ = room.0 in let r₁ = room.1 in let r₂ = room.2 in
     let x = c.put_node-inps in let T = x.new.table in let S = set s₀ n i in let L = x.auto.table in let M = length-set s₀ n i in
-    let q = c.loop-k in let i₀ = q.invariant.0 in let i₁ = q.invariant.1 in let i₂ = q.invariant.2 in let i₃ = q.invariant.3 in let g = q.invariant.4 in
+    let q = c.loop-k in let e₀ = c.child_count-k-end.ensures in let i₂ = q.invariant.0 in let i₃ = q.invariant.1 in let g = q.invariant.2 in
     let k = c.loop-k-test.true in let y = (shown m u i d l).count in let k₁ : q.k < length (slot m i).kids = omega arith in
     let j = c.child-c in let v = c.lay-r in (
-      i₀,
-      omega arith,
       v.auto.table ∙ i₂,
       v.auto.slots ∙ i₃,
       kid_next m u i d l T S p n a b t₀ s₀ w q.k k₁ j.result j.ensures q.table q.slots q.next q.free q.out g
@@ -147,10 +130,10 @@ loop-k-preserved t c = let m = c.args.m.now in let u = c.args.u in let i = c.arg
     )
 
 pub shape_of-table : goal.shape_of-table
-shape_of-table t c = c.loop-k.invariant.2 ∙ c.put_node-inps.auto.table
+shape_of-table t c = c.loop-k.invariant.0 ∙ c.put_node-inps.auto.table
 
 pub shape_of-slots : goal.shape_of-slots
-shape_of-slots t c = c.loop-k.invariant.3 ∙ length-set c.args.slots.now c.args.n c.args.i
+shape_of-slots t c = c.loop-k.invariant.1 ∙ length-set c.args.slots.now c.args.n c.args.i
 
 pub returns : goal.returns
 returns t c = let m = c.args.m.now in let u = c.args.u in let i = c.args.i in let w = c.requires.0 in
@@ -158,7 +141,7 @@ returns t c = let m = c.args.m.now in let u = c.args.u in let i = c.args.i in le
     let a = c.args.a in let b = c.args.b in let p = c.args.above in
     let room = room_is m u i d l t₀ s₀ p n a b t₀ s₀ w in let r₀ = room.0 in let r₁ = room.1 in let r₂ = room.2 in
     let x = c.put_node-inps in let T = x.new.table in let S = set s₀ n i in let L = x.auto.table in let M = length-set s₀ n i in
-    let q = c.loop-k in let i₀ = q.invariant.0 in let k = c.loop-k-test.false in let y = (shown m u i d l).count in
-    kids_all m u i d l T S p n a b t₀ s₀ w q.k q.table q.slots q.next q.free q.out (omega arith) q.invariant.4 t₀ s₀
-    (ap (take (7 * n)) x.ensures.1 ∙ row_front t₀ n (node_of p a b (op_in m i) (below_in m i)) (omega arith))
+    let q = c.loop-k in let e₀ = c.child_count-k-end.ensures in let y = (shown m u i d l).count in
+    kids_all m u i d l T S p n a b t₀ s₀ w q.k q.table q.slots q.next q.free q.out (omega arith) q.invariant.2 t₀ s₀
+    (ap (take n) x.ensures.1 ∙ row_front t₀ n (node_of p a b (op_in m i) (below_in m i)))
     (take-set-le n s₀ n i (omega arith))

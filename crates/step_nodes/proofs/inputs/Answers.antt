@@ -32,9 +32,6 @@ overflow_add-s c = let m = c.args.m.now in let i = c.args.i in let v = c.loop-k.
     let x = length_facts m (slot m i).kids in let y = (shown m c.args.u i c.requires.0 c.requires.1).few in
     let f = c.row.ensures.1.usable.few in let e = c.streams-s.ensures in omega arith
 
-pub loop-k-smaller : goal.loop-k-smaller
-loop-k-smaller c = let t = c.loop-k-test.true in omega arith
-
 pub loop-k-preserved : goal.loop-k-preserved
 loop-k-preserved c = let m = c.args.m.now in let i = c.args.i in let j = c.loop-k.invariant.low in let t = c.loop-k-test.true in
     let x = length_facts m (slot m i).kids in
@@ -44,4 +41,4 @@ loop-k-preserved c = let m = c.args.m.now in let i = c.args.i in let j = c.loop-
     (omega arith)
 
 pub returns : goal.returns
-returns c = let t = c.loop-k-test.false in summed_all _ c.loop-k.k c.loop-k.s (omega arith) c.loop-k.invariant
+returns c = summed_all _ c.loop-k.k c.loop-k.s (omega arith) c.loop-k.invariant

@@ -4,6 +4,3 @@ use Rattle.step_nodes.proofs.inputs.Given as goal
 
 abbrev pub invariant-loop-k : goal.invariant-loop-k
 invariant-loop-k l = Summed (facts (below_in l.m l.i)) l.k l.s
-
-abbrev pub decreases-loop-k : goal.decreases-loop-k
-decreases-loop-k l = l.k

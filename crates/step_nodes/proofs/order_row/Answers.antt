@@ -4,7 +4,7 @@ use Rattle.step_nodes.specs.Moves.{KeysAre}
 use Rattle.step_nodes.proofs.order_row.Goals as goal
 
 pub unpacked-requires : goal.unpacked-requires
-unpacked-requires c = (subst Real c.in-By.is c.requires).1
+unpacked-requires c = (subst Real c.in-Some.is c.requires).1
 
-pub returns-in-By : goal.returns-in-By
-returns-in-By c = subst (λ z. KeysAre (order_of z) c.unpacked.result) (sym c.in-By.is) c.unpacked.ensures
+pub returns-in-Some : goal.returns-in-Some
+returns-in-Some c = subst (λ z. KeysAre (order_of z) c.unpacked.result) (sym c.in-Some.is) c.unpacked.ensures

@@ -29,9 +29,8 @@ returns c = let m = c.args.m.now in let u = c.args.u in let i = c.args.i in let 
     let k = c.kind_of-kind.ensures ∙ ap (λ x. kind_of (get_or x 0 0)) e in
     let p = c.preserves.ensures ∙ ap (λ x. (from_bytes x).preserve) e in (
       c.inputs-inps.ensures,
-      node_put c.args.table.now c.args.n c.args.above c.args.a c.args.b (op_in m i) (below_in m i) _ _ _ _ _
-          c.put_row.ensures
-          (number_is r (facts (below_in m i)) _ _ _ k c.mark_counts.ensures c.manner_number-number.ensures)
+      node_put c.args.table.now c.args.n c.args.above c.args.a c.args.b (op_in m i) (below_in m i) _ _ _ _
+          (number_is r (facts (below_in m i)) _ _ _ k c.mark_counts.ensures c.manner_of-manner.ensures)
           (straight_is r _ _ _ k p c.is_straight-straight.ensures)
           (c.streams-outs.ensures ∙ ap (λ F. F.streams) (own_facts m u i a l _ c.kept_at.ensures))
           c.inputs-inps.ensures,

@@ -1,9 +1,6 @@
-use Prim.Native.Nat.{◌-◌, ◌≤◌}
+use Rattle.key_lists.specs.Keys.{keys_left, keys_of}
 use Rattle.step_nodes.specs.Moves.{Unpacking}
 use Rattle.step_nodes.proofs.unpacked.Given as goal
 
 abbrev pub invariant-loop-j : goal.invariant-loop-j
-invariant-loop-j l = (l.n ≤ 8) × Unpacking l.n l.initial.w l.j l.items l.w
-
-abbrev pub decreases-loop-j : goal.decreases-loop-j
-decreases-loop-j l = l.n - l.j
+invariant-loop-j l = Unpacking (keys_of l.k) l.j l.items (keys_left l.key-iterator)

@@ -8,7 +8,7 @@ use Rattle.step_rows.specs.Projecting.{Picks, picks_more}
 use Rattle.step_rows.proofs.picked_cells.Goals as goal
 
 pub loop-j-init : goal.loop-j-init
-loop-j-init c = (omega arith, refl, λ k h. absurd (omega arith))
+loop-j-init c = (refl, λ k h. absurd (omega arith))
 
 pub overflow_add-picked : goal.overflow_add-picked
 overflow_add-picked c = let h = c.requires.2 c.loop-j.j (omega arith) in omega arith
@@ -21,11 +21,10 @@ bounds-cells-a c = let h = c.requires.2 c.loop-j.j (omega arith) in omega arith
 
 pub loop-j-preserved : goal.loop-j-preserved
 loop-j-preserved c = let a = c.args in let l = c.loop-j in (
-  omega arith,
-  simp length-set l.invariant.1,
-  picks_more a.cells.now a.a a.cols.now l.j l.picked _ l.invariant.2 (omega arith) (to_z-of_z {w = w64} (record { sfits = c.picked-1.given })),
+  simp length-set l.invariant.0,
+  picks_more a.cells.now a.a a.cols.now l.j l.picked _ l.invariant.1 (omega arith) (to_z-of_z {w = w64} (record { sfits = c.picked-1.given })),
 )
 
 pub returns : goal.returns
 returns c = let a = c.args in let l = c.loop-j in
-    subst (λ (n : ℕ). Picks a.cells.now a.a a.cols.now n l.picked) (omega arith) l.invariant.2
+    subst (λ (n : ℕ). Picks a.cells.now a.a a.cols.now n l.picked) (omega arith) l.invariant.1

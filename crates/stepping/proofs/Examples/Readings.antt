@@ -1,12 +1,11 @@
 -- The examples of docs/DECISIONS.md on dry runs, computed.
-use Rattle.std.specs.Prelude.{◌≡◌, refl, Bool, true, false, List, [], ◌∷◌, ◌++◌, map, ℕ, pos, length, get_or}
+use Rattle.std.specs.Prelude.{◌≡◌, refl, true, false, List, [], ◌∷◌, ◌++◌, map, ℕ, pos, length, get_or, Some, None}
 use Rattle.row_order.specs.Iso.{Row, null, num}
 use Rattle.row_order.specs.Lists.{concat}
 use Rattle.scan.specs.Bytes.{all_below}
-use Rattle.plan.specs.Forest.{Forest, none, tree}
-use Rattle.plan.specs.Op.{Op, filter, projection, union, repartition, coalesce, sort_op, merge_op, global_limit, local_limit, hash_join, partial_sort, Plan}
+use Rattle.plan.specs.Forest.{none, tree}
+use Rattle.plan.specs.Op.{Op, filter, union, repartition, coalesce, sort_op, merge_op, global_limit, local_limit, hash_join, Plan}
 use Rattle.plan.specs.Samples.{up, by, source_of}
-use Rattle.plan.specs.declared.Fetch.TheVariants.{Unlimited, AtMost}
 use Rattle.plan.specs.declared.JoinType.TheVariants.{Inner}
 use Rattle.semantics.specs.Runs.{Streams}
 use Rattle.semantics.proofs.Examples.SampleRows.{row, pair}
@@ -48,12 +47,12 @@ pub closed_at_once : let rows = only ([] ∷ line (1 ∷ 2 ∷ []) ∷ []) in co
 closed_at_once = refl
 
 -- 3: a row that will be cut keeps its stream open
-pub cuts_aside : delivered (over (repartition true 2 false []) (over (local_limit (AtMost 1) []) (ordered 2))) (only (line (1 ∷ 1 ∷ []) ∷ one 1 ∷ [])) (0 ∷ 1 ∷ []) ≡
+pub cuts_aside : delivered (over (repartition true 2 false []) (over (local_limit (Some 1) []) (ordered 2))) (only (line (1 ∷ 1 ∷ []) ∷ one 1 ∷ [])) (0 ∷ 1 ∷ []) ≡
     one 1 ∷ one 1 ∷ []
 cuts_aside = refl
 
 -- 4: a preserving sort waits for all its streams
-pub waits_for_all : delivered (over (coalesce Unlimited) (over (sort_op true (by 0) Unlimited) (over filter (source 2)))) (only (one 1 ∷ one 2 ∷ [])) (0 ∷ 1 ∷ []) ≡
+pub waits_for_all : delivered (over (coalesce None) (over (sort_op true (by 0) None) (over filter (source 2)))) (only (one 1 ∷ one 2 ∷ [])) (0 ∷ 1 ∷ []) ≡
     line (2 ∷ 1 ∷ []) ∷ []
 waits_for_all = refl
 
@@ -62,10 +61,10 @@ pub idle_mark : delivered (over (repartition true 2 false []) (source 2)) (only 
 idle_mark = refl
 
 -- 6: modulo the streams with a row; the empty list is zeros; a list that ends starts over
-pub modulo_rows : delivered (over (coalesce Unlimited) (source 3)) (only (one 1 ∷ [] ∷ one 2 ∷ [])) (2 ∷ []) ≡ line (1 ∷ 2 ∷ []) ∷ []
+pub modulo_rows : delivered (over (coalesce None) (source 3)) (only (one 1 ∷ [] ∷ one 2 ∷ [])) (2 ∷ []) ≡ line (1 ∷ 2 ∷ []) ∷ []
 modulo_rows = refl
 
-pub zeros : delivered (over (coalesce Unlimited) (source 2)) (only (line (1 ∷ 3 ∷ []) ∷ one 2 ∷ [])) [] ≡ line (1 ∷ 3 ∷ 2 ∷ []) ∷ []
+pub zeros : delivered (over (coalesce None) (source 2)) (only (line (1 ∷ 3 ∷ []) ∷ one 2 ∷ [])) [] ≡ line (1 ∷ 3 ∷ 2 ∷ []) ∷ []
 zeros = refl
 
 pub starts_over : delivered (over (repartition false 2 false []) (source 2)) (only (line (1 ∷ 2 ∷ []) ∷ one 3 ∷ [])) (1 ∷ 0 ∷ 1 ∷ []) ≡
@@ -74,7 +73,7 @@ starts_over = refl
 
 -- 6: operators in node order, a union's input streams counted through its children
 abbrev branches : Plan
-branches = over (coalesce Unlimited) (tree union (tree (source_of 1 2 0 [] false) none (over filter (source 1))) none)
+branches = over (coalesce None) (tree union (tree (source_of 1 2 0 [] false) none (over filter (source 1))) none)
 
 abbrev branch_rows : ℕ → ℕ → List Row
 branch_rows i k = get_or (get_or ((one 1 ∷ one 2 ∷ []) ∷ (one 3 ∷ []) ∷ []) i []) k []
@@ -92,23 +91,23 @@ wide = tree (source_of 2 2 0 [] false) none none
 abbrev marked : ℕ → ℕ → Row
 marked n m = pair (num (pos n)) (num (pos m))
 
-pub by_arrival : delivered (over (sort_op false (by 0) Unlimited) wide) (only ((marked 1 7 ∷ marked 0 7 ∷ []) ∷ (marked 1 8 ∷ marked 0 8 ∷ []) ∷ [])) [] ≡
+pub by_arrival : delivered (over (sort_op false (by 0) None) wide) (only ((marked 1 7 ∷ marked 0 7 ∷ []) ∷ (marked 1 8 ∷ marked 0 8 ∷ []) ∷ [])) [] ≡
     (marked 0 7 ∷ marked 0 8 ∷ marked 1 7 ∷ marked 1 8 ∷ []) ∷ []
 by_arrival = refl
 
-pub by-moves : delivered (over (sort_op false (by 0) Unlimited) (over (coalesce Unlimited) wide)) (only ((marked 1 7 ∷ []) ∷ (marked 1 8 ∷ []) ∷ [])) (1 ∷ []) ≡
+pub by-moves : delivered (over (sort_op false (by 0) None) (over (coalesce None) wide)) (only ((marked 1 7 ∷ []) ∷ (marked 1 8 ∷ []) ∷ [])) (1 ∷ []) ≡
     (marked 1 8 ∷ marked 1 7 ∷ []) ∷ []
 by-moves = refl
 
 -- 7: a merge takes peers from the lowest stream, nulls last
-pub lowest_stream : delivered (over (merge_op (by 0) Unlimited) (tree (source_of 2 2 0 (by 0) false) none none))
+pub lowest_stream : delivered (over (merge_op (by 0) None) (tree (source_of 2 2 0 (by 0) false) none none))
     (only ((marked 1 7 ∷ pair null (num (pos 7)) ∷ []) ∷ (marked 1 8 ∷ marked 2 8 ∷ []) ∷ [])) (5 ∷ []) ≡
     (marked 1 7 ∷ marked 1 8 ∷ marked 2 8 ∷ pair null (num (pos 7)) ∷ []) ∷ []
 lowest_stream = refl
 
 -- 8: skip before fetch; a cut row's move is a step
 abbrev limited : Plan
-limited = over (global_limit 1 (AtMost 2) []) (source 1)
+limited = over (global_limit 1 (Some 2) []) (source 1)
 
 abbrev four : ℕ → ℕ → List Row
 four = only (line (1 ∷ 2 ∷ 3 ∷ 4 ∷ []) ∷ [])

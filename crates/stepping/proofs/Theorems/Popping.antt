@@ -1,13 +1,11 @@
 -- A row at the front of one stream, and what comes after it. Assumes nothing.
-use Rattle.std.specs.Prelude.{◌≡◌, refl, Bool, true, false, cond, ◌&&◌, List, [], ◌∷◌, ◌++◌, map, ℕ, zero, suc, ◌+◌, ◌-◌, ◌<◌, ◌≤◌, length, take, drop}
+use Rattle.std.specs.Prelude.{◌≡◌, refl, Bool, true, false, cond, ◌&&◌, List, [], ◌∷◌, ◌++◌, map, ℕ, zero, suc, ◌+◌, ◌-◌, ◌<◌, ◌≤◌, length, take, drop, Option, Some, None}
 use Rattle.std.proofs.Common.{sym, ap, ap₂, ◌∙◌, subst, append_assoc, arith, le-leb, le-ltb, lt-ltb}
 use Rattle.std.proofs.lemmas.Bool.{lt-leb}
 use Rattle.std.proofs.Math.Seq.{take-nil}
 use Rattle.row_order.specs.Iso.{Row}
 use Rattle.row_order.specs.Lists.{sum, concat}
 use Rattle.row_order.specs.ListLaws.{sum_append}
-use Rattle.plan.specs.declared.Fetch.{Fetch}
-use Rattle.plan.specs.declared.Fetch.TheVariants.{Unlimited, AtMost}
 use Rattle.semantics.specs.Properties.{Cut}
 use Rattle.semantics.specs.Runs.{Streams, front, cut_rows}
 use Rattle.stepping.specs.Outlets.{below, keeps}
@@ -92,36 +90,36 @@ joined_length k w t [] = refl
 joined_length k w t (l ∷ raw) = ap suc (joined_length k (λ n. w (suc n)) (λ n. t (suc n)) raw)
 
 -- ---- cuts from the start are the run's
-abbrev cut : ℕ → Fetch → Cut
+abbrev cut : ℕ → Option ℕ → Cut
 cut s f = record { skip = s; fetch = f }
 
 -- past the skipped rows
-all_kept : (s c : ℕ) (l : List Row) → s ≤ c → cut_from (cut s Unlimited) c l ≡ l
+all_kept : (s c : ℕ) (l : List Row) → s ≤ c → cut_from (cut s None) c l ≡ l
 all_kept s c [] h = refl
 all_kept s c (x ∷ l) h = ap₂ (λ (b : Bool) (m : List Row). cond (b && true) (x ∷ m) m) (le-leb s c h) (all_kept s (suc c) l (omega arith))
 
-none_kept : (s n c : ℕ) (l : List Row) → s + n ≤ c → cut_from (cut s (AtMost n)) c l ≡ []
+none_kept : (s n c : ℕ) (l : List Row) → s + n ≤ c → cut_from (cut s (Some n)) c l ≡ []
 none_kept s n c [] h = refl
 none_kept s n c (x ∷ l) h =
-    ap₂ (λ (a b : Bool). cond (a && b) (x ∷ cut_from (cut s (AtMost n)) (suc c) l) (cut_from (cut s (AtMost n)) (suc c) l)) (le-leb s c (omega arith))
+    ap₂ (λ (a b : Bool). cond (a && b) (x ∷ cut_from (cut s (Some n)) (suc c) l) (cut_from (cut s (Some n)) (suc c) l)) (le-leb s c (omega arith))
     (le-ltb c (s + n) h) ∙ none_kept s n (suc c) l (omega arith)
 
-some_kept : (s n c m : ℕ) (l : List Row) → s ≤ c → c + m ≡ s + n → cut_from (cut s (AtMost n)) c l ≡ take m l
+some_kept : (s n c m : ℕ) (l : List Row) → s ≤ c → c + m ≡ s + n → cut_from (cut s (Some n)) c l ≡ take m l
 some_kept s n c zero l h e = none_kept s n c l (omega arith)
 some_kept s n c (suc m) [] h e = refl
 some_kept s n c (suc m) (x ∷ l) h e =
-    ap₂ (λ (a b : Bool). cond (a && b) (x ∷ cut_from (cut s (AtMost n)) (suc c) l) (cut_from (cut s (AtMost n)) (suc c) l)) (le-leb s c h)
+    ap₂ (λ (a b : Bool). cond (a && b) (x ∷ cut_from (cut s (Some n)) (suc c) l) (cut_from (cut s (Some n)) (suc c) l)) (le-leb s c h)
     (lt-ltb c (s + n) (omega arith)) ∙ ap (λ (t : List Row). x ∷ t) (some_kept s n (suc c) m l (omega arith) (omega arith))
 
-front_kept : (s c : ℕ) (f : Fetch) (l : List Row) → c ≡ s → cut_from (cut s f) c l ≡ front f l
-front_kept s c Unlimited l e = all_kept s c l (omega arith)
-front_kept s c (AtMost n) l e = some_kept s n c n l (omega arith) (omega arith)
+front_kept : (s c : ℕ) (f : Option ℕ) (l : List Row) → c ≡ s → cut_from (cut s f) c l ≡ front f l
+front_kept s c None l e = all_kept s c l (omega arith)
+front_kept s c (Some n) l e = some_kept s n c n l (omega arith) (omega arith)
 
-front_nil : (f : Fetch) → front f [] ≡ []
-front_nil Unlimited = refl
-front_nil (AtMost n) = take-nil n
+front_nil : (f : Option ℕ) → front f [] ≡ []
+front_nil None = refl
+front_nil (Some n) = take-nil n
 
-skip_kept : (s c m : ℕ) (f : Fetch) (l : List Row) → c + m ≡ s → cut_from (cut s f) c l ≡ front f (drop m l)
+skip_kept : (s c m : ℕ) (f : Option ℕ) (l : List Row) → c + m ≡ s → cut_from (cut s f) c l ≡ front f (drop m l)
 skip_kept s c zero f l e = front_kept s c f l (omega arith)
 skip_kept s c (suc m) f [] e = sym (front_nil f)
 skip_kept s c (suc m) f (x ∷ l) e =

@@ -20,8 +20,7 @@ pub returns-then-has_partial_sort : goal.returns-then-has_partial_sort
 returns-then-has_partial_sort c = let p = c.requires in
     let m = c.args.m.now in let u = c.args.u in let h = c.args.h in let k = c.args.c.now in let w = c.args.w in let out = c.args.out.now in
     let t = c.settle_all in let m' = t.new.m in let l = t.auto.m in let a = t.ensures.0 in
-    let f = t.ensures.1 in partial_refused m u h k p m' l a f w out _ c.has_partial_sort.ensures c.if-has_partial_sort.true _
-    c.number.ensures
+    let f = t.ensures.1 in partial_refused m u h k p m' l a f w out _ c.has_partial_sort.ensures c.if-has_partial_sort.true
 
 pub nodes-n-requires : goal.nodes-n-requires
 nodes-n-requires c = let p = c.requires in
@@ -41,30 +40,30 @@ write_out-requires c = let p = c.requires in let m = c.args.m.now in let u = c.a
     let en = c.nodes-n.ensures in
     let y = c.transform_up in let m'' = y.new.m in
     let d = subst (λ o. Outcome o w m' u (h / 2)
-    c.nodes-n.result m'') c.in-Done.is y.ensures in
-    let q = walk_count m u h k p m' l a f w out _ eb z _ en m'' y.auto.m c.in-Done.used c.in-Done.root c.in-Done.total d in
-    (arena_loaded m'' c.in-Done.used d.grown.arena, d.grown.here, q.0, q.1)
+    c.nodes-n.result m'') c.in-Ok.is y.ensures in
+    let q = walk_count m u h k p m' l a f w out _ eb z _ en m'' y.auto.m c.in-Ok.x.used c.in-Ok.x.root c.in-Ok.x.total d in
+    (arena_loaded m'' c.in-Ok.x.used d.grown.arena, d.grown.here, q.0, q.1)
 
-pub returns-in-Done : goal.returns-in-Done
-returns-in-Done c = let p = c.requires in let m = c.args.m.now in
+pub returns-in-Ok : goal.returns-in-Ok
+returns-in-Ok c = let p = c.requires in let m = c.args.m.now in
     let u = c.args.u in let h = c.args.h in let k = c.args.c.now in let w = c.args.w in let out = c.args.out.now in
     let t = c.settle_all in let m' = t.new.m in let l = t.auto.m in let a = t.ensures.0 in let f = t.ensures.1 in
     let eb = c.has_partial_sort.ensures in
     let z = c.if-has_partial_sort.false in let en = c.nodes-n.ensures in let y = c.transform_up in
     let m'' = y.new.m in
     let d = subst (λ o. Outcome o w m' u (h / 2)
-    c.nodes-n.result m'') c.in-Done.is
-    y.ensures in walk_wrote m u h k p m' l a f w out _ eb z _ en m'' y.auto.m c.in-Done.used c.in-Done.root c.in-Done.total d
+    c.nodes-n.result m'') c.in-Ok.is
+    y.ensures in walk_wrote m u h k p m' l a f w out _ eb z _ en m'' y.auto.m c.in-Ok.x.used c.in-Ok.x.root c.in-Ok.x.total d
     c.write_out.result c.write_out.new.out c.write_out.ensures
 
-pub returns-in-Stopped : goal.returns-in-Stopped
-returns-in-Stopped c = let p = c.requires in let m = c.args.m.now in let u = c.args.u in let h = c.args.h in
+pub returns-in-Err : goal.returns-in-Err
+returns-in-Err c = let p = c.requires in let m = c.args.m.now in let u = c.args.u in let h = c.args.h in
     let k = c.args.c.now in let w = c.args.w in let out = c.args.out.now in
     let t = c.settle_all in let m' = t.new.m in let l = t.auto.m in let a = t.ensures.0 in let f = t.ensures.1 in
     let eb = c.has_partial_sort.ensures in
     let z = c.if-has_partial_sort.false in
     let en = c.nodes-n.ensures in
     let y = c.transform_up in let m'' = y.new.m in
-    walk_stopped m u h k p m' l a f w out _ eb z _ en m'' y.auto.m c.in-Stopped.s
+    walk_stopped m u h k p m' l a f w out _ eb z _ en m'' y.auto.m c.in-Err.s
     (subst (λ o. Outcome o w m' u (h / 2) c.nodes-n.result m'')
-    c.in-Stopped.is y.ensures) _ c.stopped.ensures
+    c.in-Err.is y.ensures) _ c.stopped.ensures

@@ -1,9 +1,8 @@
 -- Aggregates in the walks, by computation (02, P1). None of them treats an aggregate apart but pushing, which leaves the sort over it.
-use Rattle.std.specs.Prelude.{◌≡◌, refl, true, false, List, [], ◌∷◌, ℕ}
+use Rattle.std.specs.Prelude.{◌≡◌, refl, true, false, List, [], ◌∷◌, ℕ, None}
 use Rattle.row_order.specs.Iso.{Key}
 use Rattle.plan.specs.Op.{aggregate, coalesce, merge_op, Plan, projection}
 use Rattle.plan.specs.Samples.{by}
-use Rattle.plan.specs.declared.Fetch.TheVariants.{Unlimited}
 use Rattle.semantics.specs.Facts.{facts}
 use Rattle.semantics.specs.Check.{check}
 use Rattle.walks.specs.Counted.{answered, ensured, parallelized, preserved, pushed}
@@ -32,14 +31,14 @@ ensure_aggregate = (refl, refl, refl)
 
 -- parallelizing goes through it: so the groups of one stream become those of two (02: rows are promised without aggregates)
 pub parallelize_aggregate :
-    (parallelized (sort 0 (grouped 0 (on (coalesce Unlimited) (src 2 [])))) ≡ answered (on (merge_op (by 0) Unlimited) (sort_each 0 (grouped 0 (src 2 [])))))
+    (parallelized (sort 0 (grouped 0 (on (coalesce None) (src 2 [])))) ≡ answered (on (merge_op (by 0) None) (sort_each 0 (grouped 0 (src 2 [])))))
     × (clear (sort 0 (grouped 0 (src 2 []))) ≡ false)
 parallelize_aggregate = (refl, refl)
 
 -- order-preserving: over a coalesce the aggregate knows no order, so no connection passes it
 pub preserve_aggregate :
-    preserved (settings true true true) (sort 0 (grouped 0 (on (coalesce Unlimited) (src 2 (by 0)))))
-    ≡ answered (sort 0 (grouped 0 (on (coalesce Unlimited) (src 2 (by 0)))))
+    preserved (settings true true true) (sort 0 (grouped 0 (on (coalesce None) (src 2 (by 0)))))
+    ≡ answered (sort 0 (grouped 0 (on (coalesce None) (src 2 (by 0)))))
 preserve_aggregate = refl
 
 -- pushing leaves a sort over it
@@ -69,7 +68,7 @@ abbrev stockpiles : ℕ → List Key → Plan
 stockpiles n known = on (aggregate (by_two 0 1) 1) (src n known)
 
 abbrev merged : ℕ → Plan → Plan
-merged c f = on (merge_op (by c) Unlimited) f
+merged c f = on (merge_op (by c) None) f
 
 pub surveyed :
     (ensured (shown 2 (sort 1 (stockpiles 1 []))) ≡ answered (shown 2 (sort 1 (stockpiles 1 []))))

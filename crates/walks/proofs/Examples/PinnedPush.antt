@@ -1,12 +1,11 @@
 -- Small plans, by computation: pushing. 'not:' names the wrong definition that a plan tells from the right one. Pinned says what such plans are for.
-use Rattle.std.specs.Prelude.{◌≡◌, refl, true, false, List, [], ◌∷◌, ℕ}
+use Rattle.std.specs.Prelude.{◌≡◌, refl, true, false, List, [], ◌∷◌, ℕ, Some, None}
 use Rattle.row_order.specs.Iso.{Key}
 use Rattle.row_order.specs.Lists.{tab}
 use Rattle.plan.specs.Forest.{none, size, tree}
 use Rattle.plan.specs.Op.{coalesce, filter, global_limit, hash_join, local_limit, merge_op, On, output_requirement, Plan, projection, repartition, sort_merge_join, sort_op}
 use Rattle.plan.specs.Samples.{by, source_of, up}
 use Rattle.plan.specs.declared.Distribution.TheVariants.{Keyed, Single, Unspecified}
-use Rattle.plan.specs.declared.Fetch.TheVariants.{AtMost, Unlimited}
 use Rattle.plan.specs.declared.JoinType.{JoinType}
 use Rattle.plan.specs.declared.JoinType.TheVariants.{Inner, Left, Right, RightSemi}
 use Rattle.plan.specs.declared.Refusal.TheVariants.{ConstantSort, TooManyNodes}
@@ -61,24 +60,24 @@ pub push_remapped :
 push_remapped = refl
 
 -- no sort goes past a filter; of two fetches the least stays; a fetch does not go past a union
-pub push_blocked : pushed (on (sort_op false (by 0) (AtMost 3)) (on filter (src 1 []))) ≡ answered
-    (on (sort_op false (by 0) (AtMost 3)) (on filter (src 1 [])))
+pub push_blocked : pushed (on (sort_op false (by 0) (Some 3)) (on filter (src 1 []))) ≡ answered
+    (on (sort_op false (by 0) (Some 3)) (on filter (src 1 [])))
 push_blocked = refl
 
 pub push_least_fetch :
-    pushed (on (sort_op false (by 0) (AtMost 3)) (on (sort_op false (by 0) (AtMost 5)) (src 1 [])))
-    ≡ answered (on (sort_op false (by 0) (AtMost 3)) (src 1 []))
+    pushed (on (sort_op false (by 0) (Some 3)) (on (sort_op false (by 0) (Some 5)) (src 1 [])))
+    ≡ answered (on (sort_op false (by 0) (Some 3)) (src 1 []))
 push_least_fetch = refl
 
 pub push_union_fetch :
-    pushed (on (sort_op false (by 0) (AtMost 3)) (besides (src 1 []) (src 1 [])))
-    ≡ answered (on (merge_op (by 0) (AtMost 3)) (on (sort_op true (by 0) (AtMost 3)) (besides (src 1 []) (src 1 []))))
+    pushed (on (sort_op false (by 0) (Some 3)) (besides (src 1 []) (src 1 [])))
+    ≡ answered (on (merge_op (by 0) (Some 3)) (on (sort_op true (by 0) (Some 3)) (besides (src 1 []) (src 1 []))))
 push_union_fetch = refl
 
 -- a node of one stream hands down no distribution: no second merge below this one
 pub push_one_stream :
-    pushed (on (single (by_two 0 1)) (on (merge_op (by 0) Unlimited) (src 2 (by 0))))
-    ≡ answered (on (single (by_two 0 1)) (on (merge_op (by 0) Unlimited) (on (sort_op true (by_two 0 1) Unlimited) (src 2 (by 0)))))
+    pushed (on (single (by_two 0 1)) (on (merge_op (by 0) None) (src 2 (by 0))))
+    ≡ answered (on (single (by_two 0 1)) (on (merge_op (by 0) None) (on (sort_op true (by_two 0 1) None) (src 2 (by 0)))))
 push_one_stream = refl
 
 -- past a sort-merge join to the side whose order it keeps, in that side's columns; the other side keeps the join's own requirement
@@ -92,7 +91,7 @@ abbrev hashed : JoinType → Plan → Plan → Plan
 hashed t f g = on (hash_join t by_first) (f ⊕ g)
 
 abbrev sort_two : Plan → Plan
-sort_two f = on (sort_op false (by_two 0 1) Unlimited) f
+sort_two f = on (sort_op false (by_two 0 1) None) f
 
 pub push_merge_join :
     (pushed (output (by_two 0 1) (joined Inner (src 1 []) (src 1 []))) ≡ answered
@@ -140,64 +139,64 @@ side_lowest = refl
 -- ---- what goes down with an order
 -- not: the parent's distribution is lost on the way
 pub push_distribution_kept :
-    pushed (stack (sort_op false (by 1) Unlimited ∷ output_requirement [] Unspecified Unlimited ∷ []) (pair 2 (by 0) 0))
-    ≡ answered (stack (output_requirement [] Unspecified Unlimited ∷ merge_op (by 1) Unlimited ∷ sort_op true (by 1) Unlimited ∷ []) (pair 2 (by 0) 0))
+    pushed (stack (sort_op false (by 1) None ∷ output_requirement [] Unspecified None ∷ []) (pair 2 (by 0) 0))
+    ≡ answered (stack (output_requirement [] Unspecified None ∷ merge_op (by 1) None ∷ sort_op true (by 1) None ∷ []) (pair 2 (by 0) 0))
 push_distribution_kept = refl
 
 -- not: the root's children are not asked for their fetch at first
 pub push_initial_fetch :
-    pushed (output (by_two 0 1) (on (merge_op (by 0) (AtMost 2)) (pair 1 (by_two 1 0) 0)))
-    ≡ answered (output (by_two 0 1) (stack (sort_op false (by_two 0 1) (AtMost 2) ∷ merge_op (by 0) (AtMost 2) ∷ []) (pair 1 (by_two 1 0) 0)))
+    pushed (output (by_two 0 1) (on (merge_op (by 0) (Some 2)) (pair 1 (by_two 1 0) 0)))
+    ≡ answered (output (by_two 0 1) (stack (sort_op false (by_two 0 1) (Some 2) ∷ merge_op (by 0) (Some 2) ∷ []) (pair 1 (by_two 1 0) 0)))
 push_initial_fetch = refl
 
 -- not: a node that meets its order hands no fetch down
 pub push_satisfied_fetch :
-    pushed (stack (sort_op true (by 1) (AtMost 2) ∷ merge_op (by 1) (AtMost 2) ∷ []) (pair 1 [] 0))
-    ≡ answered (stack (merge_op (by 1) (AtMost 2) ∷ sort_op false (by 1) (AtMost 2) ∷ []) (pair 1 [] 0))
+    pushed (stack (sort_op true (by 1) (Some 2) ∷ merge_op (by 1) (Some 2) ∷ []) (pair 1 [] 0))
+    ≡ answered (stack (merge_op (by 1) (Some 2) ∷ sort_op false (by 1) (Some 2) ∷ []) (pair 1 [] 0))
 push_satisfied_fetch = refl
 
 -- not: a node that an order goes past does not hand down its own fetch
 pub push_own_fetch :
-    pushed (stack (sort_op false (by_two 1 0) Unlimited ∷ local_limit (AtMost 1) [] ∷ []) (pair 1 [] 1))
-    ≡ answered (stack (local_limit (AtMost 1) [] ∷ sort_op false (by 1) (AtMost 1) ∷ []) (pair 1 [] 1))
+    pushed (stack (sort_op false (by_two 1 0) None ∷ local_limit (Some 1) [] ∷ []) (pair 1 [] 1))
+    ≡ answered (stack (local_limit (Some 1) [] ∷ sort_op false (by 1) (Some 1) ∷ []) (pair 1 [] 1))
 push_own_fetch = refl
 
 -- not: a node with a fetch that knows no order lets none past
 pub push_unordered_open :
-    pushed (stack (sort_op true (by_two 1 0) Unlimited ∷ merge_op (by 0) (AtMost 2) ∷ []) (pair 1 (by_two 1 0) 1))
-    ≡ answered (on (merge_op (by 0) (AtMost 2)) (pair 1 (by_two 1 0) 1))
+    pushed (stack (sort_op true (by_two 1 0) None ∷ merge_op (by 0) (Some 2) ∷ []) (pair 1 (by_two 1 0) 1))
+    ≡ answered (on (merge_op (by 0) (Some 2)) (pair 1 (by_two 1 0) 1))
 push_unordered_open = refl
 
 -- not: a node with a fetch that does not maintain lets an order past: a coalesce
 pub push-coalesce_fetch :
-    pushed (output (by 0) (besides (on (coalesce (AtMost 3)) (src 2 [])) (src 1 [])))
-    ≡ answered (output (by 0) (besides (sort 0 (on (coalesce (AtMost 3)) (src 2 []))) (sort 0 (src 1 []))))
+    pushed (output (by 0) (besides (on (coalesce (Some 3)) (src 2 [])) (src 1 [])))
+    ≡ answered (output (by 0) (besides (sort 0 (on (coalesce (Some 3)) (src 2 []))) (sort 0 (src 1 []))))
 push-coalesce_fetch = refl
 
 -- a projection has its input's fetch (reading 3), and hands it down with the order in its child's columns
 pub push-projection_fetch :
-    pushed (output (by 0) (besides (stack (projection (1 ∷ 0 ∷ []) ∷ local_limit (AtMost 3) [] ∷ []) (pair 1 [] 0)) (pair 1 [] 0)))
-    ≡ answered (output (by 0) (besides (stack (projection (1 ∷ 0 ∷ []) ∷ sort_op false (by 1) (AtMost 3) ∷ local_limit (AtMost 3) [] ∷ []) (pair 1 [] 0))
+    pushed (output (by 0) (besides (stack (projection (1 ∷ 0 ∷ []) ∷ local_limit (Some 3) [] ∷ []) (pair 1 [] 0)) (pair 1 [] 0)))
+    ≡ answered (output (by 0) (besides (stack (projection (1 ∷ 0 ∷ []) ∷ sort_op false (by 1) (Some 3) ∷ local_limit (Some 3) [] ∷ []) (pair 1 [] 0))
     (sort 0 (pair 1 [] 0))))
 push-projection_fetch = refl
 
 -- not: past a node with a fetch goes an order that its own is longer than, instead of one that is longer than its own
 pub push_merge_fetch :
-    pushed (output (by_two 0 1) (besides (on (merge_op (by 0) (AtMost 2)) (src 2 (by 0))) (src 1 [])))
-    ≡ answered (output (by_two 0 1) (besides (stack (merge_op (by 0) (AtMost 2) ∷ sort_op true (by_two 0 1) (AtMost 2) ∷ []) (src 2 (by 0)))
+    pushed (output (by_two 0 1) (besides (on (merge_op (by 0) (Some 2)) (src 2 (by 0))) (src 1 [])))
+    ≡ answered (output (by_two 0 1) (besides (stack (merge_op (by 0) (Some 2) ∷ sort_op true (by_two 0 1) (Some 2) ∷ []) (src 2 (by 0)))
     (sort_two (src 1 []))))
 push_merge_fetch = refl
 
 -- not: an order goes past a merge though the merge's own would not be met: [0,2] past [0,1]
 pub push_merge_order :
-    pushed (output (by_two 0 2) (on (merge_op (by_two 0 1) Unlimited) (src 2 (by_two 0 1))))
-    ≡ answered (output (by_two 0 2) (stack (sort_op false (by_two 0 2) Unlimited ∷ merge_op (by_two 0 1) Unlimited ∷ []) (src 2 (by_two 0 1))))
+    pushed (output (by_two 0 2) (on (merge_op (by_two 0 1) None) (src 2 (by_two 0 1))))
+    ≡ answered (output (by_two 0 2) (stack (sort_op false (by_two 0 2) None ∷ merge_op (by_two 0 1) None ∷ []) (src 2 (by_two 0 1))))
 push_merge_order = refl
 
 -- not: a global limit without a fetch stops the order
 pub push_skip :
-    pushed (output (by 0) (on (global_limit 2 Unlimited []) (src 1 [])))
-    ≡ answered (output (by 0) (on (global_limit 2 Unlimited []) (sort 0 (src 1 []))))
+    pushed (output (by 0) (on (global_limit 2 None []) (src 1 [])))
+    ≡ answered (output (by 0) (on (global_limit 2 None []) (sort 0 (src 1 []))))
 push_skip = refl
 
 -- not: single keys are compared by their columns alone (reading 6); nulls first where the other has nulls last
@@ -205,45 +204,45 @@ abbrev opened : ℕ → Key
 opened c = record { col = c; desc = false; first = true }
 
 abbrev asking : Plan → Plan
-asking f = on (output_requirement (opened 0 ∷ opened 1 ∷ opened 2 ∷ []) Single (AtMost 3)) f
+asking f = on (output_requirement (opened 0 ∷ opened 1 ∷ opened 2 ∷ []) Single (Some 3)) f
 
 abbrev keyed_requirement : Plan
-keyed_requirement = on (output_requirement (up 0 ∷ opened 2 ∷ []) (Keyed 1) Unlimited) (tree (source_of 3 2 5 [] false) none none)
+keyed_requirement = on (output_requirement (up 0 ∷ opened 2 ∷ []) (Keyed 1) None) (tree (source_of 3 2 5 [] false) none none)
 
 pub push_options_compared :
     pushed (asking keyed_requirement)
-    ≡ answered (asking (stack (merge_op (opened 1 ∷ []) Unlimited ∷ sort_op true (opened 1 ∷ []) Unlimited ∷ []) keyed_requirement))
+    ≡ answered (asking (stack (merge_op (opened 1 ∷ []) None ∷ sort_op true (opened 1 ∷ []) None ∷ []) keyed_requirement))
 push_options_compared = refl
 
 -- ---- sorts that go
 -- not: the child of a sort that goes is not rebuilt, so that its idle mark comes alive
 pub push_rebuilt :
-    pushed (stack (sort_op false (by 1) Unlimited ∷ repartition true 2 false [] ∷ sort_op false (by_two 1 0) (AtMost 2) ∷ []) (pair 2 (by 0) 0))
-    ≡ answered (stack (repartition false 2 false [] ∷ sort_op true (by_two 1 0) (AtMost 2) ∷ []) (pair 2 (by 0) 0))
+    pushed (stack (sort_op false (by 1) None ∷ repartition true 2 false [] ∷ sort_op false (by_two 1 0) (Some 2) ∷ []) (pair 2 (by 0) 0))
+    ≡ answered (stack (repartition false 2 false [] ∷ sort_op true (by_two 1 0) (Some 2) ∷ []) (pair 2 (by 0) 0))
 push_rebuilt = refl
 
 -- not: nor is the node rebuilt before the second try
 pub push_rebuilt_again :
-    pushed (stack (single (by_two 0 1) ∷ repartition true 2 false [] ∷ sort_op false (by 1) (AtMost 2) ∷ []) (pair 2 (by_two 1 0) 0))
-    ≡ answered (stack (single (by_two 0 1) ∷ merge_op (by_two 0 1) Unlimited ∷ [])
-    (stack (sort_op true (by_two 0 1) Unlimited ∷ repartition false 2 false [] ∷ []) (pair 2 (by_two 1 0) 0)))
+    pushed (stack (single (by_two 0 1) ∷ repartition true 2 false [] ∷ sort_op false (by 1) (Some 2) ∷ []) (pair 2 (by_two 1 0) 0))
+    ≡ answered (stack (single (by_two 0 1) ∷ merge_op (by_two 0 1) None ∷ [])
+    (stack (sort_op true (by_two 0 1) None ∷ repartition false 2 false [] ∷ []) (pair 2 (by_two 1 0) 0)))
 push_rebuilt_again = refl
 
 -- not: a sort of which no order is required loses its parent's fetch
 pub push_parent_fetch :
-    pushed (stack (merge_op (by 0) (AtMost 2) ∷ local_limit (AtMost 1) [] ∷ sort_op false (by 0) (AtMost 2) ∷ []) (pair 1 [] 0))
-    ≡ answered (stack (merge_op (by 0) (AtMost 2) ∷ local_limit (AtMost 1) [] ∷ sort_op false (by 0) (AtMost 1) ∷ []) (pair 1 [] 0))
+    pushed (stack (merge_op (by 0) (Some 2) ∷ local_limit (Some 1) [] ∷ sort_op false (by 0) (Some 2) ∷ []) (pair 1 [] 0))
+    ≡ answered (stack (merge_op (by 0) (Some 2) ∷ local_limit (Some 1) [] ∷ sort_op false (by 0) (Some 1) ∷ []) (pair 1 [] 0))
 push_parent_fetch = refl
 
 -- not: of two orders the parent's goes on where the sort's is stricter
 abbrev stricter : Plan
-stricter = stack (merge_op (by 0) Unlimited ∷ sort_op true (by 1) (AtMost 2) ∷ []) (pair 2 [] 1)
+stricter = stack (merge_op (by 0) None ∷ sort_op true (by 1) (Some 2) ∷ []) (pair 2 [] 1)
 
 pub push-stricter-sort : pushed stricter ≡ answered stricter
 push-stricter-sort = refl
 
 -- not: below the sort that takes another's place goes the parent's fetch
 pub push_replaced_fetch :
-    pushed (stack (sort_op true (up 0 ∷ turned ∷ []) Unlimited ∷ sort_op true (by 1) (AtMost 4) ∷ []) falling)
-    ≡ answered (stack (sort_op false (turned ∷ []) Unlimited ∷ sort_op false (by 1) (AtMost 4) ∷ []) falling)
+    pushed (stack (sort_op true (up 0 ∷ turned ∷ []) None ∷ sort_op true (by 1) (Some 4) ∷ []) falling)
+    ≡ answered (stack (sort_op false (turned ∷ []) None ∷ sort_op false (by 1) (Some 4) ∷ []) falling)
 push_replaced_fetch = refl

@@ -1,11 +1,10 @@
 -- The small plans that the examples are made of. These are definitions.
-use Rattle.std.specs.Prelude.{Bool, true, false, List, [], ◌∷◌, ℕ, zero, suc}
+use Rattle.std.specs.Prelude.{Bool, true, false, List, [], ◌∷◌, ℕ, zero, suc, None}
 use Rattle.row_order.specs.Iso.{Key}
 use Rattle.plan.specs.Forest.{none, tree}
 use Rattle.plan.specs.Op.{Op, filter, output_requirement, Plan, sort_op, union}
 use Rattle.plan.specs.Samples.{by, source_of, up}
 use Rattle.plan.specs.declared.Distribution.TheVariants.{Single, Unspecified}
-use Rattle.plan.specs.declared.Fetch.TheVariants.{Unlimited}
 use Rattle.walks.specs.OrderPreserving.{Settings}
 use Rattle.walks.specs.Terms.{◌⊕◌}
 
@@ -42,17 +41,17 @@ stack (o ∷ os) f = on o (stack os f)
 
 -- a sort by column c; the preserving one, of each stream
 abbrev pub sort : ℕ → Plan → Plan
-sort c f = on (sort_op false (by c) Unlimited) f
+sort c f = on (sort_op false (by c) None) f
 
 abbrev pub sort_each : ℕ → Plan → Plan
-sort_each c f = on (sort_op true (by c) Unlimited) f
+sort_each c f = on (sort_op true (by c) None) f
 
 -- kind 13: rows in the order ks; on a single stream
 abbrev pub output : List Key → Plan → Plan
-output ks f = on (output_requirement ks Unspecified Unlimited) f
+output ks f = on (output_requirement ks Unspecified None) f
 
 abbrev pub single : List Key → Op
-single ks = output_requirement ks Single Unlimited
+single ks = output_requirement ks Single None
 
 abbrev pub besides : Plan → Plan → Plan
 besides f g = on union (f ⊕ g)

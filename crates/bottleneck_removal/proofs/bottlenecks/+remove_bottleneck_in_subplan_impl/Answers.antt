@@ -76,7 +76,6 @@ loop-j-init t c = (
       c.args.u
       c.args.h
       c.requires).count,
-  omega arith,
   going-none c.args.m.now
       c.args.u
       c.args.h
@@ -84,13 +83,12 @@ loop-j-init t c = (
 )
 
 pub child-k-requires : goal.child-k-requires
-child-k-requires t c = let i₀ = c.loop-j.invariant.0 in let i₁ = c.loop-j.invariant.1 in
-    let f = few_kids c.requires.arena c.requires.here
-    c.loop-j.invariant.2.made in let f₀ = f.0 in let f₁ = f.1 in let wd = c.loop-j.invariant.2.made.wide in
+child-k-requires t c = let i₀ = c.loop-j.invariant.0 in let f = few_kids c.requires.arena c.requires.here
+    c.loop-j.invariant.1.made in let f₀ = f.0 in let f₁ = f.1 in let wd = c.loop-j.invariant.1.made.wide in
     let x = c.loop-j-test.true in (
       node_room c.requires.arena
           c.requires.here
-          c.loop-j.invariant.2.made,
+          c.loop-j.invariant.1.made,
       omega arith,
       f.0,
     )
@@ -110,43 +108,28 @@ remove_bottleneck_in_subplan_impl-a-requires t c = let i₀ = c.loop-j.invariant
     c.args.u c.args.h
     c.requires c.loop-j.j c.loop-j.w
     c.loop-j.kids c.loop-j.m
-    c.loop-j.invariant.2 (omega arith) c.child-k.result
+    c.loop-j.invariant.1 (omega arith) c.child-k.result
     c.child-k.ensures in let q₀ = q.0 in
     let g = c.decreases in (omega arith, q.1)
 
 pub offset_bounds-kids-j : goal.offset_bounds-kids-j
 offset_bounds-kids-j t c = let i₀ = c.loop-j.invariant.0 in
-    let i₁ = c.loop-j.invariant.1 in
     let f = few_kids c.requires.arena
-    c.requires.here c.loop-j.invariant.2.made in
-    let f₀ = f.0 in let f₁ = f.1 in let wd = c.loop-j.invariant.2.made.wide in
+    c.requires.here c.loop-j.invariant.1.made in
+    let f₀ = f.0 in let f₁ = f.1 in let wd = c.loop-j.invariant.1.made.wide in
     let x = c.loop-j-test.true in omega arith
 
 pub bounds-kids-j : goal.bounds-kids-j
 bounds-kids-j t c = let i₀ = c.loop-j.invariant.0 in
-    let i₁ = c.loop-j.invariant.1 in
     let f = few_kids c.requires.arena
-    c.requires.here c.loop-j.invariant.2.made in
-    let f₀ = f.0 in let f₁ = f.1 in let wd = c.loop-j.invariant.2.made.wide in
+    c.requires.here c.loop-j.invariant.1.made in
+    let f₀ = f.0 in let f₁ = f.1 in let wd = c.loop-j.invariant.1.made.wide in
     let x = c.loop-j-test.true in omega arith
-
-pub overflow_add-j : goal.overflow_add-j
-overflow_add-j t c = let i₀ = c.loop-j.invariant.0 in
-    let i₁ = c.loop-j.invariant.1 in
-    let f = few_kids c.requires.arena
-    c.requires.here c.loop-j.invariant.2.made in
-    let f₀ = f.0 in let f₁ = f.1 in let wd = c.loop-j.invariant.2.made.wide in
-    let x = c.loop-j-test.true in omega arith
-
-pub loop-j-smaller : goal.loop-j-smaller
-loop-j-smaller t c = let x = c.loop-j-test.true in omega arith
 
 pub loop-j-preserved : goal.loop-j-preserved
 loop-j-preserved t c = let i₀ = c.loop-j.invariant.0 in
-    let i₁ = c.loop-j.invariant.1 in
     let x = c.loop-j-test.true in (
       i₀,
-      omega arith,
       going_more c.args.m.now
           c.args.u
           c.args.h
@@ -154,7 +137,7 @@ loop-j-preserved t c = let i₀ = c.loop-j.invariant.0 in
           c.loop-j.w
           c.loop-j.kids
           c.loop-j.m
-          c.loop-j.invariant.2 (omega arith)
+          c.loop-j.invariant.1 (omega arith)
           c.child-k.result c.child-k.ensures _
           (c.read64-r.ensures
           ∙ c.record_at.ensures) c.wants_single-one.result c.wants_single-one.ensures _
@@ -163,37 +146,33 @@ loop-j-preserved t c = let i₀ = c.loop-j.invariant.0 in
     )
 
 pub slice_bounds-kids-end : goal.slice_bounds-kids-end
-slice_bounds-kids-end t c = let i₀ = c.loop-j.invariant.0 in let i₁ = c.loop-j.invariant.1 in
-    let f = few_kids c.requires.arena c.requires.here c.loop-j.invariant.2.made in let f₀ = f.0 in let f₁ = f.1 in
-    let wd = c.loop-j.invariant.2.made.wide in let x = c.loop-j-test.false in omega arith
+slice_bounds-kids-end t c = let i₀ = c.loop-j.invariant.0 in let f = few_kids c.requires.arena c.requires.here c.loop-j.invariant.1.made in let f₀ = f.0 in let f₁ = f.1 in
+    let wd = c.loop-j.invariant.1.made.wide in let x = c.loop-j-test.false in omega arith
 
 pub slice_bounds-without_idle-end-2 : goal.slice_bounds-without_idle-end-2
 slice_bounds-without_idle-end-2 t c = let i₀ = c.loop-j.invariant.0 in
-    let i₁ = c.loop-j.invariant.1 in
-    let f = few_kids c.requires.arena c.requires.here c.loop-j.invariant.2.made in let f₀ = f.0 in let f₁ = f.1 in
-    let wd = c.loop-j.invariant.2.made.wide in let x = c.loop-j-test.false in
+    let f = few_kids c.requires.arena c.requires.here c.loop-j.invariant.1.made in let f₀ = f.0 in let f₁ = f.1 in
+    let wd = c.loop-j.invariant.1.made.wide in let x = c.loop-j-test.false in
     sym (length-take-le _ c.loop-j.kids (omega arith))
 
 pub without_idle-requires : goal.without_idle-requires
-without_idle-requires t c = let i₀ = c.loop-j.invariant.0 in let i₁ = c.loop-j.invariant.1 in
-    let x = c.loop-j-test.false in
+without_idle-requires t c = let i₀ = c.loop-j.invariant.0 in let x = c.loop-j-test.false in
     end_puts c.args.m.now c.args.u c.args.h c.requires c.loop-j.j c.loop-j.w
-    c.loop-j.kids c.loop-j.m c.loop-j.invariant.2 _
+    c.loop-j.kids c.loop-j.m c.loop-j.invariant.1 _
     (omega arith) i₀ _ (c.read64-r.ensures
     ∙ c.record_at.ensures)
 
 pub shape_of-m : goal.shape_of-m
-shape_of-m t c = c.without_idle.auto.m ∙ c.loop-j.invariant.2.made.long
+shape_of-m t c = c.without_idle.auto.m ∙ c.loop-j.invariant.1.made.long
 
 pub returns : goal.returns
 returns t c = let i₀ = c.loop-j.invariant.0 in
-    let i₁ = c.loop-j.invariant.1 in
     let x = c.loop-j-test.false in
     end_grown c.args.m.now
     c.args.u c.args.h
     c.requires c.loop-j.j
     c.loop-j.w c.loop-j.kids
-    c.loop-j.m c.loop-j.invariant.2 _
+    c.loop-j.m c.loop-j.invariant.1 _
     (omega arith) i₀ _ (c.read64-r.ensures
     ∙ c.record_at.ensures)
     c.args.removable

@@ -14,7 +14,6 @@ child_count-n-requires c = room c.args.m.now c.args.i c.requires
 pub loop-j-init : goal.loop-j-init
 loop-j-init c = (
   c.child_count-n.ensures ∙ (view c.args.m.now c.args.i c.requires).count,
-  omega arith,
   refl,
   refl,
 )
@@ -32,34 +31,25 @@ offset_bounds-kids-j c = let i₀ = c.loop-j.invariant.0 in let x = c.loop-j-tes
 pub bounds-kids-j : goal.bounds-kids-j
 bounds-kids-j c = let i₀ = c.loop-j.invariant.0 in let x = c.loop-j-test.true in
     let f = (view c.args.m.now c.args.i
-    c.requires).few in let w = c.loop-j.invariant.2 in omega arith
-
-pub overflow_add-j : goal.overflow_add-j
-overflow_add-j c = let i₀ = c.loop-j.invariant.0 in let x = c.loop-j-test.true in
-    let f = (view c.args.m.now c.args.i
-    c.requires).few in omega arith
-
-pub loop-j-smaller : goal.loop-j-smaller
-loop-j-smaller c = let x = c.loop-j-test.true in omega arith
+    c.requires).few in let w = c.loop-j.invariant.1 in omega arith
 
 pub loop-j-preserved : goal.loop-j-preserved
 loop-j-preserved c = let i₀ = c.loop-j.invariant.0 in let x = c.loop-j-test.true in
     let f = (view c.args.m.now c.args.i
     c.requires).few in (
       i₀,
-      omega arith,
-      length-set c.loop-j.kids c.loop-j.j _ ∙ c.loop-j.invariant.2,
+      length-set c.loop-j.kids c.loop-j.j _ ∙ c.loop-j.invariant.1,
       copied_more (slot c.args.m.now c.args.i).kids
-          c.loop-j.kids c.loop-j.j c.child.result c.loop-j.invariant.2 (omega arith)
-          (omega arith) c.loop-j.invariant.3 c.child.ensures,
+          c.loop-j.kids c.loop-j.j c.child.result c.loop-j.invariant.1 (omega arith)
+          (omega arith) c.loop-j.invariant.2 c.child.ensures,
     )
 
 pub returns : goal.returns
-returns c = let i₀ = c.loop-j.invariant.0 in let i₁ = c.loop-j.invariant.1 in let x = c.loop-j-test.false in
+returns c = let i₀ = c.loop-j.invariant.0 in let x = c.loop-j-test.false in
     let y : c.loop-j.j ≡ length (slot c.args.m.now c.args.i).kids =
     omega arith in (
-      c.loop-j.invariant.2,
-      ap (λ n. take n c.loop-j.kids) (sym y) ∙ c.loop-j.invariant.3
+      c.loop-j.invariant.1,
+      ap (λ n. take n c.loop-j.kids) (sym y) ∙ c.loop-j.invariant.2
           ∙ ap (λ n. take n (slot c.args.m.now c.args.i).kids) y
           ∙ take-length (slot c.args.m.now c.args.i).kids,
     )

@@ -1,11 +1,8 @@
 use mathlib.Core.Path.{◌≡◌}
-use Prim.Native.Nat.{◌≤◌, ◌-◌}
+use Prim.Native.Nat.{◌-◌}
 use lib.ListN.{length, take}
 use Rattle.arena.specs.Arena.{slot}
 use Rattle.bottleneck_removal.proofs.bottlenecks.children_of.Given as goal
 
 abbrev pub invariant-loop-j : goal.invariant-loop-j
-invariant-loop-j l = (l.n ≡ length (slot l.m l.i).kids) × (l.j ≤ l.n) × (length l.kids ≡ 8) × (take l.j l.kids ≡ take l.j (slot l.m l.i).kids)
-
-abbrev pub decreases-loop-j : goal.decreases-loop-j
-decreases-loop-j l = l.n - l.j
+invariant-loop-j l = (l.n ≡ length (slot l.m l.i).kids) × (length l.kids ≡ 8) × (take l.j l.kids ≡ take l.j (slot l.m l.i).kids)

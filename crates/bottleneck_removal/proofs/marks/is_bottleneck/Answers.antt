@@ -1,7 +1,8 @@
-use mathlib.Core.Path.{ap, ap₂, ◌∙◌}
+use mathlib.Core.Path.{sym, ap, ap₂, ◌∙◌}
 use mathlib.Core.Bool.{not, ◌&&◌}
-use Rattle.plan.specs.WellFormed.{some_fetch}
+use Rattle.std.proofs.Math.Bool.{not-not}
+use Rattle.std.specs.Prelude.{is_some}
 use Rattle.bottleneck_removal.proofs.marks.is_bottleneck.Goals as goal
 
 pub returns : goal.returns
-returns c = ap₂ (λ x y. x && not y) c.is_coalesce_partitions.ensures (c.some_fetch.ensures ∙ ap some_fetch c.fetch.ensures)
+returns c = ap₂ ◌&&◌ c.is_coalesce_partitions.ensures (sym (not-not _) ∙ ap not (sym c.is_none.ensures ∙ ap is_some c.fetch.ensures))

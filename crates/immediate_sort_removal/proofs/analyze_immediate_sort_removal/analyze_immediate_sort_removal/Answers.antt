@@ -72,8 +72,8 @@ returns-then-preserve-several c = place_grown c.args.m.now c.args.u c.args.h c.r
 pub row-requires : goal.row-requires
 row-requires c = is_here c.args.m.now c.args.u c.args.h (standing c.args.m.now c.args.u c.args.h c.requires)
 
-pub put_over-requires-then-some_fetch : goal.put_over-requires-then-some_fetch
-put_over-requires-then-some_fetch c = place_puts c.args.m.now c.args.u c.args.h c.requires _
+pub put_over-requires-then-is_some : goal.put_over-requires-then-is_some
+put_over-requires-then-is_some c = place_puts c.args.m.now c.args.u c.args.h c.requires _
     c.child-k.ensures
     (cond c.one_stream-single.result
     (global_limit 0 c.fetch_field-fetch.result (keys_of c.normal_form-note.result))
@@ -85,13 +85,13 @@ put_over-requires-then-some_fetch c = place_puts c.args.m.now c.args.u c.args.h 
     ∙ c.record_at.ensures) _
     c.preserve_mark-preserve.ensures _
     c.fetch_field-fetch.ensures _ c.keys-own_keys.ensures c.if-preserve-several.false
-    (sym c.some_fetch.ensures ∙ c.if-some_fetch.true) _
+    (sym c.is_some.ensures ∙ c.if-is_some.true) _
     c.row.ensures.1 _ c.one_stream-single.ensures _
     c.normal_form-note.ensures) _
     c.set_mark-bare.ensures _ c.limit_record-x.ensures
 
-pub returns-then-some_fetch : goal.returns-then-some_fetch
-returns-then-some_fetch c = place_grown c.args.m.now c.args.u c.args.h c.requires _
+pub returns-then-is_some : goal.returns-then-is_some
+returns-then-is_some c = place_grown c.args.m.now c.args.u c.args.h c.requires _
     c.child-k.ensures (cond c.one_stream-single.result
     (global_limit 0 c.fetch_field-fetch.result
     (keys_of c.normal_form-note.result))
@@ -105,12 +105,12 @@ returns-then-some_fetch c = place_grown c.args.m.now c.args.u c.args.h c.require
     ∙ c.record_at.ensures) _
     c.preserve_mark-preserve.ensures _ c.fetch_field-fetch.ensures _
     c.keys-own_keys.ensures c.if-preserve-several.false
-    (sym c.some_fetch.ensures
-    ∙ c.if-some_fetch.true) _
+    (sym c.is_some.ensures
+    ∙ c.if-is_some.true) _
     c.row.ensures.1 _ c.one_stream-single.ensures
     _ c.normal_form-note.ensures) _
     c.set_mark-bare.ensures _
-    c.limit_record-x.ensures _ _ c.put_over-then-some_fetch.ensures
+    c.limit_record-x.ensures _ _ c.put_over-then-is_some.ensures
 
 pub unmark_children-requires : goal.unmark_children-requires
 unmark_children-requires c = goes_asks c.args.m.now c.args.u c.args.h c.requires _
@@ -131,5 +131,5 @@ returns c = goes_grown c.args.m.now c.args.u c.args.h c.requires _
     c.preserve_mark-preserve.ensures _
     c.fetch_field-fetch.ensures _
     c.keys-own_keys.ensures
-    c.if-preserve-several.false (sym c.some_fetch.ensures
-    ∙ c.if-some_fetch.false) _ _ c.unmark_children.ensures
+    c.if-preserve-several.false (sym c.is_some.ensures
+    ∙ c.if-is_some.false) _ _ c.unmark_children.ensures

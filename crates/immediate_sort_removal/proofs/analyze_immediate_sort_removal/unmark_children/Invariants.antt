@@ -1,12 +1,9 @@
 use mathlib.Core.Path.{◌≡◌}
-use Prim.Native.Nat.{◌≤◌, ◌-◌}
+use Prim.Native.Nat.{◌-◌}
 use lib.ListN.{length}
 use Rattle.arena.specs.Arena.{index, slot}
 use Rattle.immediate_sort_removal.specs.Immediate.{Unmarking}
 use Rattle.immediate_sort_removal.proofs.analyze_immediate_sort_removal.unmark_children.Given as goal
 
 abbrev pub invariant-loop-j : goal.invariant-loop-j
-invariant-loop-j l = (l.n ≡ length (slot l.m (index l.h)).kids) × (l.j ≤ l.n) × Unmarking l.m l.u (slot l.m (index l.h)).kids l.j l.kids
-
-abbrev pub decreases-loop-j : goal.decreases-loop-j
-decreases-loop-j l = l.n - l.j
+invariant-loop-j l = (l.n ≡ length (slot l.m (index l.h)).kids) × Unmarking l.m l.u (slot l.m (index l.h)).kids l.j l.kids

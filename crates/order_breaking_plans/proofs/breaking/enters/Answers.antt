@@ -55,5 +55,5 @@ returns c = let m = c.args.m.now in let i = c.args.i in let j = c.args.j in let 
     c.record_at-r.ensures)
     c.if-is_sort_preserving_merge.false _
     (rw c.record_at-r.ensures at
-    c.wanted_order-order.ensures) _ c.in-By.is _
+    c.wanted_order-order.ensures) _ c.in-Some.is _
     (c.row.ensures.1.is ∙ kid_facts m i a j c.requires.1 _ c.child-k.ensures) _ c.meets.ensures

@@ -47,15 +47,6 @@ bounds-kids-j c = let m = c.args.m.now in let i = c.args.i in
     let y = cutting_room m i p a l.j l.kids q (let x = c.loop-j-test.true in omega arith) in let z = q.made.wide in
     omega arith
 
-pub overflow_add-j : goal.overflow_add-j
-overflow_add-j c = let m = c.args.m.now in let i = c.args.i in let a = c.requires in
-    let l = c.loop-j in let e = l.invariant.0 in let q = l.invariant.1 in
-    let p = inspect_child (decode (slot m i).rec) (known (forest m (slot m i).kids)) in
-    let y = cutting_room m i p a l.j l.kids q (let x = c.loop-j-test.true in omega arith) in omega arith
-
-pub loop-j-smaller : goal.loop-j-smaller
-loop-j-smaller c = let x = c.loop-j-test.true in omega arith
-
 pub loop-j-preserved : goal.loop-j-preserved
 loop-j-preserved c = let m = c.args.m.now in let i = c.args.i in
     let a = c.requires in let l = c.loop-j in let e = l.invariant.0 in let q = l.invariant.1 in

@@ -12,6 +12,3 @@ use Rattle.order_preservation_marks.proofs.marking.inspected.Given as goal
 abbrev pub invariant-loop-j : goal.invariant-loop-j
 invariant-loop-j l = (l.n ≡ length (slot l.m l.i).kids) × Cutting l.m l.i (inspect_child (decode (slot l.m l.i).rec) (known (forest l.m (slot l.m l.i).kids))) l.j
     l.kids
-
-abbrev pub decreases-loop-j : goal.decreases-loop-j
-decreases-loop-j l = l.n - l.j

@@ -1,7 +1,7 @@
 use mathlib.Core.Path.{ap, ap₂, ◌∙◌}
 use mathlib.Core.Bool.{◌&&◌}
-use Rattle.plan.specs.WellFormed.{some_fetch}
+use Rattle.std.specs.Prelude.{is_some}
 use Rattle.order_preservation_marks.proofs.marking.is_fetched_coalesce.Goals as goal
 
 pub returns : goal.returns
-returns c = ap₂ ◌&&◌ c.is_coalesce_partitions.ensures (c.some_fetch.ensures ∙ ap some_fetch c.fetch.ensures)
+returns c = ap₂ ◌&&◌ c.is_coalesce_partitions.ensures (c.is_some.ensures ∙ ap is_some c.fetch.ensures)

@@ -27,14 +27,6 @@ bounds-kids-j c = let p = c.requires in
     let l = c.loop-j in let x = c.loop-j-test.true in
     let f = p.few in let y = l.invariant.made.wide in omega arith
 
-pub overflow_add-j : goal.overflow_add-j
-overflow_add-j c = let p = c.requires in
-    let l = c.loop-j in let x = c.loop-j-test.true in
-    let f = p.few in omega arith
-
-pub loop-j-smaller : goal.loop-j-smaller
-loop-j-smaller c = let x = c.loop-j-test.true in omega arith
-
 pub loop-j-preserved : goal.loop-j-preserved
 loop-j-preserved c = let m = c.args.m.now in let u = c.args.u in
     let ks = c.args.ks.now in let p = c.requires in let l = c.loop-j in

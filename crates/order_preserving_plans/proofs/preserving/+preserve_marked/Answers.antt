@@ -6,7 +6,6 @@ use lib.ListN.{length, replicate}
 use lib.Seq.{length-take-le}
 use Rattle.plan_codec.specs.Decode.{decode}
 use Rattle.record_fields.specs.Proper.{Proper}
-use Rattle.arena.specs.Arena.{slot}
 use Rattle.order_preservation_marks.specs.Nodes.{slot_proper}
 use Rattle.order_preservation_marks.specs.Marking.{is_fetched_coalesce}
 use Rattle.plan_updates.specs.ChildLoop.{up_to, node_arena, few_kids}
@@ -51,69 +50,56 @@ pub loop-j-init : goal.loop-j-init
 loop-j-init t c = let m = c.args.m.now in
     let u = c.args.u in let h = c.args.h in let spr = c.args.spr in let spm = c.args.spm in let f = c.args.fetch in let p = c.requires in
     let g = going-none m u h p.enters (each_of spr spm f) (replicate 8 0) refl in
-    (c.child_count-n.ensures ∙ (few_kids p.enters.arena p.enters.here g.made).1, omega arith, g)
+    (c.child_count-n.ensures ∙ (few_kids p.enters.arena p.enters.here g.made).1, g)
 
 pub child-k-requires : goal.child-k-requires
 child-k-requires t c = let m = c.args.m.now in let u = c.args.u in let h = c.args.h in let spr = c.args.spr in let spm = c.args.spm in let f = c.args.fetch in
-    let p = c.requires in let l = c.loop-j in let i₀ = l.invariant.0 in let i₁ = l.invariant.1 in let g = l.invariant.2 in
+    let p = c.requires in let l = c.loop-j in let i₀ = l.invariant.0 in let g = l.invariant.1 in
     let k = few_kids p.enters.arena p.enters.here g.made in let k₀ = k.0 in let k₁ = k.1 in let x = c.loop-j-test.true in
     ((node_arena p.enters.arena p.enters.here g.made).slots, omega arith, k₀)
 
 pub preserve_marked-r-requires : goal.preserve_marked-r-requires
 preserve_marked-r-requires t c = let m = c.args.m.now in
     let u = c.args.u in let h = c.args.h in let spr = c.args.spr in let spm = c.args.spm in let f = c.args.fetch in let p = c.requires in
-    let l = c.loop-j in let i₀ = l.invariant.0 in let i₁ = l.invariant.1 in let g = l.invariant.2 in
+    let l = c.loop-j in let i₀ = l.invariant.0 in let g = l.invariant.1 in
     let x = c.loop-j-test.true in
     let q = preserve_next m u h spr spm f p l.j l.w l.kids l.m g (omega arith) _ c.child-k.ensures in let q₀ = q.0 in
     let z = c.decreases in (omega arith, q.1)
 
 pub offset_bounds-kids-j : goal.offset_bounds-kids-j
 offset_bounds-kids-j t c = let m = c.args.m.now in let u = c.args.u in let h = c.args.h in let spr = c.args.spr in let spm = c.args.spm in let f = c.args.fetch in
-    let p = c.requires in let l = c.loop-j in let i₀ = l.invariant.0 in let i₁ = l.invariant.1 in
-    let g = l.invariant.2 in let k = few_kids p.enters.arena p.enters.here g.made in let k₀ = k.0 in let k₁ = k.1 in
+    let p = c.requires in let l = c.loop-j in let i₀ = l.invariant.0 in let g = l.invariant.1 in let k = few_kids p.enters.arena p.enters.here g.made in let k₀ = k.0 in let k₁ = k.1 in
     let x = c.loop-j-test.true in omega arith
 
 pub bounds-kids-j : goal.bounds-kids-j
 bounds-kids-j t c = let m = c.args.m.now in let u = c.args.u in let h = c.args.h in let spr = c.args.spr in let spm = c.args.spm in let f = c.args.fetch in
-    let p = c.requires in let l = c.loop-j in let i₀ = l.invariant.0 in let i₁ = l.invariant.1 in
-    let g = l.invariant.2 in let k = few_kids p.enters.arena p.enters.here g.made in let k₀ = k.0 in let k₁ = k.1 in
+    let p = c.requires in let l = c.loop-j in let i₀ = l.invariant.0 in let g = l.invariant.1 in let k = few_kids p.enters.arena p.enters.here g.made in let k₀ = k.0 in let k₁ = k.1 in
     let x = c.loop-j-test.true in let z = g.made.wide in omega arith
-
-pub overflow_add-j : goal.overflow_add-j
-overflow_add-j t c = let m = c.args.m.now in let u = c.args.u in let h = c.args.h in let spr = c.args.spr in let spm = c.args.spm in let f = c.args.fetch in
-    let p = c.requires in let l = c.loop-j in let i₀ = l.invariant.0 in let i₁ = l.invariant.1 in
-    let g = l.invariant.2 in let k = few_kids p.enters.arena p.enters.here g.made in let k₀ = k.0 in let k₁ = k.1 in
-    let x = c.loop-j-test.true in omega arith
-
-pub loop-j-smaller : goal.loop-j-smaller
-loop-j-smaller t c = let x = c.loop-j-test.true in omega arith
 
 pub loop-j-preserved : goal.loop-j-preserved
 loop-j-preserved t c = let m = c.args.m.now in let u = c.args.u in let h = c.args.h in let spr = c.args.spr in let spm = c.args.spm in let f = c.args.fetch in
-    let p = c.requires in let l = c.loop-j in let i₀ = l.invariant.0 in let i₁ = l.invariant.1 in
-    let g = l.invariant.2 in let x = c.loop-j-test.true in (
+    let p = c.requires in let l = c.loop-j in let i₀ = l.invariant.0 in let g = l.invariant.1 in let x = c.loop-j-test.true in (
       i₀,
-      omega arith,
       preserve_more m u h spr spm f p l.j l.w l.kids l.m g (omega arith) _ c.child-k.ensures _
           c.preserve_marked-r.auto.m c.preserve_marked-r.result c.preserve_marked-r.ensures,
     )
 
 pub slice_bounds-kids-end : goal.slice_bounds-kids-end
 slice_bounds-kids-end t c = let m = c.args.m.now in let u = c.args.u in let h = c.args.h in let spr = c.args.spr in let spm = c.args.spm in let f = c.args.fetch in
-    let p = c.requires in let l = c.loop-j in let i₀ = l.invariant.0 in let i₁ = l.invariant.1 in let g = l.invariant.2 in
+    let p = c.requires in let l = c.loop-j in let i₀ = l.invariant.0 in let g = l.invariant.1 in
     let k = few_kids p.enters.arena p.enters.here g.made in let k₀ = k.0 in let k₁ = k.1 in let z = g.made.wide in omega arith
 
 pub slice_bounds-preserve_over-end : goal.slice_bounds-preserve_over-end
 slice_bounds-preserve_over-end t c = let m = c.args.m.now in
     let u = c.args.u in let h = c.args.h in let spr = c.args.spr in let spm = c.args.spm in let f = c.args.fetch in let p = c.requires in
-    let l = c.loop-j in let i₀ = l.invariant.0 in let i₁ = l.invariant.1 in let g = l.invariant.2 in
+    let l = c.loop-j in let i₀ = l.invariant.0 in let g = l.invariant.1 in
     let k = few_kids p.enters.arena p.enters.here g.made in let k₀ = k.0 in let k₁ = k.1 in let z = g.made.wide in
     sym (length-take-le _ l.kids (omega arith))
 
 pub preserve_over-requires : goal.preserve_over-requires
 preserve_over-requires t c = let m = c.args.m.now in
     let u = c.args.u in let h = c.args.h in let spr = c.args.spr in let spm = c.args.spm in let f = c.args.fetch in let p = c.requires in
-    let l = c.loop-j in let i₀ = l.invariant.0 in let i₁ = l.invariant.1 in let g = l.invariant.2 in
+    let l = c.loop-j in let i₀ = l.invariant.0 in let g = l.invariant.1 in
     let x = c.loop-j-test.false in (
       preserve_puts m u h spr spm f p l.j l.w l.kids l.m g _ (omega arith) i₀,
       going_here m u h p.enters (each_of spr spm f) l.j l.w
@@ -126,11 +112,11 @@ preserve_over-requires t c = let m = c.args.m.now in
     )
 
 pub shape_of-m : goal.shape_of-m
-shape_of-m t c = c.preserve_over.auto.m ∙ c.loop-j.invariant.2.made.long
+shape_of-m t c = c.preserve_over.auto.m ∙ c.loop-j.invariant.1.made.long
 
 pub returns : goal.returns
 returns t c = let m = c.args.m.now in let u = c.args.u in let h = c.args.h in let spr = c.args.spr in let spm = c.args.spm in let f = c.args.fetch in
-    let p = c.requires in let l = c.loop-j in let i₀ = l.invariant.0 in let i₁ = l.invariant.1 in let g = l.invariant.2 in
+    let p = c.requires in let l = c.loop-j in let i₀ = l.invariant.0 in let g = l.invariant.1 in
     let x = c.loop-j-test.false in
     preserve_end m u h spr spm f p l.j l.w l.kids l.m g _ (omega arith) i₀
     (sym c.is_marked.ensures

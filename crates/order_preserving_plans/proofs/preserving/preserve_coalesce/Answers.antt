@@ -33,7 +33,7 @@ returns-in_default c = let m = c.args.m.now in let w = c.args.w in let r = c.arg
     c.update_plan_from_children-in_default.result c.update_plan_from_children-in_default.ensures
 
 pub merge_record-x-requires : goal.merge_record-x-requires
-merge_record-x-requires c = order_few _ _ _ c.known_order-order.ensures c.in-By.is
+merge_record-x-requires c = order_few _ _ _ c.known_order-order.ensures c.in-Some.is
 
 pub set_mark-requires : goal.set_mark-requires
 set_mark-requires c = let m = c.args.m.now in let w = c.args.w in let r = c.args.r.now in let ks = c.args.ks.now in let p = c.requires.0 in let e = c.requires.2 in
@@ -44,7 +44,7 @@ pub put_over-requires : goal.put_over-requires
 put_over-requires c = let m = c.args.m.now in
     let w = c.args.w in let r = c.args.r.now in let ks = c.args.ks.now in let p = c.requires.0 in let e = c.requires.2 in let spm = c.args.spm in
     let f = c.args.fetch in merge_puts m w r ks p e spm f _ refl _ c.row.ensures.1 _
-    c.known_order-order.ensures _ c.in-By.is
+    c.known_order-order.ensures _ c.in-Some.is
     (not-false _ (ap not c.if-not-spm.false)) c.requires.3 _
     c.merge_record-x.ensures _ c.set_mark.ensures
 
@@ -53,7 +53,7 @@ returns c = let m = c.args.m.now in let w = c.args.w in let r = c.args.r.now in 
     let e = c.requires.2 in let spm = c.args.spm in let f = c.args.fetch in
     merge_grown m w r ks p e spm f _ refl _ c.row.ensures.1 _
     c.known_order-order.ensures _
-    c.in-By.is
+    c.in-Some.is
     (not-false _ (ap not c.if-not-spm.false))
     c.requires.3 _ c.merge_record-x.ensures _ c.set_mark.ensures _
     c.put_over.result c.put_over.ensures

@@ -12,19 +12,19 @@ returns-in_default c = let b = c.args.b.now in let u = c.args.u in let h = c.arg
     top_none b u h o _ (λ (l : List Key). new_sort c.args.preserve l c.args.fetch) c.requires c.in_default.is refl refl
 
 pub sort_record-r-requires : goal.sort_record-r-requires
-sort_record-r-requires c = top_few c.args.order _ c.requires.real c.in-By.is
+sort_record-r-requires c = top_few c.args.order _ c.requires.real c.in-Some.is
 
 pub put_over-requires : goal.put_over-requires
 put_over-requires c = let b = c.args.b.now in let u = c.args.u in
     let h = c.args.h in let o = c.args.order in
-    top_puts b u h o _ c.requires (sort_op c.args.preserve (keys_of c.in-By.k) c.args.fetch)
-    (sort_is o _ c.requires.real c.in-By.is c.args.preserve c.args.fetch) _
+    top_puts b u h o _ c.requires (sort_op c.args.preserve (keys_of c.in-Some.k) c.args.fetch)
+    (sort_is o _ c.requires.real c.in-Some.is c.args.preserve c.args.fetch) _
     c.sort_record-r.ensures
 
 pub returns : goal.returns
 returns c = let b = c.args.b.now in let u = c.args.u in
     let h = c.args.h in let o = c.args.order in
-    top_grown b u h o _ c.requires (sort_op c.args.preserve (keys_of c.in-By.k)
-    c.args.fetch) (sort_is o _ c.requires.real c.in-By.is c.args.preserve
+    top_grown b u h o _ c.requires (sort_op c.args.preserve (keys_of c.in-Some.k)
+    c.args.fetch) (sort_is o _ c.requires.real c.in-Some.is c.args.preserve
     c.args.fetch) _ c.sort_record-r.ensures _ c.put_over.result
     c.put_over.ensures

@@ -1,7 +1,7 @@
 use Rattle.walks.specs.Marks.{size_t}
 use Rattle.plan_context.specs.View.{tree_of}
 use mathlib.Core.Path.{◌≡◌}
-use Prim.Native.Nat.{◌≤◌, ◌-◌, ◌/◌}
+use Prim.Native.Nat.{◌/◌}
 use Rattle.plan_format.specs.Record.{children}
 use Rattle.semantics.specs.Properties.{fetches}
 use Rattle.arena.specs.Arena.{index, slot}
@@ -13,11 +13,8 @@ use Rattle.pushdown_sorts.proofs.walking.+push_at.Given as goal
 
 abbrev pub invariant-loop-j : goal.invariant-loop-j
 invariant-loop-j l =
-    (l.n ≡ children (slot l.a (l.h / 2)).rec) × (l.j ≤ l.n) × Visiting l.a (slot l.a (index l.h)).kids (visit_for l.d (fetches (strip (forest l.a (slot l.a (index l.h)).kids))))
+    (l.n ≡ children (slot l.a (l.h / 2)).rec) × Visiting l.a (slot l.a (index l.h)).kids (visit_for l.d (fetches (strip (forest l.a (slot l.a (index l.h)).kids))))
     l.after l.initial.b l.v l.j l.w l.m l.kids l.b
-
-abbrev pub decreases-loop-j : goal.decreases-loop-j
-decreases-loop-j l = l.n - l.j
 
 abbrev pub decreases-push_at : goal.decreases-push_at
 decreases-push_at l = size_t (tree_of l.a.now l.h)

@@ -1,43 +1,42 @@
 use native.Mathlib.Omega.{arith}
-use Prim.Native.Nat.{◌<◌, ◌-◌}
+use Prim.Native.Nat.{◌<◌}
 use mathlib.Core.Path.{refl}
 use lib.ListN.{length, get_or, length-set}
 use Rattle.row_reader.specs.Counts.{held_start, held_more, held_small, held_all}
 use Rattle.row_reader.proofs.counts.hold_all.Goals as goal
-use Rattle.row_reader.proofs.counts.hold_all.Goals.{In-loop-r}
+use Rattle.row_reader.proofs.counts.hold_all.Goals.{In-loop-g}
 
-place_in : (c : In-loop-r) → get_or c.args.places.now c.loop-r.r 0 < length c.loop-r.held
-place_in c = omega (arith, c.requires.1 c.loop-r.r c.loop-r-test.true, c.loop-r.invariant.1)
+place_in : (c : In-loop-g) → get_or c.args.places.now c.loop-g.g-index 0 < length c.loop-g.held
+place_in c = omega (arith, c.requires.1 c.loop-g.g-index c.loop-g-test.true, c.loop-g.invariant.0)
 
-pub loop-r-init : goal.loop-r-init
-loop-r-init c = (omega arith, refl, held_start c.args.held.now c.args.places.now c.requires.2)
+pub loop-g-init : goal.loop-g-init
+loop-g-init c = (refl, held_start c.args.held.now c.args.places.now c.requires.2)
 
 pub offset_bounds-held-g : goal.offset_bounds-held-g
-offset_bounds-held-g c = omega (arith, place_in (goal.at.offset_bounds-held-g c).In-loop-r)
+offset_bounds-held-g c = omega (arith, place_in (goal.at.offset_bounds-held-g c).In-loop-g)
 
 pub bounds-held-g : goal.bounds-held-g
-bounds-held-g c = place_in (goal.at.bounds-held-g c).In-loop-r
+bounds-held-g c = place_in (goal.at.bounds-held-g c).In-loop-g
 
 pub overflow_add-held : goal.overflow_add-held
-overflow_add-held c = let l = c.loop-r in let p = c.args.places.now in
-    omega (arith, held_small l.held p l.r (get_or p l.r 0) l.invariant.0 l.invariant.2)
+overflow_add-held c = let l = c.loop-g in let p = c.args.places.now in
+    omega (arith, held_small l.held p l.g-index (get_or p l.g-index 0) (omega arith) l.invariant.1)
 
-pub offset_bounds-held-g-in-loop-r : goal.offset_bounds-held-g-in-loop-r
-offset_bounds-held-g-in-loop-r c = omega (arith, place_in (goal.at.offset_bounds-held-g-in-loop-r c).In-loop-r)
+pub offset_bounds-held-g-in-loop-g : goal.offset_bounds-held-g-in-loop-g
+offset_bounds-held-g-in-loop-g c = omega (arith, place_in (goal.at.offset_bounds-held-g-in-loop-g c).In-loop-g)
 
-pub bounds-held-g-in-loop-r : goal.bounds-held-g-in-loop-r
-bounds-held-g-in-loop-r c = place_in (goal.at.bounds-held-g-in-loop-r c).In-loop-r
+pub bounds-held-g-in-loop-g : goal.bounds-held-g-in-loop-g
+bounds-held-g-in-loop-g c = place_in (goal.at.bounds-held-g-in-loop-g c).In-loop-g
 
-pub loop-r-preserved : goal.loop-r-preserved
-loop-r-preserved c = let l = c.loop-r in (
-  omega arith,
-  simp length-set l.invariant.1,
-  held_more l.held c.args.places.now l.r c.loop-r-test.true
-      (place_in (goal.at.loop-r-preserved c).In-loop-r) l.invariant.2,
+pub loop-g-preserved : goal.loop-g-preserved
+loop-g-preserved c = let l = c.loop-g in (
+  simp length-set l.invariant.0,
+  held_more l.held c.args.places.now l.g-index (omega arith)
+      (place_in (goal.at.loop-g-preserved c).In-loop-g) l.invariant.1,
 )
 
 pub shape_of-held : goal.shape_of-held
-shape_of-held c = c.loop-r.invariant.1
+shape_of-held c = c.loop-g.invariant.0
 
 pub returns : goal.returns
-returns c = let l = c.loop-r in held_all l.held c.args.places.now l.r c.loop-r-test.false l.invariant.2
+returns c = let l = c.loop-g in held_all l.held c.args.places.now l.g-index (omega arith) l.invariant.1

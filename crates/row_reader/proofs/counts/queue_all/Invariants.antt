@@ -1,11 +1,7 @@
-use Prim.Native.Nat.{◌≤◌, ◌-◌}
 use mathlib.Core.Path.{◌≡◌}
 use lib.ListN.{length}
 use Rattle.row_reader.specs.Counts.{Queued}
 use Rattle.row_reader.proofs.counts.queue_all.Given as goal
 
 abbrev pub invariant-loop-j : goal.invariant-loop-j
-invariant-loop-j l = (l.j ≤ l.n) × (length l.queued ≡ length l.initial.queued) × Queued l.nodes l.held l.queued l.j
-
-abbrev pub decreases-loop-j : goal.decreases-loop-j
-decreases-loop-j l = l.n - l.j
+invariant-loop-j l = (length l.queued ≡ length l.initial.queued) × Queued l.nodes l.held l.queued l.j

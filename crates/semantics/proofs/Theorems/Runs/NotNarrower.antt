@@ -2,8 +2,8 @@
 -- any interleaving, a merge any that is in order, an unmarked repartition any split, a marked one any that is in order, a sort any
 -- ordered permutation, of all rows or of each stream; a join has a kept row's matches in any order, or all rows where no side is kept;
 -- an aggregate any rows that its definition allows (what these are is told in Groups); and sources and filters are numbered in node order.
-use Rattle.std.specs.Prelude.{◌≡◌, refl, Bool, true, false, List, [], ◌∷◌, ◌++◌, map, ℕ, suc, length}
-use Rattle.std.proofs.Common.{sym, ap, ap₂, ◌∙◌, arith}
+use Rattle.std.specs.Prelude.{◌≡◌, refl, Bool, true, false, List, [], ◌∷◌, ◌++◌, map, ℕ, suc, length, None}
+use Rattle.std.proofs.Common.{sym, ap, ◌∙◌, arith}
 use Rattle.row_order.specs.Iso.{Row, Key}
 use Rattle.row_order.specs.RowLists.{le, Sorted}
 use Rattle.row_order.proofs.Order.{no_bool}
@@ -11,7 +11,6 @@ use Rattle.row_order.specs.Lists.{concat, Same, All, all_nil, all_cons, pw_nil, 
 use Rattle.plan.specs.Forest.{Forest, none, tree}
 use Rattle.plan.specs.Op.{On, Op, filter, union, repartition, coalesce, sort_op, merge_op, global_limit, sort_merge_join, hash_join, aggregate, Plan}
 use Rattle.plan.specs.Samples.{source_of}
-use Rattle.plan.specs.declared.Fetch.TheVariants.{Unlimited}
 use Rattle.plan.specs.declared.JoinType.{JoinType}
 use Rattle.plan.specs.declared.JoinType.TheVariants.{Inner, Left, Full, LeftSemi, LeftAnti}
 use Rattle.semantics.specs.Facts.{Facts, keeps_order, at0, facts}
@@ -46,24 +45,24 @@ over_run E o ks ins out e z u m =
 
 -- ---- coalesce: any interleaving
 pub coalesce_any : (E : Env) (ks : List Key) (ins : Streams) (z : List Row) → Has E 0 ins → Mixes ins z →
-    Run E 0 0 (over (coalesce Unlimited) (length ins) ks) (gives (z ∷ []) ins)
-coalesce_any E ks ins z p m = over_run E (coalesce Unlimited) ks ins (z ∷ []) p refl (λ l. refl) (record { one = z; is = refl; that = m })
+    Run E 0 0 (over (coalesce None) (length ins) ks) (gives (z ∷ []) ins)
+coalesce_any E ks ins z p m = over_run E (coalesce None) ks ins (z ∷ []) p refl (λ l. refl) (record { one = z; is = refl; that = m })
 
 -- one that is not round robin: the first stream whole, then the second
 pub not_round_robin : (E : Env) (ks : List Key) (x y z : Row) → Has E 0 ((x ∷ y ∷ []) ∷ (z ∷ []) ∷ []) →
-    Run E 0 0 (over (coalesce Unlimited) 2 ks) (gives ((x ∷ y ∷ z ∷ []) ∷ []) ((x ∷ y ∷ []) ∷ (z ∷ []) ∷ []))
+    Run E 0 0 (over (coalesce None) 2 ks) (gives ((x ∷ y ∷ z ∷ []) ∷ []) ((x ∷ y ∷ []) ∷ (z ∷ []) ∷ []))
 not_round_robin E ks x y z p = coalesce_any E ks ((x ∷ y ∷ []) ∷ (z ∷ []) ∷ []) (x ∷ y ∷ z ∷ []) p
     (mixes_cons (mixes_cons mixes_nil (mix_left mix_nil)) (mix_left (mix_left (mix_right mix_nil))))
 
 -- a global limit over several streams: any interleaving too
 pub limit_any : (E : Env) (ks : List Key) (ins : Streams) (z : List Row) → Has E 0 ins → Mixes ins z →
-    Run E 0 0 (over (global_limit 0 Unlimited []) (length ins) ks) (gives (z ∷ []) ins)
-limit_any E ks ins z p m = over_run E (global_limit 0 Unlimited []) ks ins (z ∷ []) p refl (λ l. refl) (record { one = z; is = refl; that = m })
+    Run E 0 0 (over (global_limit 0 None []) (length ins) ks) (gives (z ∷ []) ins)
+limit_any E ks ins z p m = over_run E (global_limit 0 None []) ks ins (z ∷ []) p refl (λ l. refl) (record { one = z; is = refl; that = m })
 
 -- ---- merge: any interleaving that is in order if all its streams are
 pub merge_any : (E : Env) (ks ls : List Key) (ins : Streams) (z : List Row) → Has E 0 ins → Mixes ins z → (All (Sorted ks) ins → Sorted ks z) →
-    Run E 0 0 (over (merge_op ks Unlimited) (length ins) ls) (gives (z ∷ []) ins)
-merge_any E ks ls ins z p m s = over_run E (merge_op ks Unlimited) ls ins (z ∷ []) p refl (λ l. refl)
+    Run E 0 0 (over (merge_op ks None) (length ins) ls) (gives (z ∷ []) ins)
+merge_any E ks ls ins z p m s = over_run E (merge_op ks None) ls ins (z ∷ []) p refl (λ l. refl)
     (record { one = z; is = refl; that = record { mixed = m; sorted = s } })
 
 -- ---- repartition: any split (reading 19)
@@ -131,19 +130,19 @@ crossed_peers E desc first a b c d u v p =
 
 -- ---- sort: any ordered permutation, of the rows of all streams together
 pub sort_any : (E : Env) (ks ls : List Key) (ins : Streams) (t : List Row) → Has E 0 ins → Same t (concat ins) → Sorted ks t →
-    Run E 0 0 (over (sort_op false ks Unlimited) (length ins) ls) (gives (t ∷ []) ins)
-sort_any E ks ls ins t p s o = over_run E (sort_op false ks Unlimited) ls ins (t ∷ []) p refl (λ l. refl)
+    Run E 0 0 (over (sort_op false ks None) (length ins) ls) (gives (t ∷ []) ins)
+sort_any E ks ls ins t p s o = over_run E (sort_op false ks None) ls ins (t ∷ []) p refl (λ l. refl)
     (record { one = t; is = refl; that = record { same = s; sorted = o } })
 
 -- two peers may come out in either order
 pub peers_swapped : (E : Env) (ks : List Key) (x y : Row) → le ks y x ≡ true → Has E 0 ((x ∷ y ∷ []) ∷ []) →
-    Run E 0 0 (over (sort_op false ks Unlimited) 1 []) (gives ((y ∷ x ∷ []) ∷ []) ((x ∷ y ∷ []) ∷ []))
+    Run E 0 0 (over (sort_op false ks None) 1 []) (gives ((y ∷ x ∷ []) ∷ []) ((x ∷ y ∷ []) ∷ []))
 peers_swapped E ks x y h p = sort_any E ks [] ((x ∷ y ∷ []) ∷ []) (y ∷ x ∷ []) p (record { sums = λ w. omega arith }) (sorted_two ks y x h)
 
 -- with the preserve mark, of each stream on its own
 pub sort_each_lem : (E : Env) (ks ls : List Key) (ins out : Streams) → Has E 0 ins → Each (SortOf ks) ins out →
-    Run E 0 0 (over (sort_op true ks Unlimited) (length ins) ls) (gives out ins)
-sort_each_lem E ks ls ins out p s = over_run E (sort_op true ks Unlimited) ls ins out p refl (λ l. refl) s
+    Run E 0 0 (over (sort_op true ks None) (length ins) ls) (gives out ins)
+sort_each_lem E ks ls ins out p s = over_run E (sort_op true ks None) ls ins out p refl (λ l. refl) s
 
 -- ---- aggregate: for each group of a stream, in the order in which they begin, a row with any aggregate cells (Groups)
 pub aggregate_any : (E : Env) (gs ls : List Key) (n : ℕ) (ins out : Streams) → Has E 0 ins → Each (Grouping gs n) ins out →

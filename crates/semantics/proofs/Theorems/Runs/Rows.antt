@@ -1,6 +1,6 @@
 -- The rows of any run of a plan that has no joins and no aggregates and cuts nothing off are those of its bag, in some order: `run_rows`. So runs of two
 -- such plans with the same bags, given the same, deliver the same rows: `same_rows`.
-use Rattle.std.specs.Prelude.{◌≡◌, refl, Bool, true, false, cond, not, ◌&&◌, ◌||◌, List, [], ◌∷◌, map, ℕ, eqb, get_or, drop}
+use Rattle.std.specs.Prelude.{◌≡◌, refl, Bool, true, false, cond, not, ◌&&◌, ◌||◌, List, [], ◌∷◌, map, ℕ, eqb, get_or, drop, Option, Some, None}
 use Rattle.std.proofs.Common.{sym, ap, ap₂, ◌∙◌, subst, eqb-true}
 use Rattle.row_order.specs.Iso.{Row, Key}
 use Rattle.row_order.proofs.Order.{no_bool}
@@ -8,8 +8,6 @@ use Rattle.row_order.specs.Lists.{sum, concat, Same}
 use Rattle.row_order.specs.ListLaws.{sum_append, same_refl, same_sym, same_trans, same_append, mixes_sum}
 use Rattle.plan.specs.Forest.{Forest, none, tree, roots}
 use Rattle.plan.specs.Op.{Op, source, filter, projection, union, repartition, coalesce, sort_op, merge_op, global_limit, local_limit, sort_merge_join, hash_join, output_requirement, partial_sort, aggregate, Plan}
-use Rattle.plan.specs.declared.Fetch.{Fetch}
-use Rattle.plan.specs.declared.Fetch.TheVariants.{Unlimited, AtMost}
 use Rattle.semantics.specs.Facts.{Facts, facts}
 use Rattle.semantics.specs.Properties.{Cut, cuts, is_all, whole, is_join, is_aggregate, simple_op}
 use Rattle.semantics.specs.Runs.{Streams, Env, next_s, next_f, past, Each, each_nil, each_cons, proj, Sorting, in0, Made, front, cut_rows, Run, run_none, run_tree, AtSource, EachSource, SameSource, SameInputs}
@@ -62,9 +60,9 @@ made_rows E i j (output_requirement ks d f) fs css bs out nj e hs = same_trans (
 made_rows E i j (partial_sort p ks n f) fs css bs out nj e hs = same_trans (sorting_rows p ks (in0 css) out e) (each_at [] [] (same_refl []) hs 0)
 made_rows E i j (aggregate ks n) fs css bs out nj e hs = no_bool nj
 
-front-whole : (f : Fetch) (l : List Row) → is_all f ≡ true → front f l ≡ l
-front-whole Unlimited l e = refl
-front-whole (AtMost n) l e = no_bool e
+front-whole : (f : Option ℕ) (l : List Row) → is_all f ≡ true → front f l ≡ l
+front-whole None l e = refl
+front-whole (Some n) l e = no_bool e
 
 cut_whole : (k : Cut) → whole k ≡ true → (l : List Row) → cut_rows k l ≡ l
 cut_whole k e l =

@@ -1,14 +1,11 @@
 -- The facts of unions, filters, projections, repartitions, limits and sorts hold of what such a node makes. Assumes nothing.
-use Rattle.std.specs.Prelude.{◌≡◌, refl, Bool, true, false, cond, ◌&&◌, List, [], ◌∷◌, ◌++◌, map, ℕ, ◌+◌, ◌<◌, eqb, length, get_or}
-use Rattle.std.proofs.Common.{sym, ap, ap₂, ◌∙◌, subst, inr, append-nil, arith, eqb-true, eq-eqb, length-append}
-use Rattle.std.proofs.lemmas.List.{length-map}
+use Rattle.std.specs.Prelude.{◌≡◌, refl, Bool, true, false, cond, ◌&&◌, List, [], ◌∷◌, ◌++◌, map, ℕ, ◌+◌, ◌<◌, eqb, length, get_or, Option, Some, None}
+use Rattle.std.proofs.Common.{sym, ap, ap₂, ◌∙◌, subst, inr, append-nil, arith, eqb-true, eq-eqb}
 use Rattle.row_order.specs.Iso.{Cell, null, Row, Key, cell}
 use Rattle.row_order.specs.RowLists.{row_discrete, Sorted}
 use Rattle.row_order.proofs.Order.{no_bool}
 use Rattle.row_order.specs.Lists.{concat, All, all_nil, all_cons, Pw, Mix, mix_nil, mix_left, Mixes, mixes_nil, mixes_cons, tab}
-use Rattle.row_order.specs.ListLaws.{all_head, all_tail, all_map, all_zip, all_append, same_all, pw_map, all_concat, all_over, pw_over, mixes_all, tab-true, tab_at}
-use Rattle.plan.specs.declared.Fetch.{Fetch}
-use Rattle.plan.specs.declared.Fetch.TheVariants.{Unlimited, AtMost}
+use Rattle.row_order.specs.ListLaws.{all_head, all_tail, all_map, all_zip, all_append, same_all, pw_map, all_concat, all_over, pw_over, tab-true, tab_at}
 use Rattle.semantics.specs.Facts.{Facts, cl, is_c, nf, common, met, ordered, lowest, both, union_facts, proj_facts, sort_streams}
 use Rattle.semantics.specs.Properties.{Cut}
 use Rattle.semantics.specs.Joins.{keep}
@@ -17,7 +14,7 @@ use Rattle.semantics.specs.Holds.{RowOK, Holds, AsMany}
 use Rattle.semantics.proofs.Theorems.Common.Bools.{and_left, and_right}
 use Rattle.semantics.proofs.Theorems.Common.Lowest.{lowest_le, lowest_ok, tab-false}
 use Rattle.semantics.proofs.Theorems.Orders.Comparing.{nf-le, common_left, common_right, met-le, cell-proj, carries, proj-le}
-use Rattle.semantics.proofs.Theorems.Common.Streams.{keep_all, keep_pw, sorted_nil, all_sorted_nil, streams_map, concat_each, each_length, all_take, all_drop, pw_take, pw_drop}
+use Rattle.semantics.proofs.Theorems.Common.Streams.{keep_all, keep_pw, sorted_nil, all_sorted_nil, streams_map, concat_each, all_take, all_drop, pw_take, pw_drop}
 
 -- sorted by keys: sorted by their normal form
 pub nf_sorted : (F : Facts) (v : ℕ → Cell) (ks : List Key) {s : Streams} → All (All (RowOK F v)) s → All (Sorted ks) s → All (Sorted (nf F [] ks)) s
@@ -166,16 +163,16 @@ sorting_holds F false ks s out h e =
     single_holds F h.value (nf F [] ks) e rs (nf_one F h.value ks rs e.that.sorted)
 
 -- ---- cuts
-front_all : {P : Row → Type 0} (f : Fetch) {l : List Row} → All P l → All P (front f l)
-front_all Unlimited ps = ps
-front_all (AtMost n) ps = all_take n ps
+front_all : {P : Row → Type 0} (f : Option ℕ) {l : List Row} → All P l → All P (front f l)
+front_all None ps = ps
+front_all (Some n) ps = all_take n ps
 
 pub cut_all : {P : Row → Type 0} (k : Cut) {s : Streams} → All (All P) s → All (All P) (map (cut_rows k) s)
 cut_all k ps = all_over (cut_rows k) (λ l qs. front_all k.fetch (all_drop k.skip qs)) ps
 
-front_pw : {R : Row → Row → Type 0} (f : Fetch) {l : List Row} → Pw R l → Pw R (front f l)
-front_pw Unlimited ps = ps
-front_pw (AtMost n) ps = pw_take n ps
+front_pw : {R : Row → Row → Type 0} (f : Option ℕ) {l : List Row} → Pw R l → Pw R (front f l)
+front_pw None ps = ps
+front_pw (Some n) ps = pw_take n ps
 
 pub cut_holds : (F : Facts) (k : Cut) (s : Streams) → Holds F s → Holds F (map (cut_rows k) s)
 cut_holds F k s h =

@@ -1,7 +1,7 @@
 -- The promise to plans that pass the order check is not empty: a plan of eight nodes that is accepted and passes, source rows that keep
 -- what it declares, and a run of it in which every node has rows on every stream. An output requirement over a sort-merge join; on its left
 -- a merge over a sort of each stream over a repartition in two over a filter over a source of one stream, on its right a source known [0].
-use Rattle.std.specs.Prelude.{◌≡◌, refl, Bool, true, false, not, List, [], ◌∷◌, ℕ, zero, suc, ◌≤◌, pos, length}
+use Rattle.std.specs.Prelude.{◌≡◌, refl, true, false, not, List, [], ◌∷◌, ℕ, zero, suc, ◌≤◌, pos, length, None}
 use Rattle.std.proofs.Common.{arith}
 use Rattle.row_order.specs.Iso.{null, num, Row, cell, equal}
 use Rattle.row_order.proofs.Order.{no_bool}
@@ -14,7 +14,6 @@ use Rattle.plan.specs.Op.{filter, repartition, sort_op, merge_op, sort_merge_joi
 use Rattle.plan.specs.Samples.{up, by, source_of}
 use Rattle.plan.specs.WellFormed.{well_formed}
 use Rattle.plan.specs.declared.Distribution.TheVariants.{Single}
-use Rattle.plan.specs.declared.Fetch.TheVariants.{Unlimited}
 use Rattle.plan.specs.declared.JoinType.TheVariants.{Inner}
 use Rattle.semantics.specs.Check.{check}
 use Rattle.semantics.specs.Joins.{grouped_nil, grouped_cons}
@@ -25,10 +24,10 @@ use Rattle.semantics.proofs.Theorems.Common.Streams.{all_sorted_nil}
 
 abbrev pub passing : Plan
 passing =
-    tree (output_requirement (by 0) Single Unlimited)
+    tree (output_requirement (by 0) Single None)
     (tree (sort_merge_join Inner (record { key = up 0; other = 0 } ∷ []))
-    (tree (merge_op (by 0) Unlimited)
-    (tree (sort_op true (by 0) Unlimited) (tree (repartition false 2 false []) (tree filter (tree (source_of 1 1 0 [] false) none none) none) none) none)
+    (tree (merge_op (by 0) None)
+    (tree (sort_op true (by 0) None) (tree (repartition false 2 false []) (tree filter (tree (source_of 1 1 0 [] false) none none) none) none) none)
     (tree (source_of 1 1 0 (by 0) false) none none))
     none)
     none
@@ -85,7 +84,7 @@ carries =
           each_nil;
       is = refl;
     })
-    (run_tree {o = merge_op (by 0) Unlimited}
+    (run_tree {o = merge_op (by 0) None}
     (record {
       raw = (row 1 ∷ row 2 ∷ []) ∷ [];
       made = record {

@@ -2,7 +2,7 @@ use native.Mathlib.Omega.{arith}
 use mathlib.Core.Path.{refl, sym, ap, ◌∙◌}
 use mathlib.Core.Bool.{false}
 use Prim.Native.Nat.{◌-◌}
-use Rattle.arena.specs.Arena.{marked, slot}
+use Rattle.arena.specs.Arena.{marked}
 use Rattle.sort_connection.specs.Standing.{view, slot_room, kid_asks}
 use Rattle.sort_connection.specs.Connection.{any_next, mark_found, mark_none}
 use Rattle.sort_connection.proofs.update_sort_ctx_children_data.any_marked.Goals as goal
@@ -11,7 +11,7 @@ pub child_count-n-requires : goal.child_count-n-requires
 child_count-n-requires c = slot_room c.args.m.now c.args.u c.args.h c.requires
 
 pub loop-j-init : goal.loop-j-init
-loop-j-init c = (c.child_count-n.ensures ∙ (view c.args.m.now c.args.u c.args.h c.requires).count, omega arith, refl)
+loop-j-init c = (c.child_count-n.ensures ∙ (view c.args.m.now c.args.u c.args.h c.requires).count, refl)
 
 pub child-requires : goal.child-requires
 child-requires c = let x = c.loop-j-test.true in let l = c.loop-j in let y = l.invariant.0 in
@@ -23,20 +23,13 @@ returns-then-is_marked c = let x = c.loop-j-test.true in
     mark_found c.args.m.now c.args.u c.args.h c.requires l.j (omega arith)
     (sym (c.is_marked.ensures ∙ ap marked c.child.ensures) ∙ c.if-is_marked.true)
 
-pub overflow_add-j : goal.overflow_add-j
-overflow_add-j c = let x = c.loop-j-test.true in omega arith
-
-pub loop-j-smaller : goal.loop-j-smaller
-loop-j-smaller c = let x = c.loop-j-test.true in omega arith
-
 pub loop-j-preserved : goal.loop-j-preserved
 loop-j-preserved c = let x = c.loop-j-test.true in let l = c.loop-j in (
   l.invariant.0,
-  omega arith,
-  any_next _ l.j l.invariant.2 (sym (c.is_marked.ensures ∙ ap marked c.child.ensures)
+  any_next _ l.j l.invariant.1 (sym (c.is_marked.ensures ∙ ap marked c.child.ensures)
       ∙ c.if-is_marked.false),
 )
 
 pub returns : goal.returns
 returns c = let x = c.loop-j-test.false in let l = c.loop-j in let y = l.invariant.0 in
-    let z = l.invariant.1 in mark_none c.args.m.now c.args.u c.args.h c.requires l.j (omega arith) l.invariant.2
+    mark_none c.args.m.now c.args.u c.args.h c.requires l.j (omega arith) l.invariant.1

@@ -9,11 +9,11 @@ use Rattle.sort_connection.proofs.update_sort_ctx_children_data.maintains_unaske
 pub wanted_order-o-requires : goal.wanted_order-o-requires
 wanted_order-o-requires c = own_proper c.args.m.now c.args.u c.args.h c.requires.0 _ c.record_at.ensures
 
-pub returns-in-By : goal.returns-in-By
-returns-in-By c = asked_some (tree_of c.args.m.now c.args.h) c.args.j _
+pub returns-in-Some : goal.returns-in-Some
+returns-in-Some c = asked_some (tree_of c.args.m.now c.args.h) c.args.j _
     (subst (λ x. Ordered (wanted x c.args.j) c.wanted_order-o.result)
     (op_is c.args.m.now c.args.u c.args.h c.requires.0 _ c.record_at.ensures)
-    c.wanted_order-o.ensures) _ c.in-By.is
+    c.wanted_order-o.ensures) _ c.in-Some.is
 
 pub returns : goal.returns
 returns c = asked_none (tree_of c.args.m.now c.args.h) c.args.j _

@@ -1,13 +1,13 @@
 use mathlib.Core.Path.{refl, sym, ap, ◌∙◌, subst}
 use mathlib.Core.List.{List}
 use Rattle.row_order.specs.Iso.{Key}
-use Rattle.plan.specs.declared.Fetch.{Fetch}
+use Rattle.std.specs.Prelude.{Option, ℕ}
 use Rattle.plan_codec.specs.Decode.{decode}
 use Rattle.semantics.specs.Properties.{fetches, wanted}
 use Rattle.key_lists.specs.Keys.{keys_of, Ordered}
 use Rattle.asked_facts.specs.Asked.{told}
-use Rattle.push_requirements.specs.declared.Pushed.{Pushed}
-use Rattle.push_requirements.specs.declared.Pushed.TheVariants.{Stop}
+use Rattle.push_requirements.specs.declared.ChildOrders.{ChildOrders}
+use Rattle.std.specs.Prelude.{Option, None}
 use Rattle.push_requirements.specs.Pushing.{HandsOn}
 use Rattle.walks.specs.Utils.{needs_merge, sort_above_with_distribution}
 use Rattle.walks.specs.SortPushdown.{child_count, effective_dist, min_fetch, pushdown_requirement_to_children}
@@ -27,9 +27,9 @@ returns-in_default c = let F = told c.args.own.now in
 pub returns-then-meets : goal.returns-then-meets
 returns-then-meets c = let n = decode c.args.r.now in let F = told c.args.own.now in let L = told c.args.a.now in let R = told c.args.b.now in
     let q = visit_of c.args.v in λ pl o z e.
-    node_met pl n o q F L R z c.args.limit e c.in-By.order
-    (requirement_is c.args.v.req.order _ c.requires.real c.in-By.is)
-    (requirement_some c.args.v.req.order _ c.requires.real c.in-By.is) _
+    node_met pl n o q F L R z c.args.limit e c.in-Some.order
+    (requirement_is c.args.v.req.order _ c.requires.real c.in-Some.is)
+    (requirement_some c.args.v.req.order _ c.requires.real c.in-Some.is) _
     c.meets.result c.meets.ensures c.if-meets.true
     (c.handed_on.ensures pl o L R (wanted o) z (wanted_going o _ _ (child_count pl) (count_like n o (sem.facts pl) (child_count pl) F L R z)
     (subst (λ (l : List Key). Ordered l c.wanted_order.result) (wanted-like n o (sem.facts pl) (child_count pl) F L R z 0)
@@ -39,52 +39,52 @@ returns-then-meets c = let n = decode c.args.r.now in let F = told c.args.own.no
 
 pub pushdown_requirement_to_children-p-requires : goal.pushdown_requirement_to_children-p-requires
 pushdown_requirement_to_children-p-requires c = visited_asked c.args.r.now c.args.own.now c.args.a.now c.args.b.now c.args.v.req.order _ c.requires
-    c.in-By.is
+    c.in-Some.is
 
-pub returns-in-Goes : goal.returns-in-Goes
-returns-in-Goes c = let n = decode c.args.r.now in let F = told c.args.own.now in let L = told c.args.a.now in let R = told c.args.b.now in
+pub returns-in-Some-p : goal.returns-in-Some-p
+returns-in-Some-p c = let n = decode c.args.r.now in let F = told c.args.own.now in let L = told c.args.a.now in let R = told c.args.b.now in
     let q = visit_of c.args.v in λ pl o z e.
-    node_tried pl n o q F L R z c.args.limit e c.in-By.order
+    node_tried pl n o q F L R z c.args.limit e c.in-Some.order
     (requirement_is c.args.v.req.order _ c.requires.real
-    c.in-By.is)
+    c.in-Some.is)
     (requirement_some c.args.v.req.order _ c.requires.real
-    c.in-By.is) _
+    c.in-Some.is) _
     c.meets.result
     c.meets.ensures c.if-meets.false
-    (try_goes o o pl c.handed_on-in-Goes.result q (walk.push_down q.req.order q o pl) _ _
+    (try_goes o o pl c.handed_on-in-Some-p.result q (walk.push_down q.req.order q o pl) _
     (pushed_down pl n o q F L R z c.args.limit e
-    c.in-By.order
+    c.in-Some.order
     (requirement_is c.args.v.req.order _ c.requires.real
-    c.in-By.is) _
-    (subst (λ (x : Pushed). HandsOn (child_count pl) (pushdown_requirement_to_children o c.args.limit (child_count pl) (sem.facts pl)
-    (keys_of c.in-By.order) q.req.fetch) x)
-    c.in-Goes.is (c.pushdown_requirement_to_children-p.ensures o (sem.facts pl)
+    c.in-Some.is) _
+    (subst (λ (x : Option ChildOrders). HandsOn (child_count pl) (pushdown_requirement_to_children o c.args.limit (child_count pl) (sem.facts pl)
+    (keys_of c.in-Some.order) q.req.fetch) x)
+    c.in-Some-p.is (c.pushdown_requirement_to_children-p.ensures o (sem.facts pl)
     (fetches pl) (child_count pl) z e)))
-    (λ ks k. subst (λ (f : Fetch). Decides o pl (walk.stays o (walk.hand_down ks f (effective_dist (sem.facts_op o (sem.facts pl)) q.req.dist) o))
-    c.handed_on-in-Goes.result) (c.min_fetch.ensures ∙ ap (λ (g : Fetch). min_fetch g q.req.fetch) e)
-    (c.handed_on-in-Goes.ensures pl o L R ks z k)))
+    (λ ks k. subst (λ (f : Option ℕ). Decides o pl (walk.stays o (walk.hand_down ks f (effective_dist (sem.facts_op o (sem.facts pl)) q.req.dist) o))
+    c.handed_on-in-Some-p.result) (c.min_fetch.ensures ∙ ap (λ (g : Option ℕ). min_fetch g q.req.fetch) e)
+    (c.handed_on-in-Some-p.ensures pl o L R ks z k)))
 
 pub merge_added-requires : goal.merge_added-requires
 merge_added-requires c = visited_asked c.args.r.now c.args.own.now c.args.a.now c.args.b.now c.args.v.req.order _ c.requires
-    c.in-By.is
+    c.in-Some.is
 
 pub returns-then-needs_merge : goal.returns-then-needs_merge
 returns-then-needs_merge c = let n = decode c.args.r.now in let F = told c.args.own.now in let L = told c.args.a.now in let R = told c.args.b.now in
     let q = visit_of c.args.v in λ pl o z e.
-    node_tried pl n o q F L R z c.args.limit e c.in-By.order
+    node_tried pl n o q F L R z c.args.limit e c.in-Some.order
     (requirement_is c.args.v.req.order _ c.requires.real
-    c.in-By.is)
+    c.in-Some.is)
     (requirement_some c.args.v.req.order _ c.requires.real
-    c.in-By.is) _
+    c.in-Some.is) _
     c.meets.result
     c.meets.ensures c.if-meets.false
     (try_stop o o pl c.merge_added.result q (walk.push_down q.req.order q o pl)
     (pushed_down pl n o q F L R z c.args.limit e
-    c.in-By.order
+    c.in-Some.order
     (requirement_is c.args.v.req.order _ c.requires.real
-    c.in-By.is) Stop
-    (subst (λ (x : Pushed). HandsOn (child_count pl) (pushdown_requirement_to_children o c.args.limit (child_count pl) (sem.facts pl)
-    (keys_of c.in-By.order) q.req.fetch) x)
+    c.in-Some.is) None
+    (subst (λ (x : Option ChildOrders). HandsOn (child_count pl) (pushdown_requirement_to_children o c.args.limit (child_count pl) (sem.facts pl)
+    (keys_of c.in-Some.order) q.req.fetch) x)
     c.in_default-p.is (c.pushdown_requirement_to_children-p.ensures o
     (sem.facts pl) (fetches pl) (child_count pl) z e)))
     (if_so o pl _ _ (needs_merge (sem.facts_op o (sem.facts pl)) q.req.dist) _
@@ -92,33 +92,33 @@ returns-then-needs_merge c = let n = decode c.args.r.now in let F = told c.args.
     (facts-like n o (sem.facts pl) (child_count pl) F L R z)) ∙ c.if-needs_merge.true)
     (c.merge_added.ensures pl o q z e
     (requirement_is c.args.v.req.order _ c.requires.real
-    c.in-By.is) refl)))
+    c.in-Some.is) refl)))
 
 pub sort_added-requires : goal.sort_added-requires
 sort_added-requires c = (
   c.requires.proper,
   c.requires.here,
   requirement_few c.args.v.req.order _ c.requires.real
-      c.in-By.is,
+      c.in-Some.is,
 )
 
 pub returns : goal.returns
 returns c = let n = decode c.args.r.now in let F = told c.args.own.now in let L = told c.args.a.now in let R = told c.args.b.now in
     let q = visit_of c.args.v in λ pl o z e.
-    node_tried pl n o q F L R z c.args.limit e c.in-By.order
+    node_tried pl n o q F L R z c.args.limit e c.in-Some.order
     (requirement_is c.args.v.req.order _ c.requires.real
-    c.in-By.is)
+    c.in-Some.is)
     (requirement_some c.args.v.req.order _ c.requires.real
-    c.in-By.is) _
+    c.in-Some.is) _
     c.meets.result
     c.meets.ensures c.if-meets.false
     (try_stop o o pl c.sort_added.result q (walk.push_down q.req.order q o pl)
     (pushed_down pl n o q F L R z c.args.limit e
-    c.in-By.order
+    c.in-Some.order
     (requirement_is c.args.v.req.order _ c.requires.real
-    c.in-By.is) Stop
-    (subst (λ (x : Pushed). HandsOn (child_count pl) (pushdown_requirement_to_children o c.args.limit (child_count pl) (sem.facts pl)
-    (keys_of c.in-By.order) q.req.fetch) x)
+    c.in-Some.is) None
+    (subst (λ (x : Option ChildOrders). HandsOn (child_count pl) (pushdown_requirement_to_children o c.args.limit (child_count pl) (sem.facts pl)
+    (keys_of c.in-Some.order) q.req.fetch) x)
     c.in_default-p.is (c.pushdown_requirement_to_children-p.ensures o
     (sem.facts pl) (fetches pl) (child_count pl) z e)))
     (if_not o pl _ _ (needs_merge (sem.facts_op o (sem.facts pl)) q.req.dist) _
@@ -127,4 +127,4 @@ returns c = let n = decode c.args.r.now in let F = told c.args.own.now in let L 
     (subst (λ (l : List Key). Decides o pl (walk.covered (sort_above_with_distribution (sem.facts_op o (sem.facts pl)) l q.req.fetch q.req.dist) 0 o
     (walk.with_own_distribution o)) c.sort_added.result)
     (requirement_is c.args.v.req.order _ c.requires.real
-    c.in-By.is) (c.sort_added.ensures pl o L R z))))
+    c.in-Some.is) (c.sort_added.ensures pl o L R z))))

@@ -15,25 +15,25 @@ returns-in_default c = λ p ks f pl x. let q = visit_of c.args.v in let o = sort
     if_so o pl _ _ (sem.is_nil q.req.order) _ (requirement_none _ c.in_default.is) (c.sort_unasked.ensures p ks f pl x)
 
 pub unnecessary-requires : goal.unnecessary-requires
-unnecessary-requires c = (c.requires.1, requirement_few c.args.v.req.order _ c.requires.3 c.in-By.is)
+unnecessary-requires c = (c.requires.1, requirement_few c.args.v.req.order _ c.requires.3 c.in-Some.is)
 
 pub sort_unnecessary-requires : goal.sort_unnecessary-requires
 sort_unnecessary-requires c = (
   c.requires.0,
   c.requires.1,
   c.requires.2,
-  requirement_few c.args.v.req.order _ c.requires.3 c.in-By.is,
-  requirement_is c.args.v.req.order _ c.requires.3 c.in-By.is,
+  requirement_few c.args.v.req.order _ c.requires.3 c.in-Some.is,
+  requirement_is c.args.v.req.order _ c.requires.3 c.in-Some.is,
 )
 
 pub returns-then-unnecessary : goal.returns-then-unnecessary
 returns-then-unnecessary c = λ p ks f pl x. let q = visit_of c.args.v in
     let F = told c.args.own.now in let o = sort_op p ks f in
     if_not o pl _ _ (sem.is_nil q.req.order) _
-    (requirement_some c.args.v.req.order _ c.requires.3 c.in-By.is)
+    (requirement_some c.args.v.req.order _ c.requires.3 c.in-Some.is)
     (if_so o pl _ _ (sem.met F q.req.order || sem.compatible F q.req.order (sem.known_order F)) _
     (sym (c.unnecessary.ensures ∙ ap (λ (l : List Key). sem.met F l || sem.compatible F l (sem.known_order F))
-    (requirement_is c.args.v.req.order _ c.requires.3 c.in-By.is)) ∙ c.if-unnecessary.true)
+    (requirement_is c.args.v.req.order _ c.requires.3 c.in-Some.is)) ∙ c.if-unnecessary.true)
     (c.sort_unnecessary.ensures p ks f pl x))
 
 pub sort_replaced_twice-requires : goal.sort_replaced_twice-requires
@@ -42,18 +42,18 @@ sort_replaced_twice-requires c = (
   c.requires.1,
   c.requires.2,
   requirement_few c.args.v.req.order _ c.requires.3
-      c.in-By.is,
+      c.in-Some.is,
   requirement_is c.args.v.req.order _ c.requires.3
-      c.in-By.is,
+      c.in-Some.is,
 )
 
 pub returns-then-needs_merge : goal.returns-then-needs_merge
 returns-then-needs_merge c = λ p ks f pl x. let q = visit_of c.args.v in let F = told c.args.own.now in let C = told c.args.a.now in let o = sort_op p ks f in
     if_not o pl _ _ (sem.is_nil q.req.order) _
-    (requirement_some c.args.v.req.order _ c.requires.3 c.in-By.is)
+    (requirement_some c.args.v.req.order _ c.requires.3 c.in-Some.is)
     (if_not o pl _ _ (sem.met F q.req.order || sem.compatible F q.req.order (sem.known_order F)) _
     (sym (c.unnecessary.ensures ∙ ap (λ (l : List Key). sem.met F l || sem.compatible F l (sem.known_order F))
-    (requirement_is c.args.v.req.order _ c.requires.3 c.in-By.is))
+    (requirement_is c.args.v.req.order _ c.requires.3 c.in-Some.is))
     ∙ c.if-unnecessary.false)
     (if_so o pl _ _ (needs_merge C q.req.dist) _ (sym c.needs_merge.ensures ∙ c.if-needs_merge.true)
     (c.sort_replaced_twice.ensures p ks f pl x)))
@@ -64,18 +64,18 @@ sort_replaced-requires c = (
   c.requires.1,
   c.requires.2,
   requirement_few c.args.v.req.order _ c.requires.3
-      c.in-By.is,
+      c.in-Some.is,
   requirement_is c.args.v.req.order _ c.requires.3
-      c.in-By.is,
+      c.in-Some.is,
 )
 
 pub returns : goal.returns
 returns c = λ p ks f pl x. let q = visit_of c.args.v in let F = told c.args.own.now in let C = told c.args.a.now in let o = sort_op p ks f in
     if_not o pl _ _ (sem.is_nil q.req.order) _
-    (requirement_some c.args.v.req.order _ c.requires.3 c.in-By.is)
+    (requirement_some c.args.v.req.order _ c.requires.3 c.in-Some.is)
     (if_not o pl _ _ (sem.met F q.req.order || sem.compatible F q.req.order (sem.known_order F)) _
     (sym (c.unnecessary.ensures ∙ ap (λ (l : List Key). sem.met F l || sem.compatible F l (sem.known_order F))
-    (requirement_is c.args.v.req.order _ c.requires.3 c.in-By.is))
+    (requirement_is c.args.v.req.order _ c.requires.3 c.in-Some.is))
     ∙ c.if-unnecessary.false)
     (if_not o pl _ _ (needs_merge C q.req.dist) _ (sym c.needs_merge.ensures ∙ c.if-needs_merge.false)
     (c.sort_replaced.ensures p ks f pl x)))

@@ -3,7 +3,7 @@ use mathlib.Core.Bool.{false}
 use mathlib.Core.List.{List, [], ◌++◌}
 use Rattle.row_order.specs.Iso.{Key}
 use Rattle.plan.specs.Op.{Op}
-use Rattle.plan.specs.declared.Fetch.{Fetch}
+use Rattle.std.specs.Prelude.{Option, ℕ}
 use Rattle.plan.specs.declared.Distribution.TheVariants.{Unspecified}
 use Rattle.plan_codec.specs.Decode.{decode}
 use Rattle.semantics.specs.Properties.{fresh_keys}
@@ -22,7 +22,7 @@ returns c = λ p ks f pl x. let n = decode c.args.r.now in let q = c.args.v.req 
     (subst (λ (l : List Op). Adds l c.merge_and_sort-tops.result)
     (ap₂ (λ (l : List Key) (m : List Key). new_merge l q.fetch ++ sort_above_with_distribution C m c.fetch.result Unspecified) e
     (c.keys_in-order.ensures.is ∙ c.known_order.ensures.is)
-    ∙ ap (λ (g : Fetch). new_merge (fresh_keys C [] (order_of q.order)) q.fetch ++ sort_above_with_distribution C
+    ∙ ap (λ (g : Option ℕ). new_merge (fresh_keys C [] (order_of q.order)) q.fetch ++ sort_above_with_distribution C
     (sem.known_order (told c.args.own.now)) g Unspecified)
     (sort_cut n p ks f c.fetch.result x c.fetch.ensures))
     c.merge_and_sort-tops.ensures)

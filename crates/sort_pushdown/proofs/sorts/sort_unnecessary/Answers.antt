@@ -1,7 +1,7 @@
 use mathlib.Core.Path.{refl, ap, ◌∙◌}
 use mathlib.Core.Bool.{true}
 use mathlib.Core.List.{[]}
-use Rattle.plan.specs.declared.Fetch.{Fetch}
+use Rattle.std.specs.Prelude.{Option, ℕ}
 use Rattle.plan.specs.declared.Distribution.TheVariants.{Unspecified}
 use Rattle.plan_codec.specs.Decode.{decode}
 use Rattle.key_lists.specs.Keys.{order_of}
@@ -17,6 +17,6 @@ returns c = λ p ks f pl x. let n = decode c.args.r.now in
     (parts _ _ Unspecified (order_of c.stricter.result) c.min_fetch.result Unspecified
     (stricter_is C c.stricter.result c.known_order.result c.args.parent _ _
     c.stricter.ensures c.known_order.ensures.is c.requires.4)
-    (c.min_fetch.ensures ∙ ap (λ (g : Fetch). min_fetch g q.fetch)
+    (c.min_fetch.ensures ∙ ap (λ (g : Option ℕ). min_fetch g q.fetch)
     (sort_cut n p ks f c.fetch-f.result x c.fetch-f.ensures)) refl)
     c.stricter.ensures.real

@@ -1,6 +1,6 @@
 -- Sorts whose keys are all constant, refusal 25's: whether a node is one is settled by the constants and classes of its child alone, and a new
 -- sort never is one.
-use Rattle.std.specs.Prelude.{◌≡◌, refl, Bool, true, false, cond, ◌&&◌, ◌||◌, List, [], ◌∷◌, map, ℕ}
+use Rattle.std.specs.Prelude.{◌≡◌, refl, Bool, true, false, cond, ◌&&◌, ◌||◌, List, [], ◌∷◌, map, ℕ, Option}
 use Rattle.std.proofs.Common.{sym, ap, ◌∙◌}
 use Rattle.row_order.specs.Iso.{Key}
 use Rattle.row_order.proofs.Order.{no_bool}
@@ -8,7 +8,6 @@ use Rattle.row_order.specs.ListLaws.{all_head}
 use Rattle.plan.specs.Forest.{none, tree}
 use Rattle.plan.specs.Op.{coalesce, filter, global_limit, hash_join, local_limit, merge_op, Op, output_requirement, partial_sort, aggregate, projection, repartition, sort_merge_join, sort_op, source, union}
 use Rattle.plan.specs.WellFormed.{member}
-use Rattle.plan.specs.declared.Fetch.{Fetch}
 use Rattle.semantics.specs.Facts.{cl, Facts, facts_op, is_c, is_nil, known_order, nf, with_column}
 use Rattle.semantics.specs.Properties.{fresh_keys}
 use Rattle.semantics.specs.Canonical.{Canon}
@@ -68,7 +67,7 @@ first_fresh F seen (j ∷ ks) k rest e = go (is_c F j.col || member j.col seen) 
 abbrev pub WholeClasses : Facts → Type 0
 WholeClasses F = (c : ℕ) → is_c F (cl F c) ≡ is_c F c
 
-pub fresh_alive : (F : Facts) → WholeClasses F → (p : Bool) (f : Fetch) (ks : List Key) (k : Key) (rest : List Key) → fresh_keys F [] ks ≡ k ∷ rest →
+pub fresh_alive : (F : Facts) → WholeClasses F → (p : Bool) (f : Option ℕ) (ks : List Key) (k : Key) (rest : List Key) → fresh_keys F [] ks ≡ k ∷ rest →
     Alive F (sort_op p (k ∷ rest) f)
 fresh_alive F h p f ks k rest e =
     ap (λ (b : Bool). is_nil (cond (b || false) (nf F [] rest) (with_column (cl F k.col) k ∷ nf F (cl F k.col ∷ []) rest)))

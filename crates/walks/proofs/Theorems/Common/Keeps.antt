@@ -1,6 +1,6 @@
 -- What a rewrite of one tree, or of the children of a node, keeps: `Keeps`, `KeepsAll`, and how they are built. Every lemma about a walk is
 -- made of these.
-use Rattle.std.specs.Prelude.{◌≡◌, refl, Bool, true, false, cond, ◌&&◌, List, [], ◌∷◌, map, ℕ, suc, eqb, ltb, get_or}
+use Rattle.std.specs.Prelude.{◌≡◌, refl, Bool, true, false, cond, ◌&&◌, List, [], ◌∷◌, map, ℕ, suc, eqb, ltb, get_or, Option, None}
 use Rattle.std.proofs.Common.{sym, ap, ap₂, ◌∙◌, subst, arith}
 use Rattle.row_order.specs.Iso.{Key}
 use Rattle.row_order.proofs.Order.{no_bool}
@@ -9,8 +9,6 @@ use Rattle.plan.specs.Forest.{Forest, none, tree}
 use Rattle.plan.specs.Op.{coalesce, filter, global_limit, hash_join, local_limit, merge_op, Op, output_requirement, partial_sort, aggregate, Plan, projection, repartition, sort_merge_join, sort_op, source, union}
 use Rattle.plan.specs.Numbers.{code}
 use Rattle.plan.specs.WellFormed.{fetch_ok, node_ok}
-use Rattle.plan.specs.declared.Fetch.{Fetch}
-use Rattle.plan.specs.declared.Fetch.TheVariants.{Unlimited}
 use Rattle.semantics.specs.Facts.{Facts, facts, facts_op}
 use Rattle.semantics.specs.Properties.{cuts, fetches, fetch_op, fresh_keys, is_limit, rebuilt, remark, is_all}
 use Rattle.semantics.proofs.Theorems.Common.Bools.{and_left, and_right}
@@ -312,8 +310,8 @@ kept_swap {a} o p x y c d i j n u g f k =
     }
 
 -- ---- one induction for the kinds that the walks treat apart
-pub shape_ind : (P : Op → Type 0) → ((p : Bool) (ks : List Key) (f : Fetch) → P (sort_op p ks f)) → ((ks : List Key) (f : Fetch) → P (merge_op ks f))
-    → ((p : Bool) (n : ℕ) (h : Bool) (ks : List Key) → P (repartition p n h ks)) → ((f : Fetch) → P (coalesce f)) → ((o : Op) → shape o ≡ another → P o)
+pub shape_ind : (P : Op → Type 0) → ((p : Bool) (ks : List Key) (f : Option ℕ) → P (sort_op p ks f)) → ((ks : List Key) (f : Option ℕ) → P (merge_op ks f))
+    → ((p : Bool) (n : ℕ) (h : Bool) (ks : List Key) → P (repartition p n h ks)) → ((f : Option ℕ) → P (coalesce f)) → ((o : Op) → shape o ≡ another → P o)
     → (o : Op) → P o
 shape_ind P s m r c q (source d) = q (source d) refl
 shape_ind P s m r c q filter = q filter refl
@@ -335,11 +333,11 @@ shape_ind P s m r c q (aggregate ks n) = q (aggregate ks n) refl
 pub op_fetch : (o : Op) → clear_op o ≡ true → is_all (cuts o).fetch ≡ true
 op_fetch o e = search (and_left, and_right)
 
-pub fetch_op_lem : (o : Op) (fs : List Fetch) → clear_op o ≡ true → All (λ f. is_all f ≡ true) fs → is_all (fetch_op o fs) ≡ true
+pub fetch_op_lem : (o : Op) (fs : List (Option ℕ)) → clear_op o ≡ true → All (λ f. is_all f ≡ true) fs → is_all (fetch_op o fs) ≡ true
 fetch_op_lem o fs e h = go (eqb (code o) 3)
   where
-    go : (b : Bool) → is_all (cond b (get_or fs 0 Unlimited) (cuts o).fetch) ≡ true
-    go true = all_nth Unlimited refl h 0
+    go : (b : Bool) → is_all (cond b (get_or fs 0 None) (cuts o).fetch) ≡ true
+    go true = all_nth None refl h 0
     go false = op_fetch o e
 
 pub pure-fetches : (f : Plan) → Pure f → All (λ x. is_all x ≡ true) (fetches f)
@@ -350,11 +348,11 @@ pub pure_fetch : (t : Tree) → PureT t → is_all (fetch_t t) ≡ true
 pure_fetch t p = fetch_op_lem (op_t t) (fetches (strip t.kids)) p.0 (pure-fetches (strip t.kids) p.1)
 
 -- ---- a sort on top
-pub uncut_fetch : (f : Fetch) → is_all f ≡ true → ((is_all f && true) && true) ≡ true
+pub uncut_fetch : (f : Option ℕ) → is_all f ≡ true → ((is_all f && true) && true) ≡ true
 uncut_fetch f e = ap (λ (x : Bool). (x && true) && true) e
 
 -- add_sort_above, over u
-pub kept_sort_above : {a b h : Bool} {t u : Tree} (w : List Key) (f : Fetch) → (b ≡ true → PureT t → is_all f ≡ true)
+pub kept_sort_above : {a b h : Bool} {t u : Tree} (w : List Key) (f : Option ℕ) → (b ≡ true → PureT t → is_all f ≡ true)
     → (h ≡ true → OkT t → OkT u → KeysFit (fact u).width (fresh_keys (fact u) [] w) × (fetch_ok f ≡ true)) → Keeps a b h t u
     → Keeps a b h t (add_sort_above w f u)
 kept_sort_above {a} {b} {h} {t} {u} w f q r k = go (fresh_keys (fact u) [] w) refl r

@@ -1,5 +1,5 @@
 -- In a plan that 01's rules accept, known orders are key lists that they accept, and so are the nodes that a walk makes of them.
-use Rattle.std.specs.Prelude.{◌≡◌, refl, Bool, true, false, cond, not, ◌&&◌, ◌||◌, List, [], ◌∷◌, map, ℕ, zero, suc, ◌≤◌, eqb, ltb, leb, length, get_or, take}
+use Rattle.std.specs.Prelude.{◌≡◌, refl, Bool, true, false, cond, not, ◌&&◌, ◌||◌, List, [], ◌∷◌, map, ℕ, zero, suc, ◌≤◌, eqb, ltb, leb, length, get_or, take, Option, Some, None}
 use Rattle.std.proofs.Common.{sym, ap, ap₂, ◌∙◌, subst, arith, eqb-true, leb-true, le-leb}
 use Rattle.std.proofs.lemmas.Bool.{not-true}
 use Rattle.row_order.specs.Iso.{Key}
@@ -10,8 +10,6 @@ use Rattle.plan.specs.Forest.{none, tree}
 use Rattle.plan.specs.Op.{coalesce, filter, global_limit, hash_join, local_limit, merge_op, On, Op, output_requirement, partial_sort, aggregate, Plan, projection, repartition, sort_merge_join, sort_op, source, union}
 use Rattle.plan.specs.Numbers.{code}
 use Rattle.plan.specs.WellFormed.{columns_fit, columns_ok, distinct, distribution_fits, fetch_ok, few, fields_ok, keys_fit, member, node_ok, on_fit, some, columns_of}
-use Rattle.plan.specs.declared.Fetch.{Fetch}
-use Rattle.plan.specs.declared.Fetch.TheVariants.{AtMost, Unlimited}
 use Rattle.plan.specs.declared.JoinType.{JoinType}
 use Rattle.plan.specs.declared.JoinType.TheVariants.{Full, Inner, Left, LeftAnti, LeftSemi, Right, RightAnti, RightSemi}
 use Rattle.semantics.specs.Facts.{at0, at1, carried, cl, common, eq_key, Facts, facts, facts_op, hash_kept, is_c, join_base, join_order, keeps_order, Kept, k_left, k_none, k_right, left_order, moved, nf, nothing, proj_order, right_order, smj_kept, source_facts, union_facts, with_column, within}
@@ -163,11 +161,11 @@ op_fetch_ok (aggregate ks n) e = refl
 pub node_fetch : (o : Op) (ws : List ℕ) → node_ok o ws ≡ true → fetch_ok (cuts o).fetch ≡ true
 node_fetch o ws e = op_fetch_ok o (search (and_left, and_right))
 
-pub fetch_op_ok : (o : Op) (ws : List ℕ) (fs : List Fetch) → node_ok o ws ≡ true → All (λ f. fetch_ok f ≡ true) fs → fetch_ok (fetch_op o fs) ≡ true
+pub fetch_op_ok : (o : Op) (ws : List ℕ) (fs : List (Option ℕ)) → node_ok o ws ≡ true → All (λ f. fetch_ok f ≡ true) fs → fetch_ok (fetch_op o fs) ≡ true
 fetch_op_ok o ws fs e h = go (eqb (code o) 3)
   where
-    go : (b : Bool) → fetch_ok (cond b (get_or fs 0 Unlimited) (cuts o).fetch) ≡ true
-    go true = all_nth Unlimited refl h 0
+    go : (b : Bool) → fetch_ok (cond b (get_or fs 0 None) (cuts o).fetch) ≡ true
+    go true = all_nth None refl h 0
     go false = node_fetch o ws e
 
 pub fetches_ok : (f : Plan) → Ok f → All (λ x. fetch_ok x ≡ true) (fetches f)
@@ -191,28 +189,28 @@ Over ws = (eqb (length ws) 1 ≡ true) × (leb (get_or ws 0 0) 32 ≡ true)
 some-keys : (k : Key) (ks : List Key) → length (k ∷ ks) ≤ 8 → some (k ∷ ks) ≡ true
 some-keys k ks h = ap₂ ◌&&◌ (le-leb 1 (length (k ∷ ks)) (omega arith)) (le-leb (length (k ∷ ks)) 8 h)
 
-pub sort_ok : (p : Bool) (k : Key) (ks : List Key) (f : Fetch) (ws : List ℕ) → KeysFit (get_or ws 0 0) (k ∷ ks) → fetch_ok f ≡ true → Over ws
+pub sort_ok : (p : Bool) (k : Key) (ks : List Key) (f : Option ℕ) (ws : List ℕ) → KeysFit (get_or ws 0 0) (k ∷ ks) → fetch_ok f ≡ true → Over ws
     → node_ok (sort_op p (k ∷ ks) f) ws ≡ true
 sort_ok p k ks f ws h e n =
     ap₂ ◌&&◌ (ap₂ ◌&&◌ (ap₂ ◌&&◌ (some-keys k ks h.short) e) n.0) (ap₂ ◌&&◌ (and_right (few (k ∷ ks)) (keys_fit (get_or ws 0 0) (k ∷ ks)) (keys_to h))
     n.1)
 
-pub merge_ok : (k : Key) (ks : List Key) (f : Fetch) (ws : List ℕ) → KeysFit (get_or ws 0 0) (k ∷ ks) → fetch_ok f ≡ true → Over ws
+pub merge_ok : (k : Key) (ks : List Key) (f : Option ℕ) (ws : List ℕ) → KeysFit (get_or ws 0 0) (k ∷ ks) → fetch_ok f ≡ true → Over ws
     → node_ok (merge_op (k ∷ ks) f) ws ≡ true
 merge_ok k ks f ws h e n = sort_ok true k ks f ws h e n
 
-pub coalesce_ok : (f : Fetch) (ws : List ℕ) → fetch_ok f ≡ true → Over ws → node_ok (coalesce f) ws ≡ true
+pub coalesce_ok : (f : Option ℕ) (ws : List ℕ) → fetch_ok f ≡ true → Over ws → node_ok (coalesce f) ws ≡ true
 coalesce_ok f ws e n = ap₂ ◌&&◌ (ap₂ ◌&&◌ e n.0) n.1
 
-pub local_ok : (m : ℕ) (note : List Key) (ws : List ℕ) → KeysFit (get_or ws 0 0) note → fetch_ok (AtMost m) ≡ true → Over ws
-    → node_ok (local_limit (AtMost m) note) ws ≡ true
+pub local_ok : (m : ℕ) (note : List Key) (ws : List ℕ) → KeysFit (get_or ws 0 0) note → fetch_ok (Some m) ≡ true → Over ws
+    → node_ok (local_limit (Some m) note) ws ≡ true
 local_ok m note ws h e n =
     let k : keys_ok (get_or ws 0 0) note ≡ true = keys_to h in
     ap₂ ◌&&◌ (ap₂ ◌&&◌ (ap₂ ◌&&◌ (and_left (few note) (keys_fit (get_or ws 0 0) note) k) e) n.0)
     (ap₂ ◌&&◌ (and_right (few note) (keys_fit (get_or ws 0 0) note) k) n.1)
 
-pub global_ok : (m : ℕ) (note : List Key) (ws : List ℕ) → KeysFit (get_or ws 0 0) note → fetch_ok (AtMost m) ≡ true → Over ws
-    → node_ok (global_limit 0 (AtMost m) note) ws ≡ true
+pub global_ok : (m : ℕ) (note : List Key) (ws : List ℕ) → KeysFit (get_or ws 0 0) note → fetch_ok (Some m) ≡ true → Over ws
+    → node_ok (global_limit 0 (Some m) note) ws ≡ true
 global_ok m note ws h e n = local_ok m note ws h e n
 
 -- A kind of one child has one of at most 32 columns

@@ -1,6 +1,6 @@
 -- Facts that know as much of the order or more, of as many streams or more; an order on a single stream stays on a single stream. What a
 -- node knows then is wider where what its children know is, and a wanted order that was met is met.
-use Rattle.std.specs.Prelude.{◌≡◌, refl, Bool, true, false, cond, not, ◌&&◌, ◌||◌, ◌⊎◌, List, [], ◌∷◌, map, ℕ, suc, ◌≤◌, ◌<◌, eqb, ltb, length, get_or}
+use Rattle.std.specs.Prelude.{◌≡◌, refl, Bool, true, false, cond, not, ◌&&◌, ◌||◌, ◌⊎◌, List, [], ◌∷◌, map, ℕ, suc, ◌≤◌, ◌<◌, eqb, ltb, length, get_or, Option}
 use Rattle.std.proofs.Common.{sym, ap, ap₂, ◌∙◌, subst, inl, inr, arith, eqb-true, eq-eqb, ltb-true, lt-ltb}
 use Rattle.std.proofs.lemmas.Bool.{not-true}
 use Rattle.row_order.specs.Iso.{Key}
@@ -10,7 +10,6 @@ use Rattle.plan.specs.Forest.{none}
 use Rattle.plan.specs.Op.{coalesce, filter, global_limit, hash_join, local_limit, merge_op, On, Op, output_requirement, partial_sort, aggregate, projection, repartition, sort_merge_join, sort_op, source, union}
 use Rattle.plan.specs.Numbers.{code}
 use Rattle.plan.specs.WellFormed.{member, columns_of}
-use Rattle.plan.specs.declared.Fetch.{Fetch}
 use Rattle.plan.specs.declared.JoinType.{JoinType}
 use Rattle.plan.specs.declared.JoinType.TheVariants.{Full, Inner, Left, LeftAnti, LeftSemi, Right, RightAnti, RightSemi}
 use Rattle.semantics.specs.Facts.{at0, at1, both, by_right, carried, cl, common, counts, eq_key, Facts, facts_op, hash_kept, is_c, is_nil, join_base, join_facts, join_order, keeps_order, Kept, k_left, k_none, k_right, left_order, met, moved, nf, nf_by, nothing, ordered, placed, prefixb, proj_facts, proj_order, right_order, smj_kept, sort_streams, union_facts, with_column, within}
@@ -306,7 +305,7 @@ module _ {fs gs : List Facts} (ws : Each Wider fs gs) (hs : All Some fs) (ks : A
           (no_right t (at0 fs) (at1 fs) (w1.alone e))
       alone k (inr q) e = inl (ap (λ (x : Kept). join_order t x (at0 fs) (at1 fs)) q)
 
-  sort_wider : (p : Bool) (l : List Key) (f : Fetch) → 1 < sort_streams p (at0 fs) → Wider (facts_op (sort_op p l f) fs) (facts_op (sort_op p l f) gs)
+  sort_wider : (p : Bool) (l : List Key) (f : Option ℕ) → 1 < sort_streams p (at0 fs) → Wider (facts_op (sort_op p l f) fs) (facts_op (sort_op p l f) gs)
   sort_wider true l f h = record { base = w0.base; order = same_nf (at0 fs) (at0 gs) w0 l; alone = λ e. absurd (omega arith); several = w0.several }
   sort_wider false l f h = absurd (omega arith)
 

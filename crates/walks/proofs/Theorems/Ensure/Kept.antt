@@ -1,5 +1,5 @@
 -- Ensuring keeps the skeleton with the old limits, the child counts, 01's rules, that nothing is cut off, and that no sort has all-constant keys.
-use Rattle.std.specs.Prelude.{◌≡◌, refl, Bool, true, false, cond, not, ◌&&◌, ◌||◌, List, [], ◌∷◌, map, ℕ, suc, eqb, ltb, leb}
+use Rattle.std.specs.Prelude.{◌≡◌, refl, Bool, true, false, cond, not, ◌&&◌, ◌||◌, List, [], ◌∷◌, map, ℕ, suc, eqb, ltb, leb, Option, Some, None}
 use Rattle.std.proofs.Common.{sym, ap, ap₂, subst, arith}
 use Rattle.row_order.specs.Iso.{Key}
 use Rattle.row_order.proofs.Order.{no_bool}
@@ -7,8 +7,6 @@ use Rattle.plan.specs.Forest.{Forest, none, roots, tree}
 use Rattle.plan.specs.Op.{coalesce, global_limit, local_limit, merge_op, Op, Plan, repartition, sort_op}
 use Rattle.plan.specs.Numbers.{code}
 use Rattle.plan.specs.WellFormed.{fetch_ok, node_ok}
-use Rattle.plan.specs.declared.Fetch.{Fetch}
-use Rattle.plan.specs.declared.Fetch.TheVariants.{AtMost, Unlimited}
 use Rattle.semantics.specs.Facts.{at0, Facts, is_nil, met}
 use Rattle.semantics.specs.Properties.{cuts, fresh_keys, maintains, rebuilt, singles, wanted, is_all}
 use Rattle.semantics.proofs.Theorems.Common.Bools.{and_left, and_right}
@@ -54,10 +52,10 @@ module _ {b h : Bool} where
   kept_connected {u = u} x k = kept_trans k (remarked u x (connected_each u.kids) (strip_connected u.kids) k.fit)
 
   -- ---- removing
-  single_stream_over : (ks : List Key) (f : Fetch) (t : Tree) → FitT t → (PureT t → is_all f ≡ true)
+  single_stream_over : (ks : List Key) (f : Option ℕ) (t : Tree) → FitT t → (PureT t → is_all f ≡ true)
       → (OkT t → KeysFit (fact t).width ks × (fetch_ok f ≡ true)) → Keeps true b h t (over (single_stream_op ks f) false t)
-  single_stream_over [] f t g q r = kept_over (coalesce Unlimited) false refl (λ i p. refl)
-      (λ i v w. coalesce_ok Unlimited ((fact t).width ∷ []) refl (refl, narrow_t t w)) refl (kept_refl t g)
+  single_stream_over [] f t g q r = kept_over (coalesce None) false refl (λ i p. refl)
+      (λ i v w. coalesce_ok None ((fact t).width ∷ []) refl (refl, narrow_t t w)) refl (kept_refl t g)
   single_stream_over (k ∷ ks) f t g q r =
       kept_over (merge_op (k ∷ ks) f) false refl (λ i p. uncut_fetch f (q p)) (λ i v w. let s = r w in
       merge_ok k ks f ((fact t).width ∷ []) s.0 s.1 (refl, narrow_t t w)) refl (kept_refl t g)
@@ -74,9 +72,9 @@ module _ {b h : Bool} where
       let r : Keeps true b h (at m c) (rebuild m.op m.mark d) = kept_rebuild m.op m.mark m.mark c d f k in
       kept_cond (any_mark c || is_nil (roots c)) (kept_connected false r) r
 
-  drop_sort_kept : (f : Fetch) (t : Tree) → passing (op_t t) ≡ true → FitT t → Keeps true b h t (drop_sort f t)
-  drop_sort_kept Unlimited t e g = kept_first t e g
-  drop_sort_kept (AtMost n) t e g = kept_refl t g
+  drop_sort_kept : (f : Option ℕ) (t : Tree) → passing (op_t t) ≡ true → FitT t → Keeps true b h t (drop_sort f t)
+  drop_sort_kept None t e g = kept_first t e g
+  drop_sort_kept (Some n) t e g = kept_refl t g
 
   remove_by_kept : (x : Bool) (c d : Forest Marked) (o : Op) → Removed b h x c d o
   remove_by_kept x c d =
@@ -111,17 +109,17 @@ module _ {b h : Bool} where
       (remove_kids_kept (singles (op_t t)) t.kids f.1)) (kept_refl t f))
 
   -- ---- a sort that is not needed
-  limited_kept : (p : Bool) (ks : List Key) (f : Fetch) (x : Bool) (c : Forest Marked) → FitT (node (sort_op p ks f) x c)
+  limited_kept : (p : Bool) (ks : List Key) (f : Option ℕ) (x : Bool) (c : Forest Marked) → FitT (node (sort_op p ks f) x c)
       → Keeps true b h (node (sort_op p ks f) x c) (limited f (node (sort_op p ks f) x c) (kid0 (node (sort_op p ks f) x c) c))
-  limited_kept p ks Unlimited x c f =
-      let t : Tree = node (sort_op p ks Unlimited) x c in
+  limited_kept p ks None x c f =
+      let t : Tree = node (sort_op p ks None) x c in
       let u : Tree = kid0 t c in
       let k : Keeps true b h t u = kept_first t refl f in
       kept_trans k (remarked u false (unmark u.kids) (strip-unmark u.kids) k.fit)
-  limited_kept p ks (AtMost n) x c f = go (eqb (fact t).streams 1)
+  limited_kept p ks (Some n) x c f = go (eqb (fact t).streams 1)
     where
       t : Tree
-      t = node (sort_op p ks (AtMost n)) x c
+      t = node (sort_op p ks (Some n)) x c
 
       u : Tree
       u = set_mark false (kid0 t c)
@@ -132,15 +130,15 @@ module _ {b h : Bool} where
       note : OkT t → KeysFit (fact u).width (fact t).order
       note v = subst (λ (F : Facts). KeysFit F.width (fact t).order) (sym k.base) (order_fits t v)
 
-      go : (y : Bool) → Keeps true b h t (over (cond y (global_limit 0 (AtMost n) (fact t).order) (local_limit (AtMost n) (fact t).order)) false u)
+      go : (y : Bool) → Keeps true b h t (over (cond y (global_limit 0 (Some n) (fact t).order) (local_limit (Some n) (fact t).order)) false u)
       go true = kept_limit _ false refl refl (λ i q. q.0)
-          (λ i v w. global_ok n (fact t).order ((fact u).width ∷ []) (note v) (node_fetch (sort_op p ks (AtMost n)) (map (λ F. F.width) (known c)) v.0)
+          (λ i v w. global_ok n (fact t).order ((fact u).width ∷ []) (note v) (node_fetch (sort_op p ks (Some n)) (map (λ F. F.width) (known c)) v.0)
           (refl, narrow_t u w)) refl k
       go false = kept_limit _ false refl refl (λ i q. q.0)
-          (λ i v w. local_ok n (fact t).order ((fact u).width ∷ []) (note v) (node_fetch (sort_op p ks (AtMost n)) (map (λ F. F.width) (known c)) v.0)
+          (λ i v w. local_ok n (fact t).order ((fact u).width ∷ []) (note v) (node_fetch (sort_op p ks (Some n)) (map (λ F. F.width) (known c)) v.0)
           (refl, narrow_t u w)) refl k
 
-  immediate_kept : (p : Bool) (ks : List Key) (f : Fetch) (x : Bool) (c : Forest Marked) → FitT (node (sort_op p ks f) x c)
+  immediate_kept : (p : Bool) (ks : List Key) (f : Option ℕ) (x : Bool) (c : Forest Marked) → FitT (node (sort_op p ks f) x c)
       → Keeps true b h (node (sort_op p ks f) x c) (analyze_immediate_sort_removal p ks f (node (sort_op p ks f) x c) (kid0 (node (sort_op p ks f) x c) c))
   immediate_kept p ks f x c g =
       let t : Tree = node (sort_op p ks f) x c in
@@ -150,14 +148,14 @@ module _ {b h : Bool} where
       (limited_kept p ks f x c g)
     where
       -- the sort's own keys, over its own child
-      merged_ok : (p : Bool) (ks : List Key) (f : Fetch) (x : Bool) (c : Forest Marked) → FitT (node (sort_op p ks f) x c) → OkT (node (sort_op p ks f) x c)
+      merged_ok : (p : Bool) (ks : List Key) (f : Option ℕ) (x : Bool) (c : Forest Marked) → FitT (node (sort_op p ks f) x c) → OkT (node (sort_op p ks f) x c)
           → node_ok (merge_op ks f) ((fact (kid0 (node (sort_op p ks f) x c) c)).width ∷ []) ≡ true
       merged_ok p ks f x none g v = absurd (omega (arith, g.0))
       merged_ok p ks f x (tree m d none) g v = v.0
       merged_ok p ks f x (tree m d (tree n e r)) g v = absurd (omega (arith, g.0))
 
 -- ---- the loop
-ensure_child_kept : (w : List Key) (b s : Bool) (f : Fetch) (t : Tree) → FitT t → Keeps true (is_all f) (keys_ok (fact t).width w && fetch_ok f) t
+ensure_child_kept : (w : List Key) (b s : Bool) (f : Option ℕ) (t : Tree) → FitT t → Keeps true (is_all f) (keys_ok (fact t).width w && fetch_ok f) t
     (ensure_child w b s f t)
 ensure_child_kept [] b s f t g = kept_cond (is_nil (fact t).order || not b) (update_child_kept s t g) (kept_refl t g)
 ensure_child_kept (k ∷ w) b s f t g =
@@ -179,7 +177,7 @@ ensure_child_kept (k ∷ w) b s f t g =
       and_right (keys_ok (fact t).width (k ∷ w)) (fetch_ok f) e,
     )
 
-pub ensure_each_kept : (w : ℕ → List Key) (b s : ℕ → Bool) (f : Fetch) (c : Forest Marked) → Fit (strip c)
+pub ensure_each_kept : (w : ℕ → List Key) (b s : ℕ → Bool) (f : Option ℕ) (c : Forest Marked) → Fit (strip c)
     → KeepsAll true (is_all f) (wants_fit w (known c) && fetch_ok f) c (ensure_each w b s f c)
 ensure_each_kept w b s f none g = all_kept_none
 ensure_each_kept w b s f (tree m c r) g =
@@ -200,14 +198,14 @@ ensure_each_kept w b s f (tree m c r) g =
 output_all : (o : Op) → clear_op o ≡ true → is_all (output_fetch o) ≡ true
 output_all o e = go (eqb (code o) 13)
   where
-    go : (x : Bool) → is_all (cond x (cuts o).fetch Unlimited) ≡ true
+    go : (x : Bool) → is_all (cond x (cuts o).fetch None) ≡ true
     go true = op_fetch o e
     go false = refl
 
 pub output_ok : (o : Op) (ws : List ℕ) → node_ok o ws ≡ true → fetch_ok (output_fetch o) ≡ true
 output_ok o ws e = go (eqb (code o) 13)
   where
-    go : (x : Bool) → fetch_ok (cond x (cuts o).fetch Unlimited) ≡ true
+    go : (x : Bool) → fetch_ok (cond x (cuts o).fetch None) ≡ true
     go true = node_fetch o ws e
     go false = refl
 
@@ -220,16 +218,16 @@ module _ {b h : Bool} where
       (λ v. ap₂ ◌&&◌ (wanted-fits o (known t.kids) v.0) (output_ok o (map (λ F. F.width) (known t.kids)) v.0)) g.0
       (ensure_each_kept (wanted o) (maintains o (known t.kids)) (singles o) (output_fetch o) t.kids g.1)
 
-  unmerged_kept : (ks : List Key) (f : Fetch) (x : Bool) (c : Forest Marked) → FitT (node (merge_op ks f) x c) → Keeps true b h (node (merge_op ks f) x c)
+  unmerged_kept : (ks : List Key) (f : Option ℕ) (x : Bool) (c : Forest Marked) → FitT (node (merge_op ks f) x c) → Keeps true b h (node (merge_op ks f) x c)
       (unmerged f (node (merge_op ks f) x c))
-  unmerged_kept ks Unlimited x c g = kept_first (node (merge_op ks Unlimited) x c) refl g
-  unmerged_kept ks (AtMost n) x c g =
+  unmerged_kept ks None x c g = kept_first (node (merge_op ks None) x c) refl g
+  unmerged_kept ks (Some n) x c g =
       record {
         fit = g;
         pure = λ e p. p;
         ok = λ e p. (
           local_ok n (fact t).order ws (subst (λ (w : ℕ). KeysFit w (fact t).order) (sym (nth_width (known c) 0)) (order_fits t p))
-              (node_fetch (merge_op ks (AtMost n)) ws p.0) (over_of (merge_op ks (AtMost n)) ws refl p.0),
+              (node_fetch (merge_op ks (Some n)) ws p.0) (over_of (merge_op ks (Some n)) ws refl p.0),
           p.1,
         );
         bones = added_over _ refl refl (added_refl (skel (strip c)));
@@ -238,7 +236,7 @@ module _ {b h : Bool} where
       }
     where
       t : Tree
-      t = node (merge_op ks (AtMost n)) x c
+      t = node (merge_op ks (Some n)) x c
 
       ws : List ℕ
       ws = map (λ F. F.width) (known c)

@@ -1,13 +1,11 @@
 -- After ensuring no sort has all-constant keys, whatever the tree before: where ensuring meets such a sort, its child meets it already, and
 -- the sort goes; it makes no other (the field `live` of Keeps).
-use Rattle.std.specs.Prelude.{◌≡◌, refl, Bool, true, false, cond, not, ◌&&◌, List, [], ◌∷◌, eqb, ltb}
+use Rattle.std.specs.Prelude.{◌≡◌, refl, Bool, true, false, cond, not, ◌&&◌, List, [], ◌∷◌, eqb, ltb, Option, ℕ, Some, None}
 use Rattle.std.proofs.Common.{sym, ap, ◌∙◌, subst, arith}
 use Rattle.row_order.specs.Iso.{Key}
 use Rattle.row_order.proofs.Order.{no_bool}
 use Rattle.plan.specs.Forest.{Forest, none, tree}
 use Rattle.plan.specs.Op.{global_limit, local_limit, merge_op, Op, Plan, sort_op}
-use Rattle.plan.specs.declared.Fetch.{Fetch}
-use Rattle.plan.specs.declared.Fetch.TheVariants.{AtMost, Unlimited}
 use Rattle.semantics.specs.Facts.{Facts, is_nil, met, nf}
 use Rattle.walks.specs.Marks.{at, bare, fact, known, Marked, node, op_t, over, rebuild, set_mark, strip, transform_up, Tree}
 use Rattle.walks.specs.EnsureSorting.{after_loop, connected_each, ensure, ensure_marked, ensure_sorting, analyze_immediate_sort_removal, limited, update_sort_ctx_children_data}
@@ -20,15 +18,15 @@ use Rattle.walks.proofs.Theorems.Ensure.Kept.{ensure_kept, ensure_sorting_kept, 
 use Rattle.walks.proofs.Theorems.Ensure.Removal.{is_other, other_code}
 
 -- ---- a sort of all-constant keys goes
-limited_live : (f : Fetch) (t c : Tree) → LiveT c → LiveT (limited f t c)
-limited_live Unlimited t c h = subst (λ (g : Plan). (constant_sort (op_t c) g ≡ false) × Live g) (sym (strip-unmark c.kids)) h
-limited_live (AtMost n) t c h = go (eqb (fact t).streams 1)
+limited_live : (f : Option ℕ) (t c : Tree) → LiveT c → LiveT (limited f t c)
+limited_live None t c h = subst (λ (g : Plan). (constant_sort (op_t c) g ≡ false) × Live g) (sym (strip-unmark c.kids)) h
+limited_live (Some n) t c h = go (eqb (fact t).streams 1)
   where
-    go : (b : Bool) → LiveT (over (cond b (global_limit 0 (AtMost n) (fact t).order) (local_limit (AtMost n) (fact t).order)) false (set_mark false c))
+    go : (b : Bool) → LiveT (over (cond b (global_limit 0 (Some n) (fact t).order) (local_limit (Some n) (fact t).order)) false (set_mark false c))
     go true = (refl, (h.0, h.1, tt))
     go false = (refl, (h.0, h.1, tt))
 
-immediate_live : (p : Bool) (ks : List Key) (f : Fetch) (t c : Tree) → LiveT c → LiveT (analyze_immediate_sort_removal p ks f t c)
+immediate_live : (p : Bool) (ks : List Key) (f : Option ℕ) (t c : Tree) → LiveT c → LiveT (analyze_immediate_sort_removal p ks f t c)
 immediate_live p ks f t c h = go (not p && ltb 1 (fact c).streams)
   where
     go : (b : Bool) → LiveT (cond b (over (merge_op ks f) false (set_mark false c)) (limited f t c))
@@ -51,7 +49,7 @@ constant_goes x c =
     nil_met F [] q = refl
     nil_met F (k ∷ l) q = no_bool q
 
-    sort_goes : (c : Forest Marked) (p : Bool) (ks : List Key) (f : Fetch) → Goes x c (sort_op p ks f)
+    sort_goes : (c : Forest Marked) (p : Bool) (ks : List Key) (f : Option ℕ) → Goes x c (sort_op p ks f)
     sort_goes none p ks f n e h = absurd (omega arith)
     sort_goes (tree m d r) p ks f n e h =
         let t : Tree = node (sort_op p ks f) x (tree m d r) in

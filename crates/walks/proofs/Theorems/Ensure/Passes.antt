@@ -1,12 +1,10 @@
 -- The order check passes after ensuring: `ensure_passes`.
-use Rattle.std.specs.Prelude.{◌≡◌, refl, Bool, true, false, cond, not, ◌&&◌, ◌||◌, List, [], ◌∷◌, ℕ, zero, suc, ◌<◌, eqb, ltb, leb, length, get_or}
+use Rattle.std.specs.Prelude.{◌≡◌, refl, Bool, true, false, cond, not, ◌&&◌, ◌||◌, List, [], ◌∷◌, ℕ, zero, suc, ◌<◌, eqb, ltb, leb, length, get_or, Option, Some, None}
 use Rattle.std.proofs.Common.{sym, ap, ap₂, ◌∙◌, subst, arith}
 use Rattle.row_order.specs.Iso.{Key}
 use Rattle.row_order.proofs.Order.{no_bool}
 use Rattle.plan.specs.Forest.{Forest, none, roots, tree}
 use Rattle.plan.specs.Op.{coalesce, global_limit, local_limit, merge_op, Op, Plan, repartition, sort_op}
-use Rattle.plan.specs.declared.Fetch.{Fetch}
-use Rattle.plan.specs.declared.Fetch.TheVariants.{AtMost, Unlimited}
 use Rattle.semantics.specs.Facts.{at0, Facts, facts, facts_op, is_nil, met, nf, nothing, prefixb}
 use Rattle.semantics.specs.Properties.{fresh_keys, maintains, rebuilt, singles, wanted}
 use Rattle.semantics.specs.Check.{check, wants_met}
@@ -22,11 +20,11 @@ use Rattle.walks.proofs.Theorems.Common.ConstantSorts.{fact-canon}
 use Rattle.walks.proofs.Theorems.Ensure.Removal.{BareT, Checked, CheckedT, connected_good, connected_kids, connected_marks, good_plant, kid_good, known-connected, known-count, MarkOK, MarksOK, unmark_kids, unmark_marks, update_child_good}
 
 -- ---- a sort on top meets the wanted order
-new_sort_bare : (p : Bool) (ks : List Key) (f : Fetch) (t : Tree) → CheckedT t → BareT (cover (new_sort p ks f) t)
+new_sort_bare : (p : Bool) (ks : List Key) (f : Option ℕ) (t : Tree) → CheckedT t → BareT (cover (new_sort p ks f) t)
 new_sort_bare p [] f t h = (h.0, h.2)
 new_sort_bare p (k ∷ ks) f t h = (refl, (h.0, h.1, h.2, tt))
 
-pub add_sort_met : (w : List Key) (f : Fetch) (t : Tree) → met (fact (add_sort_above w f t)) w ≡ true
+pub add_sort_met : (w : List Key) (f : Option ℕ) (t : Tree) → met (fact (add_sort_above w f t)) w ≡ true
 add_sort_met w f t = go (fresh_keys (fact t) [] w) refl
   where
     F : Facts
@@ -46,7 +44,7 @@ record EnsuredChild (w : List Key) (t : Tree) : Type 0 where
   good : CheckedT t
   grants : met (fact t) w ≡ true
 
-ensure_child-good : (w : List Key) (b s : Bool) (f : Fetch) (t : Tree) → FitT t → CheckedT t → (t.top.mark ≡ true → MarkOK (op_t t) t.kids)
+ensure_child-good : (w : List Key) (b s : Bool) (f : Option ℕ) (t : Tree) → FitT t → CheckedT t → (t.top.mark ≡ true → MarkOK (op_t t) t.kids)
     → EnsuredChild w (ensure_child w b s f t)
 ensure_child-good [] b s f t a h k = record { good = go (is_nil (fact t).order || not b); grants = refl }
   where
@@ -76,7 +74,7 @@ record EnsuredEach (w : ℕ → List Key) (n : ℕ) (d : Forest Marked) : Type 0
   grants : (i : ℕ) → i < n → met (get_or (known d) i nothing) (w i) ≡ true
   size : count d ≡ n
 
-ensure_each-good : (w : ℕ → List Key) (b s : ℕ → Bool) (f : Fetch) (c : Forest Marked) → Fit (strip c) → Checked c → MarksOK c
+ensure_each-good : (w : ℕ → List Key) (b s : ℕ → Bool) (f : Option ℕ) (c : Forest Marked) → Fit (strip c) → Checked c → MarksOK c
     → EnsuredEach w (count c) (ensure_each w b s f c)
 ensure_each-good w b s f none a h k = record { good = tt; grants = λ i l. absurd (omega arith); size = refl }
 ensure_each-good w b s f (tree m c r) a h k =
@@ -103,19 +101,19 @@ after_loop_bare x o c f a h k =
     let n : length (known d) ≡ count c = known-count d ∙ r.size in
     (wants_remark _ o (known d) ∙ wants_in o (known d) (subst (FitsA (arity o)) (sym n) f) (λ i l. r.grants i (omega arith)), r.good)
 
-unmerged-good : (f : Fetch) (t : Tree) → count t.kids ≡ 1 → Checked t.kids → CheckedT (unmerged f t)
-unmerged-good Unlimited t n h = kid_good t t.kids n h
-unmerged-good (AtMost m) t n h = (refl, λ e. no_bool (sym e), h)
+unmerged-good : (f : Option ℕ) (t : Tree) → count t.kids ≡ 1 → Checked t.kids → CheckedT (unmerged f t)
+unmerged-good None t n h = kid_good t t.kids n h
+unmerged-good (Some m) t n h = (refl, λ e. no_bool (sym e), h)
 
-limited-good : (f : Fetch) (t c : Tree) → CheckedT c → CheckedT (limited f t c)
-limited-good Unlimited t c h = (ap (wants_met (op_t c)) (ap facts (strip-unmark c.kids)) ∙ h.0, λ e. unmark_marks c.kids, unmark_kids c.kids h.2)
-limited-good (AtMost n) t c h = go (eqb (fact t).streams 1)
+limited-good : (f : Option ℕ) (t c : Tree) → CheckedT c → CheckedT (limited f t c)
+limited-good None t c h = (ap (wants_met (op_t c)) (ap facts (strip-unmark c.kids)) ∙ h.0, λ e. unmark_marks c.kids, unmark_kids c.kids h.2)
+limited-good (Some n) t c h = go (eqb (fact t).streams 1)
   where
-    go : (b : Bool) → CheckedT (over (cond b (global_limit 0 (AtMost n) (fact t).order) (local_limit (AtMost n) (fact t).order)) false (set_mark false c))
+    go : (b : Bool) → CheckedT (over (cond b (global_limit 0 (Some n) (fact t).order) (local_limit (Some n) (fact t).order)) false (set_mark false c))
     go true = (refl, λ e. (λ i. no_bool i, tt), (h.0, h.1, h.2, tt))
     go false = (refl, λ e. (λ i. no_bool i, tt), (h.0, h.1, h.2, tt))
 
-immediate_good : (p : Bool) (ks : List Key) (f : Fetch) (x : Bool) (c : Forest Marked) → count c ≡ 1 → Checked c
+immediate_good : (p : Bool) (ks : List Key) (f : Option ℕ) (x : Bool) (c : Forest Marked) → count c ≡ 1 → Checked c
     → met (at0 (known c)) (nf (at0 (known c)) [] ks) ≡ true
     → CheckedT (analyze_immediate_sort_removal p ks f (node (sort_op p ks f) x c) (kid0 (node (sort_op p ks f) x c) c))
 immediate_good p ks f x none n h e = absurd (omega arith)
@@ -138,14 +136,14 @@ ensure_by-good x c =
     (λ o e n a h k. subst (λ (s : Shape). CheckedT (ensure_by s (node o x c))) (sym e)
     (connected_good false (after_loop (node o x c)) (after_loop_bare x o c n a h k)))
   where
-    sorted : (p : Bool) (ks : List Key) (f : Fetch) → count c ≡ 1 → Fit (strip c) → Checked c → MarksOK c → (b : Bool)
+    sorted : (p : Bool) (ks : List Key) (f : Option ℕ) → count c ≡ 1 → Fit (strip c) → Checked c → MarksOK c → (b : Bool)
         → met (at0 (known c)) (nf (at0 (known c)) [] ks) ≡ b
         → CheckedT (cond b (analyze_immediate_sort_removal p ks f (node (sort_op p ks f) x c) (kid0 (node (sort_op p ks f) x c) c))
         (update_sort_ctx_children_data false (after_loop (node (sort_op p ks f) x c))))
     sorted p ks f n a h k true e = immediate_good p ks f x c n h e
     sorted p ks f n a h k false e = connected_good false (after_loop (node (sort_op p ks f) x c)) (after_loop_bare x (sort_op p ks f) c n a h k)
 
-    merged : (ks : List Key) (f : Fetch) → count c ≡ 1 → Fit (strip c) → Checked c → MarksOK c → (b : Bool)
+    merged : (ks : List Key) (f : Option ℕ) → count c ≡ 1 → Fit (strip c) → Checked c → MarksOK c → (b : Bool)
         → CheckedT (cond b (unmerged f (after_loop (node (merge_op ks f) x c))) (update_sort_ctx_children_data false (after_loop (node (merge_op ks f) x c))))
     merged ks f n a h k true = unmerged-good f (after_loop (node (merge_op ks f) x c)) (after_loop-size (merge_op ks f) c a h k ∙ n)
         (after_loop_bare x (merge_op ks f) c n a h k).1

@@ -1,14 +1,12 @@
 -- Removing sorts keeps the order check, for any marks of which each is right: a marked node is a sort; or it is no limit, has a marked
 -- child, and is a merge or wants no order.
-use Rattle.std.specs.Prelude.{◌≡◌, refl, Bool, true, false, cond, ◌&&◌, ◌||◌, ◌⊎◌, List, [], ◌∷◌, ℕ, zero, suc, ◌≤◌, ◌<◌, eqb, ltb, length}
+use Rattle.std.specs.Prelude.{◌≡◌, refl, Bool, true, false, cond, ◌&&◌, ◌||◌, ◌⊎◌, List, [], ◌∷◌, ℕ, zero, suc, ◌≤◌, ◌<◌, eqb, ltb, length, Option, Some, None}
 use Rattle.std.proofs.Common.{sym, ap, ap₂, ◌∙◌, subst, inl, inr, arith, eqb-true}
 use Rattle.row_order.specs.Iso.{Key}
 use Rattle.row_order.proofs.Order.{no_bool}
 use Rattle.plan.specs.Forest.{Forest, none, roots, tree}
 use Rattle.plan.specs.Op.{coalesce, filter, global_limit, hash_join, local_limit, merge_op, Op, output_requirement, partial_sort, aggregate, projection, repartition, sort_merge_join, sort_op, source, union}
 use Rattle.plan.specs.Numbers.{code}
-use Rattle.plan.specs.declared.Fetch.{Fetch}
-use Rattle.plan.specs.declared.Fetch.TheVariants.{AtMost, Unlimited}
 use Rattle.semantics.specs.Facts.{Facts, facts, is_nil, met}
 use Rattle.semantics.specs.Properties.{is_limit, maintains, singles, wanted}
 use Rattle.semantics.specs.Check.{wants_met}
@@ -126,7 +124,7 @@ remove_count q none = refl
 remove_count q (tree m c r) = ap suc (remove_count (λ i. q (suc i)) r)
 
 -- ---- removing
-single_stream_wants : (F : Facts) (f : Fetch) → Canon F → wants_met (single_stream_op F.order f) (F ∷ []) ≡ true
+single_stream_wants : (F : Facts) (f : Option ℕ) → Canon F → wants_met (single_stream_op F.order f) (F ∷ []) ≡ true
 single_stream_wants F f h = go F.order refl
   where
     go : (ks : List Key) → F.order ≡ ks → wants_met (single_stream_op ks f) (F ∷ []) ≡ true
@@ -200,9 +198,9 @@ link_of : (o : Op) (c : Forest Marked) → eqb (code o) 7 ≡ false → MarkOK o
 link_of o c e (inl h) = no_bool (sym e ∙ h)
 link_of o c e (inr l) = l
 
-drop_good : (f : Fetch) (t : Tree) → CheckedT t → CheckedT (drop_sort f t)
-drop_good Unlimited t h = kid_or t t.kids h h.2
-drop_good (AtMost n) t h = h
+drop_good : (f : Option ℕ) (t : Tree) → CheckedT t → CheckedT (drop_sort f t)
+drop_good None t h = kid_or t t.kids h h.2
+drop_good (Some n) t h = h
 
 remove_by_good : (x : Bool) (c d : Forest Marked) (o : Op) → Removal x c d o
 remove_by_good x c d =

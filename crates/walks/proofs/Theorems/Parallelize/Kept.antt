@@ -1,5 +1,5 @@
 -- Parallelizing keeps the skeleton with its limits, the child counts, 01's rules, that nothing is cut off, and that no sort has all-constant keys.
-use Rattle.std.specs.Prelude.{◌≡◌, refl, Bool, true, false, cond, not, ◌&&◌, List, [], ◌∷◌, map, ℕ, suc, leb, length}
+use Rattle.std.specs.Prelude.{◌≡◌, refl, Bool, true, false, cond, not, ◌&&◌, List, [], ◌∷◌, map, ℕ, suc, leb, length, Option}
 use Rattle.std.proofs.Common.{sym, ap, ap₂, ◌∙◌, subst, arith, eqb-true, le-leb}
 use Rattle.row_order.specs.Iso.{Key}
 use Rattle.row_order.proofs.Order.{no_bool}
@@ -7,7 +7,6 @@ use Rattle.plan.specs.Forest.{Forest, none, roots, tree}
 use Rattle.plan.specs.Op.{coalesce, filter, global_limit, hash_join, local_limit, merge_op, Op, output_requirement, partial_sort, aggregate, Plan, projection, repartition, sort_merge_join, sort_op, source, union}
 use Rattle.plan.specs.Numbers.{code}
 use Rattle.plan.specs.WellFormed.{fetch_ok, keys_fit, node_ok}
-use Rattle.plan.specs.declared.Fetch.{Fetch}
 use Rattle.semantics.specs.Facts.{Facts, facts_op, met}
 use Rattle.semantics.specs.Properties.{fresh_keys, remark, singles, is_all}
 use Rattle.semantics.specs.Runs.{Each, Env, Run, SameInputs, Streams}
@@ -120,7 +119,7 @@ without_self_kept {b} {h} t e g =
 
 -- ---- the step
 -- the keys of a sort or a merge t, over its child's place
-record Sorts (ks : List Key) (f : Fetch) (t : Tree) : Type 0 where
+record Sorts (ks : List Key) (f : Option ℕ) (t : Tree) : Type 0 where
   pass : passing (op_t t) ≡ true
   uncut : PureT t → is_all f ≡ true
   fits : OkT t → node_ok (merge_op ks f) (map (λ F. F.width) (known t.kids)) ≡ true
@@ -134,7 +133,7 @@ own_width t e g = go t.kids (subst (λ (z : Arity). FitsA z (count (strip t.kids
     go (tree m c none) n = ap (λ (F : Facts). F.width ∷ []) (sym (ease_blank (op_t t) (fact (at m c) ∷ []) (pass_ease (op_t t) e)))
     go (tree m c (tree j d r)) n = absurd (omega arith)
 
-cascade_kept : {b h : Bool} (ks : List Key) (f : Fetch) (t : Tree) → Sorts ks f t → FitT t → Keeps false b h t (cascade ks f t)
+cascade_kept : {b h : Bool} (ks : List Key) (f : Option ℕ) (t : Tree) → Sorts ks f t → FitT t → Keeps false b h t (cascade ks f t)
 cascade_kept {b} {h} ks f t s g =
     kept_cond (leb (fact t).streams 1) (kept_over (merge_op ks f) false refl (λ i q. uncut_fetch f (s.uncut q))
     (λ i v w. subst (λ (x : ℕ). node_ok (merge_op ks f) (x ∷ []) ≡ true) (sym (ap (λ (F : Facts). F.width) sorted.base)) (own v)) refl sorted)

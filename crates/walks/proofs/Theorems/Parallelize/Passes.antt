@@ -1,5 +1,5 @@
 -- Parallelizing keeps the order check, and each node's facts at its own step: `parallelize-passes`.
-use Rattle.std.specs.Prelude.{◌≡◌, refl, Bool, true, false, cond, not, ◌&&◌, ◌||◌, List, [], ◌∷◌, map, ℕ, ◌<◌, eqb, ltb, leb}
+use Rattle.std.specs.Prelude.{◌≡◌, refl, Bool, true, false, cond, not, ◌&&◌, ◌||◌, List, [], ◌∷◌, map, ℕ, ◌<◌, eqb, ltb, leb, Option}
 use Rattle.std.proofs.Common.{sym, ap, ap₂, ◌∙◌, subst, arith, leb-true, leb-false}
 use Rattle.row_order.specs.Iso.{Key}
 use Rattle.row_order.proofs.Order.{no_bool}
@@ -8,7 +8,6 @@ use Rattle.plan.specs.Forest.{Forest, none, tree}
 use Rattle.plan.specs.Op.{coalesce, merge_op, Op, Plan, repartition, sort_op}
 use Rattle.plan.specs.Numbers.{code}
 use Rattle.plan.specs.WellFormed.{node_ok}
-use Rattle.plan.specs.declared.Fetch.{Fetch}
 use Rattle.semantics.specs.Facts.{Facts, facts, facts_op, met, nf, ordered}
 use Rattle.semantics.specs.Properties.{fresh_keys, singles}
 use Rattle.semantics.specs.Check.{check, wants_met}
@@ -63,7 +62,7 @@ module _ (t : Tree) (h : Ready t) where
   unchanged : (t.top.mark ≡ true → is_sort (op_t t) ≡ true → 1 < (fact t).streams) → Stepped t t
   unchanged g = record { same = refl; passes = h.passes; fine = λ e. ((g e, h.whole), h.kids) }
 
-checked_base : (ks : List Key) (f : Fetch) (u : Tree) → blank (fact (add_sort_above_with_check ks f u)) ≡ blank (fact u)
+checked_base : (ks : List Key) (f : Option ℕ) (u : Tree) → blank (fact (add_sort_above_with_check ks f u)) ≡ blank (fact u)
 checked_base ks f u = go (met (fact u) ks) (fresh_keys (fact u) [] ks)
   where
     go : (b : Bool) (l : List Key) → blank (fact (cond b u (cover (new_sort (ltb 1 (fact u).streams) l f) u))) ≡ blank (fact u)
@@ -71,7 +70,7 @@ checked_base ks f u = go (met (fact u) ks) (fresh_keys (fact u) [] ks)
     go false [] = refl
     go false (k ∷ l) = refl
 
-checked_pass : (ks : List Key) (f : Fetch) (u : Tree) → PassT u → PassT (add_sort_above_with_check ks f u)
+checked_pass : (ks : List Key) (f : Option ℕ) (u : Tree) → PassT u → PassT (add_sort_above_with_check ks f u)
 checked_pass ks f u h = go (met (fact u) ks) (fresh_keys (fact u) [] ks)
   where
     go : (b : Bool) (l : List Key) → PassT (cond b u (cover (new_sort (ltb 1 (fact u).streams) l f) u))
@@ -79,7 +78,7 @@ checked_pass ks f u h = go (met (fact u) ks) (fresh_keys (fact u) [] ks)
     go false [] = h
     go false (k ∷ l) = (refl, pass_plant u none h refl)
 
-checked_met : (ks : List Key) (f : Fetch) (u : Tree) → met (fact (add_sort_above_with_check ks f u)) ks ≡ true
+checked_met : (ks : List Key) (f : Option ℕ) (u : Tree) → met (fact (add_sort_above_with_check ks f u)) ks ≡ true
 checked_met ks f u = go (met (fact u) ks) refl
   where
     go : (b : Bool) → met (fact u) ks ≡ b → met (fact (cond b u (add_sort_above ks f u))) ks ≡ true
@@ -87,7 +86,7 @@ checked_met ks f u = go (met (fact u) ks) refl
     go false e = add_sort_met ks f u
 
 -- a sort or a merge of keys ks with one stream becomes a merge of them
-cascade_steps : (ks : List Key) (f : Fetch) (t : Tree) → Ready t → passing (op_t t) ≡ true → (fact t).order ≡ nf (fact t) [] ks → Stepped t (cascade ks f t)
+cascade_steps : (ks : List Key) (f : Option ℕ) (t : Tree) → Ready t → passing (op_t t) ≡ true → (fact t).order ≡ nf (fact t) [] ks → Stepped t (cascade ks f t)
 cascade_steps ks f t h e o = go (leb (fact t).streams 1) refl
   where
     u : Tree
@@ -140,7 +139,7 @@ marked_steps x c =
         go true e = s
         go false e = unchanged (node o x c) h (λ y z. no_bool (sym e ∙ g y z))
 
-    coalesce_steps : (f : Fetch) → Ready (node (coalesce f) x c) → Stepped (node (coalesce f) x c)
+    coalesce_steps : (f : Option ℕ) → Ready (node (coalesce f) x c) → Stepped (node (coalesce f) x c)
         (over (coalesce f) false (without_self (node (coalesce f) x c)))
     coalesce_steps f h =
         let t : Tree = node (coalesce f) x c in
@@ -168,7 +167,7 @@ step_steps t h =
         (λ p ks f i y z. by_child p ks f c i y) (λ ks f i y z. no_bool z) (λ p m q ks i y z. no_bool z) (λ f i y z. no_bool z)
         (λ p s i y z. no_bool (sym (other_code p (ap is_other s)).0 ∙ z)) o
       where
-        by_child : (p : Bool) (ks : List Key) (f : Fetch) (c : Forest Marked) → count (strip c) ≡ 1 → update_coalesce_ctx_children (sort_op p ks f) c ≡ true
+        by_child : (p : Bool) (ks : List Key) (f : Option ℕ) (c : Forest Marked) → count (strip c) ≡ 1 → update_coalesce_ctx_children (sort_op p ks f) c ≡ true
             → head_mark c ≡ true
         by_child p ks f none i y = absurd (omega arith)
         by_child p ks f (tree m d r) i y = go m.mark refl

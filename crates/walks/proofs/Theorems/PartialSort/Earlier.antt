@@ -1,12 +1,11 @@
 -- All earlier answers of partial sorting remain (02, P2): where 01 did not refuse with 22 the call answers what it answered before, and where it did,
 -- exactly at a sort over an unbounded child that already meets all its keys, the plan itself. The earlier clause stands in this file alone.
-use Rattle.std.specs.Prelude.{◌≡◌, refl, Bool, true, false, cond, ◌||◌, List, [], ◌↔◌, ℕ, zero, suc, ◌-◌, eqb, ltb, length}
+use Rattle.std.specs.Prelude.{◌≡◌, refl, Bool, true, false, cond, ◌||◌, List, [], ◌↔◌, ℕ, zero, suc, ◌-◌, eqb, ltb, length, Option}
 use Rattle.std.proofs.Common.{sym, ap, ap₂, ◌∙◌, arith, eqb-true, eq-eqb, ne_eqb}
 use Rattle.row_order.specs.Iso.{Key}
 use Rattle.row_order.proofs.Order.{no_bool}
 use Rattle.plan.specs.Forest.{none, size, tree}
 use Rattle.plan.specs.Op.{Op, partial_sort, Plan, sort_op}
-use Rattle.plan.specs.declared.Fetch.{Fetch}
 use Rattle.semantics.specs.Facts.{at0, facts, met}
 use Rattle.semantics.specs.Properties.{any_of, endless}
 use Rattle.walks.specs.Marks.{Shape, shape}
@@ -21,7 +20,7 @@ use Rattle.walks.specs.Earlier.{EarlierNode, earlier_prefix, earlier_of, earlier
 
 -- ---- the node alone
 
-now_met : (p : Bool) (ks : List Key) (f : Fetch) (n : ℕ) → partial_of p ks f n ≡ now_of (sort_op p ks f) (earlier_of p ks f n)
+now_met : (p : Bool) (ks : List Key) (f : Option ℕ) (n : ℕ) → partial_of p ks f n ≡ now_of (sort_op p ks f) (earlier_of p ks f n)
 now_met p ks f zero = go (eqb 0 (length ks))
   where
     go : (b : Bool) → sort_op p ks f ≡ now_of (sort_op p ks f) (cond b past_the_end (became (sort_op p ks f)))
@@ -34,7 +33,7 @@ now_met p ks f (suc n) = ap (λ (a : Bool). cond (a || eqb (suc n) (length ks)) 
     go true = refl
     go false = refl
 
-now_sort : (c : Plan) (p : Bool) (ks : List Key) (f : Fetch) (a : Bool) → let n = common_prefix_length (at0 (facts c)) [] ks in
+now_sort : (c : Plan) (p : Bool) (ks : List Key) (f : Option ℕ) (a : Bool) → let n = common_prefix_length (at0 (facts c)) [] ks in
     cond a (partial_of p ks f n) (sort_op p ks f) ≡ now_of (sort_op p ks f) (cond a (earlier_of p ks f n) (became (sort_op p ks f)))
 now_sort c p ks f true = now_met p ks f (common_prefix_length (at0 (facts c)) [] ks)
 now_sort c p ks f false = refl
@@ -80,7 +79,7 @@ module _ (n : ℕ) (f : Plan) where
   abbrev Past : Plan → Plan → Op → Type 0
   Past c r o = from_node n f ≡ tree o c r → earlier_by (shape o) o c ≡ past_the_end → SortedAlready n f
 
-  sort_past : (c r : Plan) (p : Bool) (ks : List Key) (l : Fetch) → Past c r (sort_op p ks l)
+  sort_past : (c r : Plan) (p : Bool) (ks : List Key) (l : Option ℕ) → Past c r (sort_op p ks l)
   sort_past c r p ks l i = go (any_of (endless c)) refl (eqb m (length ks)) refl
     where
       m : ℕ

@@ -1,12 +1,11 @@
 -- Partial sorting changes one record: every node's facts and all sources stay, the order check still passes, and the answer is well formed again.
-use Rattle.std.specs.Prelude.{◌≡◌, refl, Bool, true, false, cond, ◌&&◌, ◌||◌, List, [], ◌∷◌, ◌++◌, map, ℕ, zero, suc, ◌+◌, ◌-◌, ◌≤◌, ◌<◌, eqb, ltb, leb, length, get_or, take}
+use Rattle.std.specs.Prelude.{◌≡◌, refl, Bool, true, false, cond, ◌&&◌, ◌||◌, List, [], ◌∷◌, ◌++◌, map, ℕ, zero, suc, ◌+◌, ◌-◌, ◌≤◌, ◌<◌, eqb, ltb, leb, length, get_or, take, Option}
 use Rattle.std.proofs.Common.{sym, ap, ap₂, ◌∙◌, subst, append_assoc, arith, eq-eqb, ltb-true, le-leb, lt-ltb, ltb-false}
 use Rattle.row_order.specs.Iso.{Key}
 use Rattle.row_order.proofs.Order.{no_bool}
 use Rattle.plan.specs.Forest.{none, size, tree}
 use Rattle.plan.specs.Op.{coalesce, merge_op, Op, partial_sort, Plan, repartition, sort_op}
 use Rattle.plan.specs.WellFormed.{fetch_ok, keys_fit, node_ok, some, well_formed}
-use Rattle.plan.specs.declared.Fetch.{Fetch}
 use Rattle.semantics.specs.Facts.{at0, Facts, facts, facts_op, met}
 use Rattle.semantics.specs.Properties.{any_of, endless}
 use Rattle.semantics.specs.Check.{check, wants_met}
@@ -122,7 +121,7 @@ less m n l e = go (ltb m n) refl
     go true q = ltb-true m n q
     go false q = no_bool (sym e ∙ eq-eqb m n (omega (arith, ltb-false m n q)))
 
-module _ (c : Plan) (p : Bool) (ks : List Key) (f : Fetch) where
+module _ (c : Plan) (p : Bool) (ks : List Key) (f : Option ℕ) where
   -- a partial sort with its prefix short of all keys
   partial_in_place : (r : Plan) (m : ℕ) → suc m < length ks → met (at0 (facts c)) (take (suc m) ks) ≡ true → InPlace (tree (sort_op p ks f) c r)
       (partial_sort p ks (suc m) f)

@@ -1,13 +1,11 @@
 -- The order-preserving walk keeps the skeleton with its limits, the child counts, 01's rules, that nothing is cut off, and that no sort has
 -- all-constant keys.
-use Rattle.std.specs.Prelude.{◌≡◌, refl, Bool, true, false, cond, not, ◌&&◌, ◌||◌, List, [], ◌∷◌, map, ℕ, suc, get_or}
+use Rattle.std.specs.Prelude.{◌≡◌, refl, Bool, true, false, cond, not, ◌&&◌, ◌||◌, List, [], ◌∷◌, map, ℕ, suc, get_or, Option, Some, None}
 use Rattle.std.proofs.Common.{sym, ap, ap₂, ◌∙◌, subst}
 use Rattle.row_order.specs.Iso.{Key}
 use Rattle.plan.specs.Forest.{Forest, none, roots, tree}
 use Rattle.plan.specs.Op.{coalesce, merge_op, Op, Plan, repartition, sort_op}
 use Rattle.plan.specs.WellFormed.{fetch_ok, node_ok}
-use Rattle.plan.specs.declared.Fetch.{Fetch}
-use Rattle.plan.specs.declared.Fetch.TheVariants.{AtMost, Unlimited}
 use Rattle.semantics.specs.Facts.{at0, facts, is_nil, keeps_order, met, nothing}
 use Rattle.semantics.specs.Properties.{rebuilt, is_all}
 use Rattle.semantics.specs.Runs.{Each, Env, Run, SameInputs, Streams}
@@ -41,12 +39,12 @@ pub first_kept : {a b h : Bool} {c d : Forest Marked} (x : Bool) → KeepsAll a 
 first_kept {d = d} x k = all_kept_trans k (all_kept_strip d (mark_first x d) (strip_first x d) k.fit)
 
 -- ---- the alternative; f is the sort's fetch
-abbrev Preserved : Bool → Bool → Fetch → Bool → Forest Marked → Forest Marked → Op → Type 0
+abbrev Preserved : Bool → Bool → Option ℕ → Bool → Forest Marked → Forest Marked → Op → Type 0
 Preserved spr spm f x c d o = FitsA (arity o) (count (strip c)) → Fit (strip c) → KeepsAll false (is_all f) (fetch_ok f) c d
     → Keeps false (is_all f) (fetch_ok f) (node o x c) (preserve_by (shape o) spr spm f (record { op = o; mark = x }) c d)
 
 -- a merge of its child's known order, in a coalesce's place
-merge_for : (g f : Fetch) (k : Key) (ks : List Key) (c : Forest Marked) → (at0 (known c)).order ≡ k ∷ ks → fetch_ok f ≡ true
+merge_for : (g f : Option ℕ) (k : Key) (ks : List Key) (c : Forest Marked) → (at0 (known c)).order ≡ k ∷ ks → fetch_ok f ≡ true
     → node_ok (coalesce g) (map (λ F. F.width) (known c)) ≡ true → Ok (strip c) → node_ok (merge_op (k ∷ ks) f) (map (λ F. F.width) (known c)) ≡ true
 merge_for g f k ks c e i n h =
     let ws : List ℕ = map (λ F. F.width) (known c) in
@@ -54,7 +52,7 @@ merge_for g f k ks c e i n h =
     merge_ok k ks f ws (subst (λ (l : List Key). KeysFit (get_or ws 0 0) l) e
     (subst (λ (w : ℕ). KeysFit w (at0 (known c)).order) (sym (nth_width (known c) 0)) fits)) i (over_of (coalesce g) ws refl n)
 
-pub preserve_by_kept : (spr spm : Bool) (f : Fetch) (x : Bool) (c d : Forest Marked) (o : Op) → Preserved spr spm f x c d o
+pub preserve_by_kept : (spr spm : Bool) (f : Option ℕ) (x : Bool) (c d : Forest Marked) (o : Op) → Preserved spr spm f x c d o
 preserve_by_kept spr spm f x c d =
     shape_ind (Preserved spr spm f x c d)
     (λ p ks g h i k. kept_rebuild (sort_op p ks g) x false c d h k)
@@ -73,28 +71,30 @@ preserve_by_kept spr spm f x c d =
     same_order = ap (λ (g : Plan). (at0 (facts g)).order) (strip_first true d)
 
     merged : count (strip c) ≡ 1 → KeepsAll false (is_all f) (fetch_ok f) c d → (ks : List Key) → (at0 (known d)).order ≡ ks → (y : Bool)
-        → Keeps false (is_all f) (fetch_ok f) (node (coalesce Unlimited) x c)
-        (cond (y && not (is_nil ks)) (node (merge_op ks f) false e) (rebuild (coalesce Unlimited) false d))
+        → Keeps false (is_all f) (fetch_ok f) (node (coalesce None) x c)
+        (cond (y && not (is_nil ks)) (node (merge_op ks f) false e) (rebuild (coalesce None) false d))
     merged h k (j ∷ ks) q true =
-        kept_swap (coalesce Unlimited) (merge_op (j ∷ ks) f) x false c e refl refl refl (λ i u. uncut_fetch f i)
-        (λ i n v. merge_for Unlimited f j ks e (same_order ∙ q) i n v) h (first_kept true k)
-    merged h k (j ∷ ks) q false = kept_rebuild (coalesce Unlimited) x false c d h k
-    merged h k [] q true = kept_rebuild (coalesce Unlimited) x false c d h k
-    merged h k [] q false = kept_rebuild (coalesce Unlimited) x false c d h k
+        kept_swap (coalesce None) (merge_op (j ∷ ks) f) x false c e refl refl refl (λ i u. uncut_fetch f i)
+        (λ i n v. merge_for None f j ks e (same_order ∙ q) i n v) h (first_kept true k)
+    merged h k (j ∷ ks) q false = kept_rebuild (coalesce None) x false c d h k
+    merged h k [] q true = kept_rebuild (coalesce None) x false c d h k
+    merged h k [] q false = kept_rebuild (coalesce None) x false c d h k
 
-    coalesced : (g : Fetch) → count (strip c) ≡ 1 → Fit (strip c) → KeepsAll false (is_all f) (fetch_ok f) c d → Keeps false (is_all f) (fetch_ok f)
+    coalesced : (g : Option ℕ) → count (strip c) ≡ 1 → Fit (strip c) → KeepsAll false (is_all f) (fetch_ok f) c d → Keeps false (is_all f) (fetch_ok f)
         (node (coalesce g) x c) (preserve_coalesce g spm f (record { op = coalesce g; mark = x }) c d)
-    coalesced Unlimited h i k = merged h k (at0 (known d)).order refl spm
-    coalesced (AtMost n) h i k = kept_mark false (kept_refl (node (coalesce (AtMost n)) x c) (h, i))
+    coalesced None h i k = merged h k (at0 (known d)).order refl spm
+    coalesced (Some n) h i k = kept_mark false (kept_refl (node (coalesce (Some n)) x c) (h, i))
 
-pub preserve_each_kept : (spr spm : Bool) (f : Fetch) (c : Forest Marked) → Fit (strip c) → KeepsAll false (is_all f) (fetch_ok f) c (preserve_each spr spm f c)
+pub preserve_each_kept : (spr spm : Bool) (f : Option ℕ) (c : Forest Marked) → Fit (strip c)
+    → KeepsAll false (is_all f) (fetch_ok f) c (preserve_each spr spm f c)
 preserve_each_kept spr spm f none h = all_kept_none
 preserve_each_kept spr spm f (tree m c r) h =
     kept_plant (kept_cond m.mark (preserve_by_kept spr spm f m.mark c (preserve_each spr spm f c) m.op h.0 h.1
     (preserve_each_kept spr spm f c h.1)) (kept_refl (at m c) (h.0, h.1)))
     (preserve_each_kept spr spm f r h.2)
 
-pub variants_kept : (spr spm : Bool) (f : Fetch) (t : Tree) → FitT t → Keeps false (is_all f) (fetch_ok f) t (plan_with_order_preserving_variants spr spm f t)
+pub variants_kept : (spr spm : Bool) (f : Option ℕ) (t : Tree) → FitT t
+    → Keeps false (is_all f) (fetch_ok f) t (plan_with_order_preserving_variants spr spm f t)
 variants_kept spr spm f t h = preserve_by_kept spr spm f t.top.mark t.kids (preserve_each spr spm f t.kids) (op_t t) h.0 h.1
     (preserve_each_kept spr spm f t.kids h.1)
 

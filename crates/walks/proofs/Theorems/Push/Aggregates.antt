@@ -1,14 +1,14 @@
 -- Pushing asks handle_aggregate_pushdown only where the aggregate does not meet the required order, and there it declines: if its child met the
 -- list in its columns, the aggregate would meet the list (`declines`). So what pushing decides at an aggregate is to put a sort above it, with a
 -- merge where one stream is required (`sort_above_lem`).
-use Rattle.std.specs.Prelude.{◌≡◌, refl, Bool, true, false, cond, ◌&&◌, ◌||◌, List, [], ◌∷◌, map, ℕ, zero, suc, ◌+◌, ◌<◌, eqb, ltb, length, get_or}
+use Rattle.std.specs.Prelude.{◌≡◌, refl, Bool, true, false, cond, ◌&&◌, ◌||◌, List, [], ◌∷◌, map, ℕ, zero, suc, ◌+◌, ◌<◌, eqb, ltb, length, get_or, is_some}
 use Rattle.std.proofs.Common.{sym, ap, ap₂, ◌∙◌, subst, arith, eqb-true, eq-eqb, ne_eqb, lt-ltb}
 use Rattle.row_order.specs.Iso.{Key}
 use Rattle.row_order.proofs.Order.{no_bool}
 use Rattle.row_order.specs.Lists.{All, all_nil, all_cons}
 use Rattle.row_order.specs.ListLaws.{get_or-tab}
 use Rattle.plan.specs.Op.{aggregate, Plan}
-use Rattle.plan.specs.WellFormed.{columns_of, every, member, some_fetch}
+use Rattle.plan.specs.WellFormed.{columns_of, every, member}
 use Rattle.semantics.specs.Facts.{at0, carried, cl, eq_key, Facts, facts, facts_op, is_c, is_nil, lowest, met, nf, placed, prefixb, proj_facts, proj_order, with_column}
 use Rattle.semantics.specs.Properties.{fresh_keys, maintains}
 use Rattle.semantics.specs.Canonical.{Canon, Classes}
@@ -162,7 +162,7 @@ module _ (q : Visit) (ks : List Key) (n : ℕ) (c : Plan) where
   F = facts_op (aggregate ks n) (facts c)
 
   stops : (l : List Key) → met F l ≡ false → push_down l q (aggregate ks n) c ≡ stop
-  stops l e = go (some_fetch q.req.fetch && true) (declines ks n (facts c) l (canon c) e)
+  stops l e = go (is_some q.req.fetch && true) (declines ks n (facts c) l (canon c) e)
     where
       go : (b : Bool) {p : Pushed} → p ≡ stop → cond b stop p ≡ stop
       go true h = refl

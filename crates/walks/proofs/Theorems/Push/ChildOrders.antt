@@ -1,5 +1,5 @@
 -- An order that pushdown_requirement_to_children hands to a child is a key list that 01's rules accept over that child's columns.
-use Rattle.std.specs.Prelude.{◌≡◌, refl, Bool, true, false, cond, not, ◌&&◌, ◌||◌, List, [], ◌∷◌, map, ℕ, zero, suc, ◌+◌, ◌-◌, ◌≤◌, ◌<◌, eqb, ltb, leb, length, get_or}
+use Rattle.std.specs.Prelude.{◌≡◌, refl, Bool, true, false, cond, not, ◌&&◌, ◌||◌, List, [], ◌∷◌, map, ℕ, zero, suc, ◌+◌, ◌-◌, ◌≤◌, ◌<◌, eqb, ltb, leb, length, get_or, Option, Some, None, is_some}
 use Rattle.std.proofs.Common.{sym, ap, ap₂, ◌∙◌, subst, arith, eqb-true, eq-eqb, ne_eqb, leb-true, ltb-true}
 use Rattle.std.proofs.lemmas.Bool.{not-true}
 use Rattle.row_order.specs.Iso.{Key}
@@ -7,9 +7,7 @@ use Rattle.row_order.proofs.Order.{no_bool}
 use Rattle.row_order.specs.Lists.{All, all_cons, all_nil}
 use Rattle.row_order.specs.ListLaws.{all_map, all_over, all_zip}
 use Rattle.plan.specs.Op.{coalesce, filter, global_limit, hash_join, local_limit, merge_op, Op, output_requirement, partial_sort, aggregate, projection, repartition, sort_merge_join, sort_op, source, union}
-use Rattle.plan.specs.WellFormed.{below, columns_fit, distinct, every, join_width, member, node_ok, some_fetch, union_ok, columns_of}
-use Rattle.plan.specs.declared.Fetch.{Fetch}
-use Rattle.plan.specs.declared.Fetch.TheVariants.{AtMost, Unlimited}
+use Rattle.plan.specs.WellFormed.{below, columns_fit, distinct, every, join_width, member, node_ok, union_ok, columns_of}
 use Rattle.plan.specs.declared.JoinType.{JoinType}
 use Rattle.plan.specs.declared.JoinType.TheVariants.{Full, Inner, Left, LeftAnti, LeftSemi, Right, RightAnti, RightSemi}
 use Rattle.semantics.specs.Facts.{at0, at1, cl, compatible, drop_repeats, Facts, facts_op, is_nil, lowest, met, nothing, reorder, union_facts, with_column}
@@ -268,17 +266,18 @@ module _ (fs : List Facts) (parent : List Key) where
   kind_fits (aggregate ks n) e h = group_goes ks n e h
 
   -- no fetch goes through a join or a source
-  no_fetch_lem : (own : Fetch) (b : Bool) (u v : Pushed) → b ≡ false → PushedFits fs v → PushedFits fs (cond (some_fetch own && b) u v)
-  no_fetch_lem Unlimited b u v e h = h
-  no_fetch_lem (AtMost m) b u v e h = subst (λ (x : Bool). PushedFits fs (cond x u v)) (sym e) h
+  no_fetch_lem : (own : Option ℕ) (b : Bool) (u v : Pushed) → b ≡ false → PushedFits fs v → PushedFits fs (cond (is_some own && b) u v)
+  no_fetch_lem None b u v e h = h
+  no_fetch_lem (Some m) b u v e h = subst (λ (x : Bool). PushedFits fs (cond x u v)) (sym e) h
 
-  through : (o : Op) (own : Fetch) (n : ℕ) → PushedFits fs (child_required o fs parent) → PushedFits fs (push_by_kind o fs parent)
+  through : (o : Op) (own : Option ℕ) (n : ℕ) → PushedFits fs (child_required o fs parent) → PushedFits fs (push_by_kind o fs parent)
       → PushedFits fs (cond (through_fetch o own n fs) (handle_fetch o (facts_op o fs) fs parent) (push_by_kind o fs parent))
   through o own n h k =
       cond_fits fs (through_fetch o own n fs) (handle_fetch o (facts_op o fs) fs parent) (push_by_kind o fs parent)
       (cond_fits fs (is_nil (facts_op o fs).order || compatible (facts_op o fs) parent (facts_op o fs).order) (child_required o fs parent) stop h tt) k
 
-  fetch_fits : (o : Op) (own : Fetch) (n : ℕ) → Fitting o (cond (through_fetch o own n fs) (handle_fetch o (facts_op o fs) fs parent) (push_by_kind o fs parent))
+  fetch_fits : (o : Op) (own : Option ℕ) (n : ℕ)
+      → Fitting o (cond (through_fetch o own n fs) (handle_fetch o (facts_op o fs) fs parent) (push_by_kind o fs parent))
   fetch_fits (source s) own n e h = no_fetch_lem own _ _ _ refl tt
   fetch_fits filter own n e h = through filter own n (same_columns (one filter refl e) (at0 fs) refl h) (kind_fits filter e h)
   fetch_fits (projection cols) own n e h = through (projection cols) own n (project_goes cols e h) (kind_fits (projection cols) e h)
@@ -300,6 +299,6 @@ module _ (fs : List Facts) (parent : List Key) where
   fetch_fits (partial_sort p ks m f) own n e h = through (partial_sort p ks m f) own n (same_columns (one (partial_sort p ks m f) refl e) (at0 fs) refl h) tt
   fetch_fits (aggregate ks m) own n e h = no_fetch_lem own _ _ _ refl (kind_fits (aggregate ks m) e h)
 
-  pub pushed_fits : (o : Op) (own : Fetch) (n : ℕ) (f : Fetch) → Fitting o (pushdown_requirement_to_children o own n fs parent f)
+  pub pushed_fits : (o : Op) (own : Option ℕ) (n : ℕ) (f : Option ℕ) → Fitting o (pushdown_requirement_to_children o own n fs parent f)
   pushed_fits o own n f e h = cond_fits fs (fetch_blocks o f) stop (cond (through_fetch o own n fs) (handle_fetch o (facts_op o fs) fs parent)
       (push_by_kind o fs parent)) tt (fetch_fits o own n e h)

@@ -1,5 +1,5 @@
 -- Pushing keeps the skeleton with its limits, the child counts, that nothing is cut off, and that no sort has all-constant keys.
-use Rattle.std.specs.Prelude.{◌≡◌, refl, Bool, true, false, cond, ◌||◌, List, [], ◌∷◌, ◌++◌, ℕ, suc, ltb, length}
+use Rattle.std.specs.Prelude.{◌≡◌, refl, Bool, true, false, cond, ◌||◌, List, [], ◌∷◌, ◌++◌, ℕ, suc, ltb, length, Option, Some, None}
 use Rattle.std.proofs.Common.{sym, subst}
 use Rattle.row_order.specs.Iso.{Key}
 use Rattle.row_order.proofs.Order.{no_bool}
@@ -9,8 +9,6 @@ use Rattle.plan.specs.Forest.{Forest, none, tree}
 use Rattle.plan.specs.Op.{coalesce, merge_op, Op, Plan, repartition, sort_op}
 use Rattle.plan.specs.declared.Distribution.{Distribution}
 use Rattle.plan.specs.declared.Distribution.TheVariants.{Unspecified}
-use Rattle.plan.specs.declared.Fetch.{Fetch}
-use Rattle.plan.specs.declared.Fetch.TheVariants.{AtMost, Unlimited}
 use Rattle.semantics.specs.Facts.{at0, compatible, Facts, facts, facts_op, is_nil, met, nf}
 use Rattle.semantics.specs.Properties.{fetches, fetch_op, fresh_keys, rebuilt, is_all}
 use Rattle.semantics.proofs.Theorems.Canonical.EveryNode.{canon, op_canon}
@@ -47,16 +45,16 @@ covered_fair : {o p : Op} {fs : List Facts} (ts : List Op) (n : ℕ) (g : ℕ �
 covered_fair ts n g h l = record { tops = h; gone = λ e. no_bool e; like = l; still = λ e. no_bool e }
 
 -- The new nodes
-pub new_sort_all : {P : Op → Type 0} (p : Bool) (ks : List Key) (f : Fetch) → ((k : Key) (l : List Key) → ks ≡ k ∷ l → P (sort_op p (k ∷ l) f))
+pub new_sort_all : {P : Op → Type 0} (p : Bool) (ks : List Key) (f : Option ℕ) → ((k : Key) (l : List Key) → ks ≡ k ∷ l → P (sort_op p (k ∷ l) f))
     → All P (new_sort p ks f)
 new_sort_all p [] f h = all_nil
 new_sort_all p (k ∷ ks) f h = all_cons (h k ks refl) all_nil
 
-pub new_merge_all : {P : Op → Type 0} (ks : List Key) (f : Fetch) → ((k : Key) (l : List Key) → ks ≡ k ∷ l → P (merge_op (k ∷ l) f)) → All P (new_merge ks f)
+pub new_merge_all : {P : Op → Type 0} (ks : List Key) (f : Option ℕ) → ((k : Key) (l : List Key) → ks ≡ k ∷ l → P (merge_op (k ∷ l) f)) → All P (new_merge ks f)
 new_merge_all [] f h = all_nil
 new_merge_all (k ∷ ks) f h = all_cons (h k ks refl) all_nil
 
-pub above_all : {P : Op → Type 0} (F : Facts) (ks : List Key) (f : Fetch) (d : Distribution)
+pub above_all : {P : Op → Type 0} (F : Facts) (ks : List Key) (f : Option ℕ) (d : Distribution)
     → ((k : Key) (l : List Key) → fresh_keys F [] ks ≡ k ∷ l → P (merge_op (k ∷ l) f) × P (sort_op (ltb 1 F.streams) (k ∷ l) f))
     → All P (sort_above_with_distribution F ks f d)
 above_all {P} F ks f d h = go (needs_merge F d)
@@ -69,12 +67,12 @@ above_all {P} F ks f d h = go (needs_merge F d)
     go false = sorts
 
 -- Over a node with facts F, which has the constants and classes of G
-above_top : (F G : Facts) → WholeClasses F → blank F ≡ blank G → (ks : List Key) (f : Fetch) (d : Distribution)
+above_top : (F G : Facts) → WholeClasses F → blank F ≡ blank G → (ks : List Key) (f : Option ℕ) (d : Distribution)
     → All (Top G) (sort_above_with_distribution F ks f d)
 above_top F G h q ks f d = above_all F ks f d
     (λ k l e. ((refl, refl), (refl, alive_blank F G (sort_op (ltb 1 F.streams) (k ∷ l) f) q (fresh_alive F h (ltb 1 F.streams) f ks k l e))))
 
-merge_top : (G : Facts) (ks : List Key) (f : Fetch) → All (Top G) (new_merge ks f)
+merge_top : (G : Facts) (ks : List Key) (f : Option ℕ) → All (Top G) (new_merge ks f)
 merge_top G ks f = new_merge_all ks f (λ k l e. (refl, refl))
 
 whole : (o : Op) (c : Plan) → WholeClasses (facts_op o (facts c))
@@ -111,7 +109,7 @@ removed_fair o q e = record { tops = all_nil; gone = λ _. e; like = like_refl o
 replaced_fair : {fs : List Facts} (ts : List Op) (o : Op) (q : Visit) → passing o ≡ true → All (Top (facts_op o fs)) ts → Fair o fs (replaced ts o q)
 replaced_fair ts o q e h = record { tops = h; gone = λ _. e; like = like_refl o; still = λ i. no_bool i }
 
-sort_fair : (p : Bool) (ks : List Key) (f : Fetch) (q : Visit) (c : Plan) → Fair (sort_op p ks f) (facts c) (decide_sort p ks f q c)
+sort_fair : (p : Bool) (ks : List Key) (f : Option ℕ) (q : Visit) (c : Plan) → Fair (sort_op p ks f) (facts c) (decide_sort p ks f q c)
 sort_fair p ks f q c =
     let F : Facts = facts_op (sort_op p ks f) (facts c) in
     let C : Facts = at0 (facts c) in
@@ -183,15 +181,16 @@ calm_cond : (x : Bool) (D E : Decision) → Calm D → Calm E → Calm (cond x D
 calm_cond true D E h k = h
 calm_cond false D E h k = k
 
-min_all : (f g : Fetch) → is_all f ≡ true → is_all g ≡ true → is_all (min_fetch f g) ≡ true
-min_all Unlimited g p q = q
-min_all (AtMost m) Unlimited p q = p
-min_all (AtMost m) (AtMost n) p q = q
+min_all : (f g : Option ℕ) → is_all f ≡ true → is_all g ≡ true → is_all (min_fetch f g) ≡ true
+min_all None g p q = q
+min_all (Some m) None p q = p
+min_all (Some m) (Some n) p q = q
 
-above_clear : (F : Facts) (ks : List Key) (f : Fetch) (d : Distribution) → is_all f ≡ true → All (λ p. clear_op p ≡ true) (sort_above_with_distribution F ks f d)
+above_clear : (F : Facts) (ks : List Key) (f : Option ℕ) (d : Distribution) → is_all f ≡ true
+    → All (λ p. clear_op p ≡ true) (sort_above_with_distribution F ks f d)
 above_clear F ks f d h = above_all F ks f d (λ k l e. (uncut_fetch f h, uncut_fetch f h))
 
-merge_clear : (ks : List Key) (f : Fetch) → is_all f ≡ true → All (λ p. clear_op p ≡ true) (new_merge ks f)
+merge_clear : (ks : List Key) (f : Option ℕ) → is_all f ≡ true → All (λ p. clear_op p ≡ true) (new_merge ks f)
 merge_clear ks f h = new_merge_all ks f (λ k l e. uncut_fetch f h)
 
 module _ (q : Visit) (c : Plan) (hq : is_all q.req.fetch ≡ true) (hc : Pure c) where
@@ -221,7 +220,7 @@ module _ (q : Visit) (c : Plan) (hq : is_all q.req.fetch ≡ true) (hc : Pure c)
       (record { tops = above_clear (facts_op o (facts c)) q.req.order q.req.fetch q.req.dist hq; op = e; fetch = λ i. refl })
 
   first_calm : (x : Bool) (o : Op) → clear_op o ≡ true → Calm (stays o (cond x (assign_initial_requirements o c) (with_own_distribution o)))
-  first_calm true o e = record { tops = all_nil; op = e; fetch = λ i. all_nth Unlimited refl (pure-fetches c hc) i }
+  first_calm true o e = record { tops = all_nil; op = e; fetch = λ i. all_nth None refl (pure-fetches c hc) i }
   first_calm false o e = record { tops = all_nil; op = e; fetch = λ i. refl }
 
   node_calm : (o : Op) → clear_op o ≡ true → Calm (decide_node q o c)
@@ -230,7 +229,7 @@ module _ (q : Visit) (c : Plan) (hq : is_all q.req.fetch ≡ true) (hc : Pure c)
       (calm_cond (met (facts_op o (facts c)) q.req.order) (satisfied q o c) (unsatisfied q o c) (record { tops = all_nil; op = e; fetch = λ i. hq })
       (try_calm (push_down q.req.order q o c) o e))
 
-  sort_calm : (p : Bool) (ks : List Key) (f : Fetch) → clear_op (sort_op p ks f) ≡ true → Calm (decide_sort p ks f q c)
+  sort_calm : (p : Bool) (ks : List Key) (f : Option ℕ) → clear_op (sort_op p ks f) ≡ true → Calm (decide_sort p ks f q c)
   sort_calm p ks f e =
       let hf : is_all f ≡ true = op_fetch (sort_op p ks f) e in
       let F : Facts = facts_op (sort_op p ks f) (facts c) in

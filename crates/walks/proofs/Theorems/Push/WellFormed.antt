@@ -1,5 +1,5 @@
 -- Pushing a plan that 01's rules accept makes one that they accept; and all that pushing keeps, said of plans: `push_plan`.
-use Rattle.std.specs.Prelude.{◌≡◌, refl, Bool, true, false, cond, ◌||◌, List, [], ◌∷◌, map, ℕ, zero, suc, ◌<◌, min, ltb, leb, length, get_or}
+use Rattle.std.specs.Prelude.{◌≡◌, refl, Bool, true, false, cond, ◌||◌, List, [], ◌∷◌, map, ℕ, zero, suc, ◌<◌, min, ltb, leb, length, get_or, Option, Some, None}
 use Rattle.std.proofs.Common.{sym, ap, ◌∙◌, subst, arith, ltb-true, lt-ltb}
 use Rattle.row_order.specs.Iso.{Key}
 use Rattle.row_order.specs.Lists.{All, all_cons, all_nil}
@@ -9,8 +9,6 @@ use Rattle.plan.specs.Op.{coalesce, merge_op, Op, Plan, repartition, sort_op}
 use Rattle.plan.specs.WellFormed.{fetch_ok, node_ok}
 use Rattle.plan.specs.declared.Distribution.{Distribution}
 use Rattle.plan.specs.declared.Distribution.TheVariants.{Unspecified}
-use Rattle.plan.specs.declared.Fetch.{Fetch}
-use Rattle.plan.specs.declared.Fetch.TheVariants.{AtMost, Unlimited}
 use Rattle.plan.specs.Numbers.{no_fetch}
 use Rattle.semantics.specs.Facts.{at0, compatible, Facts, facts, facts_op, is_nil, met, nf, nothing}
 use Rattle.semantics.specs.Properties.{fetches, fetch_op, fresh_keys, rebuilt, sort_dist, uncut, wanted}
@@ -54,14 +52,14 @@ fitted_cond : (o : Op) (c : Plan) (x : Bool) (D E : Decision) → Fitted o c D �
 fitted_cond o c true D E h k = h
 fitted_cond o c false D E h k = k
 
-min_ok : (f g : Fetch) → fetch_ok f ≡ true → fetch_ok g ≡ true → fetch_ok (min_fetch f g) ≡ true
-min_ok Unlimited g p q = q
-min_ok (AtMost m) Unlimited p q = p
-min_ok (AtMost m) (AtMost n) p q = lt-ltb (min m n) no_fetch (omega (arith, ltb-true m no_fetch p, ltb-true n no_fetch q))
+min_ok : (f g : Option ℕ) → fetch_ok f ≡ true → fetch_ok g ≡ true → fetch_ok (min_fetch f g) ≡ true
+min_ok None g p q = q
+min_ok (Some m) None p q = p
+min_ok (Some m) (Some n) p q = lt-ltb (min m n) no_fetch (omega (arith, ltb-true m no_fetch p, ltb-true n no_fetch q))
 
 -- ---- new nodes over a node of facts F
 module _ (F : Facts) (n : leb F.width 32 ≡ true) where
-  above_accepted : (ks : List Key) (f : Fetch) (d : Distribution) → KeysFit F.width ks → fetch_ok f ≡ true → All (λ p. node_ok p (F.width ∷ []) ≡ true)
+  above_accepted : (ks : List Key) (f : Option ℕ) (d : Distribution) → KeysFit F.width ks → fetch_ok f ≡ true → All (λ p. node_ok p (F.width ∷ []) ≡ true)
       (sort_above_with_distribution F ks f d)
   above_accepted ks f d h e =
       above_all F ks f d
@@ -69,7 +67,7 @@ module _ (F : Facts) (n : leb F.width 32 ≡ true) where
       let fit : KeysFit F.width (k ∷ l) = subst (KeysFit F.width) q (fresh_keys_lem F F.width ks h) in
       (merge_ok k l f (F.width ∷ []) fit e (refl, n), sort_ok (ltb 1 F.streams) k l f (F.width ∷ []) fit e (refl, n)))
 
-  merge_accepted : (ks : List Key) (f : Fetch) → KeysFit F.width ks → fetch_ok f ≡ true → All (λ p. node_ok p (F.width ∷ []) ≡ true) (new_merge ks f)
+  merge_accepted : (ks : List Key) (f : Option ℕ) → KeysFit F.width ks → fetch_ok f ≡ true → All (λ p. node_ok p (F.width ∷ []) ≡ true) (new_merge ks f)
   merge_accepted ks f h e = new_merge_all ks f (λ k l q. merge_ok k l f (F.width ∷ []) (subst (KeysFit F.width) q h) e (refl, n))
 
 -- ---- a node o over c that is no sort
@@ -83,12 +81,12 @@ module _ (q : Visit) (c : Plan) (hc : Ok c) where
   own_distributions : (o : Op) → EachFits (with_own_distribution o) (facts c)
   own_distributions o i l = record { keys = no_keys; fetch = refl }
 
-  handed : (o : Op) (ks : ℕ → List Key) (f : Fetch) (d : Distribution) → fetch_ok f ≡ true → PushedFits (facts c) (goes ks) → EachFits (hand_down ks f d o)
+  handed : (o : Op) (ks : ℕ → List Key) (f : Option ℕ) (d : Distribution) → fetch_ok f ≡ true → PushedFits (facts c) (goes ks) → EachFits (hand_down ks f d o)
       (facts c)
   handed o ks f d e h i l = record { keys = h i l; fetch = e }
 
   initial : (o : Op) → node_ok o (map (λ F. F.width) (facts c)) ≡ true → EachFits (assign_initial_requirements o c) (facts c)
-  initial o e i l = record { keys = wants_at (wanted o) (facts c) (wanted-fits o (facts c) e) i l; fetch = all_nth Unlimited refl (fetches_ok c hc) i }
+  initial o e i l = record { keys = wants_at (wanted o) (facts c) (wanted-fits o (facts c) e) i l; fetch = all_nth None refl (fetches_ok c hc) i }
 
   module _ (o : Op) (e : node_ok o (map (λ F. F.width) (facts c)) ≡ true) (hq : VisitFits (facts_op o (facts c)).width q) where
     n : leb (facts_op o (facts c)).width 32 ≡ true
@@ -174,7 +172,7 @@ module _ (q : Visit) (c : Plan) (hc : Ok c) where
           (sort_added_lem o e hq)
 
   -- ---- a sort: its one child has its columns
-  sort_fitted : (p : Bool) (ks : List Key) (f : Fetch) → node_ok (sort_op p ks f) (map (λ F. F.width) (facts c)) ≡ true → VisitFits (at0 (facts c)).width q
+  sort_fitted : (p : Bool) (ks : List Key) (f : Option ℕ) → node_ok (sort_op p ks f) (map (λ F. F.width) (facts c)) ≡ true → VisitFits (at0 (facts c)).width q
       → Fitted (sort_op p ks f) c (decide_sort p ks f q c)
   sort_fitted p ks f e hq =
       fitted_cond o c (is_nil q.req.order) (sort_unasked p ks f q c) (sort_asked p ks f q c)
@@ -232,7 +230,7 @@ module _ (q : Visit) (c : Plan) (hc : Ok c) where
       stricter true = own_fits
       stricter false = hq.keys
 
-      below : (g : Fetch) (d : Distribution) (l : List Key) → fetch_ok g ≡ true → KeysFit (at0 (facts c)).width l
+      below : (g : Option ℕ) (d : Distribution) (l : List Key) → fetch_ok g ≡ true → KeysFit (at0 (facts c)).width l
           → EachFits (λ i. below_sort (record { order = l; fetch = g; dist = d })) (facts c)
       below g d l x h zero j = record { keys = h; fetch = x }
       below g d l x h (suc i) j = absurd (omega (arith, one))

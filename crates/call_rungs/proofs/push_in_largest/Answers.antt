@@ -1,0 +1,24 @@
+use native.Mathlib.Omega.{arith}
+use mathlib.Core.Path.{ap, ◌∙◌}
+use Prim.Native.Nat.{◌-◌}
+use Rattle.std.specs.Prelude.{Err}
+use Rattle.walks.specs.Counted.{pushed}
+use Rattle.call_answers.specs.Answers.{rewrites}
+use Rattle.call_rungs.specs.Rungs.{ok_answered, refused_answered, has_room}
+use Rattle.call_rungs.proofs.push_in_largest.Goals as goal
+
+pub push_in_arenas-requires : goal.push_in_arenas-requires
+push_in_arenas-requires c = let h = c.requires in (omega arith, omega arith, omega arith)
+
+pub returns-in-Ok : goal.returns-in-Ok
+returns-in-Ok c = let y = c.push_in_arenas in
+    ok_answered y.result (rewrites pushed c.args.plan.now) c.args.out.now y.new.out _ y.ensures _ _ c.in-Ok.is c.as_reply.ensures
+
+pub returns-in-Err-Refused : goal.returns-in-Err-Refused
+returns-in-Err-Refused c = let y = c.push_in_arenas in
+    refused_answered y.result (rewrites pushed c.args.plan.now) c.args.out.now y.new.out _ y.ensures _ _ (c.in-Err-Refused.is ∙ ap (λ y. Err y) c.in-Err-Refused.field-0-is) c.as_reply-in-Err-Refused.ensures
+
+pub unreachable-requires : goal.unreachable-requires
+unreachable-requires c = let y = c.push_in_arenas in
+    has_room y.result (rewrites pushed c.args.plan.now) c.args.out.now y.new.out _ y.ensures (omega arith)
+    (c.in-Err-NoRoom.is ∙ ap (λ y. Err y) c.in-Err-NoRoom.field-0-is)
