@@ -59,6 +59,16 @@ def enums():
             yield f'{path}:{text.count(chr(10), 0, m.start()) + 1}', m.group(1), variants
 
 
+def structs(pattern):
+    """The structs of which a field has the pattern."""
+    found = []
+    for path, text in sources():
+        for m in re.finditer(r'struct (\w+) \{\n(.*?)\n\}', text, re.S):
+            if re.search(pattern, m.group(2)):
+                found.append(f'{path}:{text.count(chr(10), 0, m.start()) + 1}: {m.group(1)}')
+    return found
+
+
 def point_1():
     """own enums of two cases of which one at least holds a value"""
     return [f'{p}: {n} {{ {", ".join(v)} }}' for p, n, v in enums() if len(v) == 2 and any('(' in x for x in v)]
@@ -71,12 +81,7 @@ def point_1_accepted():
 
 def point_1_flags():
     """structs with a flag or a count that says whether the other fields count"""
-    found = []
-    for path, text in sources():
-        for m in re.finditer(r'struct (\w+) \{\n(.*?)\n\}', text, re.S):
-            if re.search(r'\b(refusal|moved|movers|found|passes_known): ', m.group(2)):
-                found.append(f'{path}:{text.count(chr(10), 0, m.start()) + 1}: {m.group(1)}')
-    return found
+    return structs(r'\b(refusal|moved|movers|found|passes_known): ')
 
 
 def point_1_kinds():
@@ -147,12 +152,7 @@ def point_5_facts():
 
 def point_6():
     """an array with a length beside it in a struct, a table of numbers read by a stride"""
-    found = []
-    for path, text in sources():
-        for m in re.finditer(r'struct (\w+) \{\n(.*?)\n\}', text, re.S):
-            if re.search(r'\blen: usize|: \[\w+; \d+\]', m.group(2)):
-                found.append(f'{path}:{text.count(chr(10), 0, m.start()) + 1}: {m.group(1)}')
-    return found + lines(r'\[7 \* \w+( \+ \d)?\]')
+    return structs(r'\blen: usize|: \[\w+; \d+\]') + lines(r'\[7 \* \w+( \+ \d)?\]')
 
 
 def point_7():
