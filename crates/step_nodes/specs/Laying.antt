@@ -27,11 +27,11 @@ use Rattle.plan_context.specs.Laws.{facts_at, length_facts}
 use Rattle.plan_context.specs.Nodes.{counts_of, Seen, seen}
 use Rattle.plan_context.specs.Facts.{ok_plan}
 use Rattle.step_tables.specs.Places.{total, inner, kind_of as kind_number, is_straight, node_of}
-use Rattle.step_tables.specs.Passes.{number_of, node_in}
+use Rattle.step_tables.specs.Passes.{number_of, manner_at, manner_back, node_in}
 use Rattle.step_tables.specs.declared.StepNode.{StepNode}
 use Rattle.step_tables.specs.declared.StepManner.{StepManner}
 use Rattle.step_nodes.specs.Layout.{plan_in, Entry, entries, Along, Stands, TreeLaid, TreeLays, LaidOut}
-use Rattle.step_nodes.specs.Rows.{along_behind, along_map, less_front, stands_same, manner_at, manner_back, row_of, written, row_written, entry_count, entries_split, lists, slots_are}
+use Rattle.step_nodes.specs.Rows.{along_behind, along_map, less_front, stands_same, manner_numbered, row_of, written, row_written, entry_count, entries_split, lists, slots_are}
 use Rattle.step_nodes.specs.FewPlaces.{few_places}
 use Rattle.step_nodes.specs.declared.Next.{Next}
 
@@ -206,7 +206,7 @@ pub stands_first : (m : List ℕ) (u i : ℕ) (a : Arena m u) (l : i < u) (t : L
 stands_first m u i a l t s t' p n x b e q k =
     let z = get_or-set_same s n i 0 k in
     record {
-      row = ap (λ r. node_in r n) e ∙ row_written t n p x b (op_in m i) (below_in m i) q;
+      row = ap (λ r. node_in r n) e ∙ row_written t n (node_of p x b (op_in m i) (below_in m i)) (manner_numbered (manner (op_in m i) (facts (below_in m i)))) q;
       tree = ap (plan_in m) z ∙ plan_is m u i a l;
       there = subst (λ i. i < u) (sym z) (omega arith);
     }

@@ -1,17 +1,15 @@
 -- The rows of the tables, as the walk writes them.
-use Rattle.std.specs.Prelude.{◌≡◌, refl, Bool, true, false, List, [], ◌∷◌, ◌++◌, map, ℕ, zero, suc, ◌+◌, ◌*◌, ◌≤◌, ◌<◌, length, get_or, set, take}
+use Rattle.std.specs.Prelude.{◌≡◌, refl, List, [], ◌∷◌, ◌++◌, map, ℕ, zero, suc, ◌+◌, ◌≤◌, ◌<◌, length, get_or, set, take}
 use Rattle.std.proofs.Common.{sym, ap, ap₂, ◌∙◌, subst, append-nil, arith, length-append, get_or-take, get_or-set_same, take-take}
 use Rattle.std.proofs.lemmas.List.{map-append, length-map, take-set-le}
-use Rattle.stepping.specs.Moves.{Manner, still, passing, merging, sorting, manner}
+use Rattle.stepping.specs.Moves.{Manner, still, passing, merging, sorting}
 use Rattle.row_order.specs.Lists.{tab}
 use Rattle.plan.specs.Forest.{none, tree, size}
 use Rattle.plan.specs.Op.{Op, Plan}
 use Rattle.semantics.specs.Facts.{facts, facts_op}
 use Rattle.step_tables.specs.Places.{total, inner, kind_of, Node, nodes_at, node_of}
-use Rattle.step_tables.specs.Passes.{number_of, node_from, no_node, node_in, Listed}
+use Rattle.step_tables.specs.Passes.{number_of, manner_at, node_from, no_node, node_in, Listed}
 use Rattle.step_tables.specs.declared.StepNode.{StepNode}
-use Rattle.step_tables.specs.declared.StepManner.{StepManner}
-use Rattle.step_tables.specs.declared.StepManner.TheVariants.{Still, Passing, Merging, Sorting}
 use Rattle.step_nodes.specs.Layout.{plan_in, subtrees, Slotted, Entry, entries, Along, Stands}
 
 -- ---- along a list
@@ -64,24 +62,20 @@ stands_same m u n t s t' s' e q j x h a =
 
 -- ---- a row written
 
--- The manner of a number
-abbrev pub manner_at : ℕ → StepManner
-manner_at zero = Still
-manner_at (suc zero) = Passing
-manner_at (suc (suc zero)) = Merging
-manner_at (suc (suc (suc k))) = Sorting
+-- A number up to 3, back from its manner
+number_back : (k : ℕ) → k ≤ 3 → number_of (manner_at k) ≡ k
+number_back zero h = refl
+number_back (suc zero) h = refl
+number_back (suc (suc zero)) h = refl
+number_back (suc (suc (suc zero))) h = refl
+number_back (suc (suc (suc (suc k)))) h = absurd (omega arith)
 
-pub manner_back : (k : StepManner) → manner_at (number_of k) ≡ k
-manner_back Still = refl
-manner_back Passing = refl
-manner_back Merging = refl
-manner_back Sorting = refl
-
-number_back : (k : Manner) → number_of (manner_at (kind_of k)) ≡ kind_of k
-number_back still = refl
-number_back passing = refl
-number_back (merging ks) = refl
-number_back (sorting p ks) = refl
+-- and each manner has one
+pub manner_numbered : (k : Manner) → kind_of k ≤ 3
+manner_numbered still = omega arith
+manner_numbered passing = omega arith
+manner_numbered (merging ks) = omega arith
+manner_numbered (sorting p ks) = omega arith
 
 -- A node's entry
 abbrev pub row_of : Node → StepNode
@@ -91,18 +85,22 @@ row_of x = record { manner = manner_at x.kind; straight = x.straight_on; out = x
 abbrev pub written : List StepNode → ℕ → Node → List StepNode
 written t j x = set t j (row_of x)
 
-pub row_written : (t : List StepNode) (j p a b : ℕ) (o : Op) (c : Plan) → j < length t → node_in (written t j (node_of p a b o c)) j ≡ node_of p a b o c
-row_written t j p a b o c h =
-    let e = number_back (manner o (facts c)) in
-    ap node_from (get_or-set_same t j (row_of (node_of p a b o c)) no_node h)
+-- What is read back of any node: a number above 3 as 3
+pub row_read : (t : List StepNode) (j : ℕ) (x : Node) → j < length t → node_in (written t j x) j ≡ node_from (row_of x)
+row_read t j x h = ap node_from (get_or-set_same t j (row_of x) no_node h)
+
+-- and of a node whose number a manner has, the node
+pub row_written : (t : List StepNode) (j : ℕ) (x : Node) → x.kind ≤ 3 → j < length t → node_in (written t j x) j ≡ x
+row_written t j x k h =
+    row_read t j x h
     ∙ (λ i. record {
-      kind = e i;
-      straight_on = (node_of p a b o c).straight_on;
-      out = a;
-      outs = (node_of p a b o c).outs;
-      inp = b;
-      inps = (node_of p a b o c).inps;
-      above = p;
+      kind = number_back x.kind k i;
+      straight_on = x.straight_on;
+      out = x.out;
+      outs = x.outs;
+      inp = x.inp;
+      inps = x.inps;
+      above = x.above;
     })
 
 pub row_front : (t : List StepNode) (j : ℕ) (x : Node) → take j (written t j x) ≡ take j t

@@ -21,6 +21,19 @@ number_of Passing = 1
 number_of Merging = 2
 number_of Sorting = 3
 
+-- and the manner of a number: from 3 on it sorts
+abbrev pub manner_at : ℕ → StepManner
+manner_at zero = Still
+manner_at (suc zero) = Passing
+manner_at (suc (suc zero)) = Merging
+manner_at (suc (suc (suc k))) = Sorting
+
+pub manner_back : (k : StepManner) → manner_at (number_of k) ≡ k
+manner_back Still = refl
+manner_back Passing = refl
+manner_back Merging = refl
+manner_back Sorting = refl
+
 -- An entry of the table, as a node
 abbrev pub node_from : StepNode → Node
 node_from x =
@@ -90,6 +103,19 @@ may_by_lem still fl w some g n = refl
 may_by_lem passing fl w some g n = refl
 may_by_lem (merging ks) fl w some g n = refl
 may_by_lem (sorting p ks) fl w some g n = refl
+
+-- A number answers as its manner does, so that the manners say all that numbers could: who can move, and who waits for open streams
+pub may_by_manner : (k : ℕ) (fl : List Bool) (w : ℕ → Bool) (some : Bool) (g n : ℕ) → may_by (number_of (manner_at k)) fl w some g n ≡ may_by k fl w some g n
+may_by_manner zero fl w some g n = refl
+may_by_manner (suc zero) fl w some g n = refl
+may_by_manner (suc (suc zero)) fl w some g n = refl
+may_by_manner (suc (suc (suc k))) fl w some g n = refl
+
+pub waits_by_manner : (k : ℕ) → ltb 1 (number_of (manner_at k)) ≡ ltb 1 k
+waits_by_manner zero = refl
+waits_by_manner (suc zero) = refl
+waits_by_manner (suc (suc zero)) = refl
+waits_by_manner (suc (suc (suc k))) = lt-ltb 1 3 (omega arith) ∙ sym (lt-ltb 1 (suc (suc (suc k))) (omega arith))
 
 and_no : (b : Bool) → b && false ≡ false
 and_no true = refl
