@@ -1,5 +1,5 @@
 -- The ladders of arenas.
-use Rattle.std.specs.Prelude.{◌≡◌, refl, Bool, true, false, ◌||◌, List, ℕ, ◌≤◌, Ok, Err, eqb, ltb}
+use Rattle.std.specs.Prelude.{◌≡◌, refl, Bool, true, false, ◌||◌, List, ℕ, ◌≤◌, Ok, Err, eqb, ltb, length}
 use Rattle.std.proofs.Common.{sym, ap, ◌∙◌, subst, arith, eqb-true, ltb-true, ltb-false}
 use Rattle.std.proofs.lemmas.Bool.{eqb-false}
 use Rattle.plan.specs.Numbers.{Verdict, number_of}
@@ -30,8 +30,9 @@ module _ (R : Result) (out : List ℕ) where
   not_full (Err NoRoom) out' a x = (x.0, omega arith)
 
   -- what a rung answered and left, where the rungs meet
-  pub met : (r q : Called) (out' x : List ℕ) (a : ℕ) → out' ≡ x → r ≡ q → CalledAs q R out x a → CalledAs r R out out' 1
-  met r q out' x a e f y = subst (λ z. CalledAs z R out out' 1) (sym f) (subst (λ z. CalledAs q R out z 1) (sym e) (not_full q x a y))
+  pub met : (r q : Called) (out' x : List ℕ) (a : ℕ) → out' ≡ x → r ≡ q → CalledAs q R out x a
+      → CalledAs r R out out' 1 × (length x ≡ length out → length out' ≡ length out)
+  met r q out' x a e f y = (subst (λ z. CalledAs z R out out' 1) (sym f) (subst (λ z. CalledAs q R out z 1) (sym e) (not_full q x a y)), λ l. ap length e ∙ l)
 
 -- a file of no block, or of more than eighteen, is refused
 or_so : (a b : Bool) → (a || b) ≡ true → (a ≡ false → b ≡ true)

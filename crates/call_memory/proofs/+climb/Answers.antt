@@ -16,14 +16,14 @@ use Rattle.call_memory.proofs.+climb.Goals.{Joined-slots-lt8, in-0-to-7, in-8-to
 -- what the rung answered, and left in the output
 rung : (t : ℕ) (c : Joined-slots-lt8 t) → CalledAs c.if-slots-lt8.r (after_reading (result_of c.args.k) (reading c.args.plan.now)) c.args.out.now c.if-slots-lt8.out 1
 rung t c = elim c.if-slots-lt8.branch [
-  | in-0-to-7 w ↦ met (after_reading (result_of c.args.k) (reading c.args.plan.now)) c.args.out.now c.if-slots-lt8.r w.call_in_arena-r.result c.if-slots-lt8.out w.call_in_arena-r.new.out _ w.out-is w.r-is w.call_in_arena-r.ensures
-  | in-8-to-14 w ↦ met (after_reading (result_of c.args.k) (reading c.args.plan.now)) c.args.out.now c.if-slots-lt8.r w.call_in_arena-r-in-8-to-14.result c.if-slots-lt8.out w.call_in_arena-r-in-8-to-14.new.out _ w.out-is w.r-is w.call_in_arena-r-in-8-to-14.ensures
-  | in-15-to-42 w ↦ met (after_reading (result_of c.args.k) (reading c.args.plan.now)) c.args.out.now c.if-slots-lt8.r w.call_in_arena-r-in-15-to-42.result c.if-slots-lt8.out w.call_in_arena-r-in-15-to-42.new.out _ w.out-is w.r-is w.call_in_arena-r-in-15-to-42.ensures
-  | in-43-to-84 w ↦ met (after_reading (result_of c.args.k) (reading c.args.plan.now)) c.args.out.now c.if-slots-lt8.r w.call_in_arena-r-in-43-to-84.result c.if-slots-lt8.out w.call_in_arena-r-in-43-to-84.new.out _ w.out-is w.r-is w.call_in_arena-r-in-43-to-84.ensures
-  | in-85-to-126 w ↦ met (after_reading (result_of c.args.k) (reading c.args.plan.now)) c.args.out.now c.if-slots-lt8.r w.call_in_arena-r-in-85-to-126.result c.if-slots-lt8.out w.call_in_arena-r-in-85-to-126.new.out _ w.out-is w.r-is w.call_in_arena-r-in-85-to-126.ensures
-  | in-127-to-129 w ↦ met (after_reading (result_of c.args.k) (reading c.args.plan.now)) c.args.out.now c.if-slots-lt8.r w.call_in_arena-r-in-127-to-129.result c.if-slots-lt8.out w.call_in_arena-r-in-127-to-129.new.out _ w.out-is w.r-is w.call_in_arena-r-in-127-to-129.ensures
-  | in-130-to-254 w ↦ met (after_reading (result_of c.args.k) (reading c.args.plan.now)) c.args.out.now c.if-slots-lt8.r w.call_in_arena-r-in-130-to-254.result c.if-slots-lt8.out w.call_in_arena-r-in-130-to-254.new.out _ w.out-is w.r-is w.call_in_arena-r-in-130-to-254.ensures
-  | in_default w ↦ met (after_reading (result_of c.args.k) (reading c.args.plan.now)) c.args.out.now c.if-slots-lt8.r w.call_in_arena-r-in_default.result c.if-slots-lt8.out w.call_in_arena-r-in_default.new.out _ w.out-is w.r-is w.call_in_arena-r-in_default.ensures
+  | in-0-to-7 w ↦ (met (after_reading (result_of c.args.k) (reading c.args.plan.now)) c.args.out.now c.if-slots-lt8.r w.call_in_arena-r.result c.if-slots-lt8.out w.call_in_arena-r.new.out _ w.out-is w.r-is w.call_in_arena-r.ensures).0
+  | in-8-to-14 w ↦ (met (after_reading (result_of c.args.k) (reading c.args.plan.now)) c.args.out.now c.if-slots-lt8.r w.call_in_arena-r-in-8-to-14.result c.if-slots-lt8.out w.call_in_arena-r-in-8-to-14.new.out _ w.out-is w.r-is w.call_in_arena-r-in-8-to-14.ensures).0
+  | in-15-to-42 w ↦ (met (after_reading (result_of c.args.k) (reading c.args.plan.now)) c.args.out.now c.if-slots-lt8.r w.call_in_arena-r-in-15-to-42.result c.if-slots-lt8.out w.call_in_arena-r-in-15-to-42.new.out _ w.out-is w.r-is w.call_in_arena-r-in-15-to-42.ensures).0
+  | in-43-to-84 w ↦ (met (after_reading (result_of c.args.k) (reading c.args.plan.now)) c.args.out.now c.if-slots-lt8.r w.call_in_arena-r-in-43-to-84.result c.if-slots-lt8.out w.call_in_arena-r-in-43-to-84.new.out _ w.out-is w.r-is w.call_in_arena-r-in-43-to-84.ensures).0
+  | in-85-to-126 w ↦ (met (after_reading (result_of c.args.k) (reading c.args.plan.now)) c.args.out.now c.if-slots-lt8.r w.call_in_arena-r-in-85-to-126.result c.if-slots-lt8.out w.call_in_arena-r-in-85-to-126.new.out _ w.out-is w.r-is w.call_in_arena-r-in-85-to-126.ensures).0
+  | in-127-to-129 w ↦ (met (after_reading (result_of c.args.k) (reading c.args.plan.now)) c.args.out.now c.if-slots-lt8.r w.call_in_arena-r-in-127-to-129.result c.if-slots-lt8.out w.call_in_arena-r-in-127-to-129.new.out _ w.out-is w.r-is w.call_in_arena-r-in-127-to-129.ensures).0
+  | in-130-to-254 w ↦ (met (after_reading (result_of c.args.k) (reading c.args.plan.now)) c.args.out.now c.if-slots-lt8.r w.call_in_arena-r-in-130-to-254.result c.if-slots-lt8.out w.call_in_arena-r-in-130-to-254.new.out _ w.out-is w.r-is w.call_in_arena-r-in-130-to-254.ensures).0
+  | in_default w ↦ (met (after_reading (result_of c.args.k) (reading c.args.plan.now)) c.args.out.now c.if-slots-lt8.r w.call_in_arena-r-in_default.result c.if-slots-lt8.out w.call_in_arena-r-in_default.new.out _ w.out-is w.r-is w.call_in_arena-r-in_default.ensures).0
 ]
 
 pub call_in_largest-requires : goal.call_in_largest-requires

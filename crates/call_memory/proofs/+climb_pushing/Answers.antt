@@ -15,9 +15,9 @@ use Rattle.call_memory.proofs.+climb_pushing.Goals.{Joined-slots-lt8, in-0-to-7,
 -- what the rung answered, and left in the output
 rung : (t : ℕ) (c : Joined-slots-lt8 t) → CalledAs c.if-slots-lt8.r (rewrites pushed c.args.plan.now) c.args.out.now c.if-slots-lt8.out 1
 rung t c = elim c.if-slots-lt8.branch [
-  | in-0-to-7 w ↦ met (rewrites pushed c.args.plan.now) c.args.out.now c.if-slots-lt8.r w.push_in_arenas-r.result c.if-slots-lt8.out w.push_in_arenas-r.new.out _ w.out-is w.r-is w.push_in_arenas-r.ensures
-  | in-8-to-21 w ↦ met (rewrites pushed c.args.plan.now) c.args.out.now c.if-slots-lt8.r w.push_in_arenas-r-in-8-to-21.result c.if-slots-lt8.out w.push_in_arenas-r-in-8-to-21.new.out _ w.out-is w.r-is w.push_in_arenas-r-in-8-to-21.ensures
-  | in_default w ↦ met (rewrites pushed c.args.plan.now) c.args.out.now c.if-slots-lt8.r w.push_in_arenas-r-in_default.result c.if-slots-lt8.out w.push_in_arenas-r-in_default.new.out _ w.out-is w.r-is w.push_in_arenas-r-in_default.ensures
+  | in-0-to-7 w ↦ (met (rewrites pushed c.args.plan.now) c.args.out.now c.if-slots-lt8.r w.push_in_arenas-r.result c.if-slots-lt8.out w.push_in_arenas-r.new.out _ w.out-is w.r-is w.push_in_arenas-r.ensures).0
+  | in-8-to-21 w ↦ (met (rewrites pushed c.args.plan.now) c.args.out.now c.if-slots-lt8.r w.push_in_arenas-r-in-8-to-21.result c.if-slots-lt8.out w.push_in_arenas-r-in-8-to-21.new.out _ w.out-is w.r-is w.push_in_arenas-r-in-8-to-21.ensures).0
+  | in_default w ↦ (met (rewrites pushed c.args.plan.now) c.args.out.now c.if-slots-lt8.r w.push_in_arenas-r-in_default.result c.if-slots-lt8.out w.push_in_arenas-r-in_default.new.out _ w.out-is w.r-is w.push_in_arenas-r-in_default.ensures).0
 ]
 
 pub push_in_largest-requires : goal.push_in_largest-requires

@@ -1,11 +1,15 @@
 use native.Mathlib.Omega.{arith}
-use mathlib.Core.Path.{ap, ◌∙◌}
-use Prim.Native.Nat.{◌-◌}
+use mathlib.Core.Path.{ap, sym, subst, ◌∙◌}
+use Prim.Native.Nat.{ℕ, ◌*◌, ◌-◌}
+use lib.ListN.{length-replicate}
+use Rattle.arena.specs.Arena.{slot_size}
+use Rattle.step_ends.specs.Tidying.{full_slots}
+use Rattle.call_parts.specs.Calls.{CalledAs}
 use Rattle.std.specs.Prelude.{Err}
 use Rattle.plan_codec.specs.Reading.{reading}
 use Rattle.call_answers.specs.Answers.{after_reading}
 use Rattle.plan_calls.specs.Results.{result_of}
-use Rattle.call_rungs.specs.Rungs.{ok_answered, refused_answered, has_room}
+use Rattle.call_rungs.specs.Rungs.{ok_answered, refused_answered, full_done}
 use Rattle.call_rungs.proofs.call_in_largest.Goals as goal
 
 pub call_in_arena-requires : goal.call_in_arena-requires
@@ -21,5 +25,7 @@ returns-in-Err-Refused c = let y = c.call_in_arena in
 
 pub unreachable-requires : goal.unreachable-requires
 unreachable-requires c = let y = c.call_in_arena in
-    has_room y.result (after_reading (result_of c.args.k) (reading c.args.plan.now)) c.args.out.now y.new.out _ y.ensures (omega arith)
+    full_done y.result (after_reading (result_of c.args.k) (reading c.args.plan.now)) c.args.out.now y.new.out (full_slots * slot_size) 148224 (omega arith)
     (c.in-Err-NoRoom.is ∙ ap (λ y. Err y) c.in-Err-NoRoom.field-0-is)
+    (subst (λ n. CalledAs y.result (after_reading (result_of c.args.k) (reading c.args.plan.now)) c.args.out.now y.new.out (full_slots * slot_size - n))
+    (sym (length-replicate {A = ℕ} 148224 0)) y.ensures)
