@@ -17,6 +17,10 @@ take-common (k ∷ p) (l ∷ q) = go (take-common p q) (eq_key k l)
     go ih true = ap (λ m. k ∷ m) ih
     go ih false = refl
 
+-- the first i keys are what is common
+pub shared : (p : Keys) (m : List Key) (i : ℕ) (r : Keys) → Keyed (take i (keys_of p)) r → i ≡ length (common (keys_of p) m) → Keyed (common (keys_of p) m) r
+shared p m i r k e = record { is = k.is ∙ ap (λ n. take n (keys_of p)) e ∙ take-common (keys_of p) m; few = k.few }
+
 -- n keys are passed, which both lists have; of the list k the keys l are left, of the list m the keys r
 pub record Sharing (k : Keys) (m : List Key) (n : ℕ) (l r : List Key) : Type 0 where
   pub is : n + length (common l r) ≡ length (common (keys_of k) m)
@@ -33,20 +37,18 @@ module _ {k : Keys} {m : List Key} {n : ℕ} {l r : List Key} (g : Sharing k m n
       let z : length (common l r) ≡ suc (length (common l' r')) = ap₂ (λ x y. length (common x y)) e f ∙ ap (λ x. length (cond x (key_of a ∷ common l' r') [])) t in
       record { is = omega (arith, g.is, z); room = omega (arith, g.room, ap length e) }
 
-  -- the first n keys are what is common
-  shared : (s : Keys) → length (common l r) ≡ 0 → Keyed (take n (keys_of k)) s → Keyed (common (keys_of k) m) s
-  shared s z h =
-      let e : n ≡ length (common (keys_of k) m) = omega (arith, g.is, z) in
-      record { is = h.is ∙ ap (λ i. take i (keys_of k)) e ∙ take-common (keys_of k) m; few = h.few }
+  -- where no more are common, those passed are all
+  passed : length (common l r) ≡ 0 → n ≡ length (common (keys_of k) m)
+  passed z = omega (arith, g.is, z)
 
   pub share_differ : (a b : ℕ) (l' r' : List Key) (s : Keys) → l ≡ key_of a ∷ l' → r ≡ key_of b ∷ r' → eq_key (key_of a) (key_of b) ≡ false
       → Keyed (take n (keys_of k)) s → Keyed (common (keys_of k) m) s
-  share_differ a b l' r' s e f t =
-      shared s (ap₂ (λ x y. length (common x y)) e f ∙ ap (λ x. length (cond x (key_of a ∷ common l' r') [])) t)
+  share_differ a b l' r' s e f t h =
+      shared k m n s h (passed (ap₂ (λ x y. length (common x y)) e f ∙ ap (λ x. length (cond x (key_of a ∷ common l' r') [])) t))
 
   pub share_all : (s : Keys) → l ≡ [] ⊎ (r ≡ []) → Keyed (take n (keys_of k)) s → Keyed (common (keys_of k) m) s
-  share_all s (inl e) = shared s (ap (λ x. length (common x r)) e)
-  share_all s (inr e) = shared s (ap (λ x. length (common l x)) e ∙ none l)
+  share_all s (inl e) h = shared k m n s h (passed (ap (λ x. length (common x r)) e))
+  share_all s (inr e) h = shared k m n s h (passed (ap (λ x. length (common l x)) e ∙ none l))
     where
       none : (x : List Key) → length (common x []) ≡ 0
       none [] = refl
